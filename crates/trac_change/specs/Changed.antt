@@ -8,7 +8,8 @@ use Rattle.trac_rules.specs.Segmenting.{segmented}
 use Rattle.trac_rules.specs.State.{Held, Storage}
 use Rattle.trac_text.specs.Framing.{texts_of}
 use Rattle.trac_change.specs.declared.change.Change as code
-use Rattle.trac_change.specs.declared.change.Change.TheVariants.{Keep, Put, Cut, Remove, Clear, Point, MoveIn, Bring, Erase}
+use Rattle.trac_change.specs.declared.change.Change.TheVariants.{Keep, Put, Cut, Remove, Clear, Point, MoveIn, Bring}
+use Rattle.trac_change.specs.declared.change.Change.TheVariants.{Erase}
 
 -- the storage where the pointer of a form, if it is there, is set
 abbrev pub pointed : List ℕ → ℕ → Option Form → Storage → Storage
@@ -32,10 +33,12 @@ with_form name form storage = keeping (finite.insert storage.forms name form) st
 abbrev pub changed : {A : Type 0} → List (List ℕ) → code.Change A → Storage → Storage
 changed arguments Keep storage = storage
 changed arguments (Put name form) storage = keeping (finite.insert storage.forms name.items form) storage
-changed arguments (Cut name cut) storage = cut_in name.items (drop 2 arguments) (finite.get storage.forms name.items) storage
+changed arguments (Cut name cut) storage =
+    cut_in name.items (drop 2 arguments) (finite.get storage.forms name.items) storage
 changed arguments (Remove names) storage = keeping (without (texts_of names.items) storage.forms) storage
 changed arguments Clear storage = keeping finite.empty storage
 changed arguments (Point name place) storage = pointed name.items place (finite.get storage.forms name.items) storage
-changed arguments (MoveIn held name address) storage = with_form name.items address (put_aside (texts_of held.items) storage)
+changed arguments (MoveIn held name address) storage =
+    with_form name.items address (put_aside (texts_of held.items) storage)
 changed arguments (Bring number forms) storage = keeping (with_all (named_forms forms.items) storage.forms) storage
 changed arguments (Erase number name) storage = erased number name.items storage

@@ -2,7 +2,8 @@
 use Rattle.trac_rules.specs.Undone as rules
 use Rattle.trac_change.specs.Changed.{named_forms}
 use Rattle.trac_change.specs.declared.undone.Undone as code
-use Rattle.trac_change.specs.declared.undone.Undone.TheVariants.{Nothing, Point, Join, Swap, Restore, MoveOut, Unbring, Unerase}
+use Rattle.trac_change.specs.declared.undone.Undone.TheVariants.{Nothing, Point, Join, Swap, Restore, MoveOut, Unbring}
+use Rattle.trac_change.specs.declared.undone.Undone.TheVariants.{Unerase}
 
 -- what the code keeps of forms and blocks, read as what the rules do
 abbrev pub undone_in : {A : Type 0} → code.Undone A → rules.Undone

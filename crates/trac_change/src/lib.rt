@@ -1,5 +1,6 @@
-//! What a call changes of forms and blocks, as data: what it will change, as it is planned, with the arguments that this names,
-//! and what it destroyed, by which that can be got back.
+//! What a call changes of forms and blocks, as data: what it will change, as it is planned, with the arguments that
+//! this names, and what it destroyed, by which that can be got back. Limits, refusals, what takes memory and what else
+//! T-64 does not name are this project's profile.
 #![tactic(auto)]
 
 pub mod change;

@@ -2,9 +2,9 @@
 use std::alloc::{Allocator, Global};
 use trac_forms::{Block, Cut, Form};
 
-/// What a call destroyed of forms and blocks, by which they can be got back from those that stand there afterwards. What
-/// still stands there is not kept: of forms that went into a block nothing, and of a form whose pointer moved the old
-/// pointer (this project's profile).
+/// What a call destroyed of forms and blocks, by which they can be got back from those that stand there
+/// afterwards. What still stands there is not kept: of forms that went into a block nothing, and of a form whose
+/// pointer moved the old pointer.
 #[derive(Drop)]
 pub enum Undone<A: Allocator + Copy = Global> {
     /// Nothing of forms and blocks was destroyed.

@@ -10,8 +10,8 @@ use std::alloc::Allocator;
 use trac_forms::{Block, Form};
 
 impl<A: Allocator + Copy> Undone<A> {
-    /// What this weighs: items of forms, one for each gap that was made, bytes of names, and one for each name. Old pointers
-    /// and numbers of blocks are not weighed (this project's profile). The sum has to fit a `usize`. It takes time for the
+    /// What this weighs: items of forms, one for each gap that was made, bytes of names, and one for each name.
+    /// Old pointers and numbers of blocks are not weighed. The sum has to fit a `usize`. It takes time for the
     /// forms alone, whatever their length.
     #[inline(always)]
     pub fn weight(&self) -> usize

@@ -1,5 +1,6 @@
 -- The command that a line says.
-use Rattle.std.specs.Prelude.{ℕ, ◌==◌, ◌&&◌, nat_le, List, [], ◌∷◌, length, if◌then◌else◌, Option, None, Some, codes, option_map}
+use Rattle.std.specs.Prelude.{ℕ, ◌==◌, ◌&&◌, nat_le, List, [], ◌∷◌, length, if◌then◌else◌, Option, None, Some, codes}
+use Rattle.std.specs.Prelude.{option_map}
 use Rattle.std.specs.List.{slice_split}
 use Rattle.std.specs.Str.{all_ascii_digits, bytes_eq}
 use Rattle.std.specs.Str.Parse.{digits_value}
@@ -23,8 +24,8 @@ pub data LineCommand : Type 0 where
 
 -- ---- words
 
--- the words of a line, of which any two have exactly one space between them: so two spaces have an empty word between them, and a space
--- at an end of the line has one beside it
+-- the words of a line, of which any two have exactly one space between them: so two spaces have an empty word between
+-- them, and a space at an end of the line has one beside it
 abbrev pub words_of : List ℕ → List (List ℕ)
 words_of line = slice_split (λ b. b == SPACE) line
 

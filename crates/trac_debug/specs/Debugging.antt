@@ -1,5 +1,6 @@
 -- A whole session of the debugger: what is written, and how it ends.
-use Rattle.std.specs.Prelude.{◌≡◌, ℕ, ◌+◌, nat_le, List, [], ◌∷◌, ◌++◌, length, take, if◌then◌else◌, Bool, true, false, Option, None, Some}
+use Rattle.std.specs.Prelude.{◌≡◌, ℕ, ◌+◌, nat_le, List, [], ◌∷◌, ◌++◌, length, take, if◌then◌else◌, Bool, true, false}
+use Rattle.std.specs.Prelude.{Option, None, Some}
 use Rattle.trac_rules.specs.declared.width.Width.{Width}
 use Rattle.trac_rules.specs.declared.limit.TheConstants.{TAPE_LIMIT}
 use Rattle.trac_rules.specs.Session.{PlainSession, new_session}
@@ -27,27 +28,30 @@ turn_of number None = Ends (NotUnderstood number)
 turn_of number (Some Quit) = Ends Ended
 turn_of number (Some command) = Does command
 
--- what becomes of a line of this number, which counts from 1, empty lines too: a line past the limit on their number ends the session,
--- whatever it holds; an empty line is passed over; a line that is too long is not understood
+-- what becomes of a line of this number, which counts from 1, empty lines too: a line past the limit on their number
+-- ends the session, whatever it holds; an empty line is passed over; a line that is too long is not understood
 abbrev pub turn_at : ℕ → List ℕ → Turn
 turn_at number [] = if nat_le number LINE_COUNT_LIMIT then Passes else Ends Budget
-turn_at number (b ∷ bs) =
-    if nat_le number LINE_COUNT_LIMIT then (if is_within (b ∷ bs) then turn_of number (command_of (b ∷ bs)) else Ends (NotUnderstood number)) else
-    Ends Budget
+turn_at number (b ∷ bs) = if nat_le number LINE_COUNT_LIMIT
+    then (if is_within (b ∷ bs) then turn_of number (command_of (b ∷ bs)) else Ends (NotUnderstood number))
+    else Ends Budget
 
 -- ---- all lines
 
--- where the next line comes to this turn, this text in all may be written from this session on, and then the session ends so; `Replied` says
--- how a command may be replied to, and `Rest` the same of the lines after, from the session after the turn
-abbrev pub TakesBy : (LineCommand → PlainSession → List ℕ → PlainSession → Type 0) → Turn → PlainSession → (PlainSession → List ℕ → Type 0) → List ℕ → Ending → Type 0
+-- where the next line comes to this turn, this text in all may be written from this session on, and then the
+-- session ends so; `Replied` says how a command may be replied to, and `Rest` the same of the lines after,
+-- from the session after the turn
+abbrev pub TakesBy : (LineCommand → PlainSession → List ℕ → PlainSession → Type 0) → Turn → PlainSession →
+    (PlainSession → List ℕ → Type 0) → List ℕ → Ending → Type 0
 TakesBy Replied Passes p Rest text ending = Rest p text
-TakesBy Replied (Does command) p Rest text ending =
-    (reply : List ℕ) × (q : PlainSession) × (rest : List ℕ) × Replied command p reply q × (text ≡ reply ++ rest) × Rest q rest
+TakesBy Replied (Does command) p Rest text ending = (reply : List ℕ) × (q : PlainSession) × (rest : List ℕ)
+    × Replied command p reply q × (text ≡ reply ++ rest) × Rest q rest
 TakesBy Replied (Ends stop) p Rest text ending = (text ≡ []) × (ending ≡ stop)
 
--- from this session, where the lines from this number on are these and commands are replied to so, this text may be written, and then the
--- session ends so: at the end of the lines as if asked to
-abbrev pub WritesBy : (LineCommand → PlainSession → List ℕ → PlainSession → Type 0) → List (List ℕ) → ℕ → PlainSession → List ℕ → Ending → Type 0
+-- from this session, where the lines from this number on are these and commands are replied to so, this text may be
+-- written, and then the session ends so: at the end of the lines as if asked to
+abbrev pub WritesBy : (LineCommand → PlainSession → List ℕ → PlainSession → Type 0) → List (List ℕ) → ℕ → PlainSession →
+    List ℕ → Ending → Type 0
 WritesBy Replied [] number p text ending = (text ≡ []) × (ending ≡ Ended)
 WritesBy Replied (line ∷ lines) number p text ending =
     TakesBy Replied (turn_at number line) p (λ q rest. WritesBy Replied lines (number + 1) q rest ending) text ending
@@ -63,7 +67,8 @@ MayWrite lines number p text ending = WritesBy Replies lines number p text endin
 abbrev pub MayFollow : PlainSession → List ℕ → List ℕ → Ending → Type 0
 MayFollow p commands text ending = MayWrite (lines_of commands) 1 p text ending
 
--- from this session on, this text may be written where the first so many of the lines of these commands are all that there are
+-- from this session on, this text may be written where the first so many of the lines of these
+-- commands are all that there are
 abbrev pub FollowsFirst : PlainSession → ℕ → List ℕ → List ℕ → Type 0
 FollowsFirst p count commands text = MayWrite (take count (lines_of commands)) 1 p text Ended
 
@@ -73,24 +78,31 @@ FollowsFirst p count commands text = MayWrite (take count (lines_of commands)) 1
 abbrev pub ready : List ℕ → ℕ → Width → PlainSession
 ready tape limit width = record (new_session limit width) { tape = record { bytes = tape; ended = true } }
 
--- the same over any tape, by whether it is not too long: nothing is written where it is. `Writes` says what is written from a session on
-abbrev pub shown_by : (List (List ℕ) → ℕ → PlainSession → List ℕ → Ending → Type 0) → List ℕ → ℕ → Width → List ℕ → List ℕ → Ending → Bool → Type 0
-shown_by Writes tape limit width commands text ending true = Writes (lines_of commands) 1 (ready tape limit width) text ending
+-- the same over any tape, by whether it is not too long: nothing is written where it is. `Writes` says
+-- what is written from a session on
+abbrev pub shown_by : (List (List ℕ) → ℕ → PlainSession → List ℕ → Ending → Type 0) → List ℕ → ℕ → Width → List ℕ →
+    List ℕ → Ending → Bool → Type 0
+shown_by Writes tape limit width commands text ending true =
+    Writes (lines_of commands) 1 (ready tape limit width) text ending
 shown_by Writes tape limit width commands text ending false = (text ≡ []) × (ending ≡ Limit)
 
 abbrev pub shown_where : List ℕ → ℕ → Width → List ℕ → List ℕ → Ending → Bool → Type 0
-shown_where tape limit width commands text ending within = shown_by MayWrite tape limit width commands text ending within
+shown_where tape limit width commands text ending within =
+    shown_by MayWrite tape limit width commands text ending within
 
--- over this tape, with such a journal, such numbers and these commands, this text may be written, and then the session ends so
+-- over this tape, with such a journal, such numbers and these commands, this text may be written,
+-- and then the session ends so
 abbrev pub MayShow : List ℕ → ℕ → Width → List ℕ → List ℕ → Ending → Type 0
-MayShow tape limit width commands text ending = shown_where tape limit width commands text ending (nat_le (length tape) TAPE_LIMIT)
+MayShow tape limit width commands text ending =
+    shown_where tape limit width commands text ending (nat_le (length tape) TAPE_LIMIT)
 
 -- the same where there is memory for each step: no reply says that memory was refused
 abbrev pub ShowsWithMemory : List ℕ → ℕ → Width → List ℕ → List ℕ → Ending → Type 0
 ShowsWithMemory tape limit width commands text ending =
     shown_by (WritesBy RepliesWithMemory) tape limit width commands text ending (nat_le (length tape) TAPE_LIMIT)
 
--- over this tape, with such a journal and such numbers, this text may be written where the first so many of the lines of these commands are
--- all that there are: each of them is replied to whole
+-- over this tape, with such a journal and such numbers, this text may be written where the first so many of the lines
+-- of these commands are all that there are: each of them is replied to whole
 abbrev pub RepliesToFirst : List ℕ → ℕ → Width → ℕ → List ℕ → List ℕ → Type 0
-RepliesToFirst tape limit width count commands text = MayWrite (take count (lines_of commands)) 1 (ready tape limit width) text Ended
+RepliesToFirst tape limit width count commands text =
+    MayWrite (take count (lines_of commands)) 1 (ready tape limit width) text Ended

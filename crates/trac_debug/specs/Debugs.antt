@@ -29,16 +29,18 @@ abbrev pub UnlessWrite : Ending → Type 0 → Type 0
 UnlessWrite Write Fact = Unit {0}
 UnlessWrite ending Fact = Fact
 
--- a session reads no more bytes of commands than this: as many lines as there may be, each as long as it may be and with what ends it,
--- and then as many as are held at most
+-- a session reads no more bytes of commands than this: as many lines as there may be, each as long as it may be and
+-- with what ends it, and then as many as are held at most
 abbrev pub MOST_READ : ℕ
 MOST_READ = LINE_COUNT_LIMIT * (LINE_LIMIT + 2) + HELD_LIMIT
 
--- a session read some commands, no more than it may, and perhaps saw the end of them, and wrote some bytes: however the commands go on after what was
--- read (not at all where the end was seen), what was written is a front of a text that is stated for all of the commands; where its
--- ending is not a fault or want of memory it is a whole one, with that ending; and unless the writer failed, what was written are whole
--- replies, those to the first so many lines: so a reply for which memory was refused is not written in part
-pub record Debugs (in_old in_new out_old out_new : Option (List ℕ)) (Stated : List ℕ → List ℕ → Ending → Type 0) (ToFirst : ℕ → List ℕ → List ℕ → Type 0) (ending : Ending) : Type 0 where
+-- a session read some commands, no more than it may, and perhaps saw the end of them, and wrote some bytes: however the
+-- commands go on after what was read (not at all where the end was seen), what was written is a front of a text that is
+-- stated for all of the commands; where its ending is not a fault or want of memory it is a whole one, with that
+-- ending; and unless the writer failed, what was written are whole replies, those to the first so many lines: so a
+-- reply for which memory was refused is not written in part
+pub record Debugs (in_old in_new out_old out_new : Option (List ℕ)) (Stated : List ℕ → List ℕ → Ending → Type 0)
+    (ToFirst : ℕ → List ℕ → List ℕ → Type 0) (ending : Ending) : Type 0 where
   pub got : List ℕ
   pub few : length got ≤ MOST_READ
   pub written : List ℕ
@@ -46,15 +48,18 @@ pub record Debugs (in_old in_new out_old out_new : Option (List ℕ)) (Stated : 
   pub took : Consumes in_old in_new got
   pub gave : Appends out_old out_new written
   pub at_end : saw_end ≡ true → IsAtEnd in_new
-  pub front : (more : List ℕ) → (saw_end ≡ true → more ≡ []) → (text : List ℕ) × (stop : Ending) × Stated (got ++ more) text stop × IsFrontOf written text
+  pub front : (more : List ℕ) → (saw_end ≡ true → more ≡ []) →
+      (text : List ℕ) × (stop : Ending) × Stated (got ++ more) text stop × IsFrontOf written text
   pub whole : (more : List ℕ) → (saw_end ≡ true → more ≡ []) → UnlessFault ending (Stated (got ++ more) written ending)
   pub replied : ℕ
   pub few_lines : replied ≤ LINE_COUNT_LIMIT
-  pub replies : (more : List ℕ) → (saw_end ≡ true → more ≡ []) → UnlessWrite ending (ToFirst replied (got ++ more) written)
+  pub replies : (more : List ℕ) → (saw_end ≡ true → more ≡ []) →
+      UnlessWrite ending (ToFirst replied (got ++ more) written)
 
--- a session, of which what it did is counted: so many lines were done with, of which no more was read than they and what is held may have,
--- and just so often
-pub record DebugsBy (in_old in_new out_old out_new : Option (List ℕ)) (Stated : List ℕ → List ℕ → Ending → Type 0) (ToFirst : ℕ → List ℕ → List ℕ → Type 0) (lines reads : ℕ) (ending : Ending) : Type 0 where
+-- a session, of which what it did is counted: so many lines were done with, of which no more was read than they and
+-- what is held may have, and just so often
+pub record DebugsBy (in_old in_new out_old out_new : Option (List ℕ)) (Stated : List ℕ → List ℕ → Ending → Type 0)
+    (ToFirst : ℕ → List ℕ → List ℕ → Type 0) (lines reads : ℕ) (ending : Ending) : Type 0 where
   pub debugs : Debugs in_old in_new out_old out_new Stated ToFirst ending
   pub done_with : debugs.replied ≡ lines
   pub few : length debugs.got ≤ lines * (LINE_LIMIT + 2) + HELD_LIMIT
@@ -74,7 +79,8 @@ pub record IsReplied (command : LineCommand) (old new : PlainSession) (out_old o
   pub gave : Appends out_old out_new reply
 
 -- a reply could not be made, and nothing was written; or it could not be written: then a front of it was
-pub record IsNotReplied (command : LineCommand) (old : PlainSession) (out_old out_new : Option (List ℕ)) (ending : Ending) : Type 0 where
+pub record IsNotReplied
+    (command : LineCommand) (old : PlainSession) (out_old out_new : Option (List ℕ)) (ending : Ending) : Type 0 where
   pub written : List ℕ
   pub fault : ((ending ≡ Memory) × (written ≡ [])) ⊎ (ending ≡ Write)
   pub gave : Appends out_old out_new written
@@ -95,9 +101,10 @@ Stops Passes old out_old out_new ending = ⊥
 Stops (Does command) old out_old out_new ending = IsNotReplied command old out_old out_new ending
 Stops (Ends stop) old out_old out_new ending = (ending ≡ stop) × Keeps out_old out_new
 
--- a line stands at the front of the text, whatever comes after it, and is taken with what ends it; and what may be written from the next line on, after what was
--- written, may be written from the line of this number on
-pub record Advances (in_old in_new out_old out_new : Option (List ℕ)) (reads_old reads_new number : ℕ) (lines_old : Pending) (p : PlainSession) (lines_new : Pending) (q : PlainSession) : Type 0 where
+-- a line stands at the front of the text, whatever comes after it, and is taken with what ends it; and what may be
+-- written from the next line on, after what was written, may be written from the line of this number on
+pub record Advances (in_old in_new out_old out_new : Option (List ℕ)) (reads_old reads_new number : ℕ)
+    (lines_old : Pending) (p : PlainSession) (lines_new : Pending) (q : PlainSession) : Type 0 where
   pub got : List ℕ
   pub written : List ℕ
   pub took : Consumes in_old in_new got
@@ -105,17 +112,20 @@ pub record Advances (in_old in_new out_old out_new : Option (List ℕ)) (reads_o
   pub closed : lines_old.ended ≡ true → (got ≡ []) × (lines_new.ended ≡ true)
   pub at_end : lines_new.ended ≡ true → IsAtEnd in_new
   pub line : List ℕ
-  pub splits : (more : List ℕ) → (lines_new.ended ≡ true → more ≡ []) → lines_of (lines_old.bytes ++ (got ++ more)) ≡ line ∷ lines_of (lines_new.bytes ++ more)
-  pub rest : (lines : List (List ℕ)) → (text : List ℕ) → (stop : Ending) → MayWrite lines (number + 1) q text stop → MayWrite (line ∷ lines) number p (written ++ text) stop
+  pub splits : (more : List ℕ) → (lines_new.ended ≡ true → more ≡ []) →
+      lines_of (lines_old.bytes ++ (got ++ more)) ≡ line ∷ lines_of (lines_new.bytes ++ more)
+  pub rest : (lines : List (List ℕ)) → (text : List ℕ) → (stop : Ending) → MayWrite lines (number + 1) q text stop →
+      MayWrite (line ∷ lines) number p (written ++ text) stop
   pub few : length lines_old.bytes + length got ≤ length lines_new.bytes + (LINE_LIMIT + 2)
   pub held : length lines_old.bytes ≤ HELD_LIMIT → length lines_new.bytes ≤ HELD_LIMIT
   pub full : ℕ
   pub came : CameBy full got
   pub counted : reads_new + end_reads lines_old.ended ≡ reads_old + full + end_reads lines_new.ended
 
--- the session ends: a front was written of what may be written from the line of this number on, or, without a fault, the whole; and
--- nothing, unless the writer failed
-pub record Halts (in_old in_new out_old out_new : Option (List ℕ)) (reads_old reads_new number : ℕ) (lines_old : Pending) (p : PlainSession) (ending : Ending) : Type 0 where
+-- the session ends: a front was written of what may be written from the line of this number on, or, without a fault,
+-- the whole; and nothing, unless the writer failed
+pub record Halts (in_old in_new out_old out_new : Option (List ℕ)) (reads_old reads_new number : ℕ)
+    (lines_old : Pending) (p : PlainSession) (ending : Ending) : Type 0 where
   pub got : List ℕ
   pub written : List ℕ
   pub saw_end : Bool
@@ -123,8 +133,10 @@ pub record Halts (in_old in_new out_old out_new : Option (List ℕ)) (reads_old 
   pub gave : Appends out_old out_new written
   pub closed : lines_old.ended ≡ true → (got ≡ []) × (saw_end ≡ true)
   pub at_end : saw_end ≡ true → IsAtEnd in_new
-  pub front : (more : List ℕ) → (saw_end ≡ true → more ≡ []) → (text : List ℕ) × (stop : Ending) × MayWrite (lines_of (lines_old.bytes ++ (got ++ more))) number p text stop × IsFrontOf written text
-  pub whole : (more : List ℕ) → (saw_end ≡ true → more ≡ []) → UnlessFault ending (MayWrite (lines_of (lines_old.bytes ++ (got ++ more))) number p written ending)
+  pub front : (more : List ℕ) → (saw_end ≡ true → more ≡ []) → (text : List ℕ) × (stop : Ending)
+      × MayWrite (lines_of (lines_old.bytes ++ (got ++ more))) number p text stop × IsFrontOf written text
+  pub whole : (more : List ℕ) → (saw_end ≡ true → more ≡ []) →
+      UnlessFault ending (MayWrite (lines_of (lines_old.bytes ++ (got ++ more))) number p written ending)
   pub nothing : UnlessWrite ending (written ≡ [])
   pub held : length lines_old.bytes ≤ HELD_LIMIT → length lines_old.bytes + length got ≤ HELD_LIMIT
   pub full : ℕ

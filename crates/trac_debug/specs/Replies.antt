@@ -32,31 +32,39 @@ walk_line word steps why = word ++ (codes " " ++ (decimal steps ++ (reason why +
 
 -- some walk is replied so: by a word, how many steps it took and why no more
 abbrev pub ShowsWalk : (ℕ → Option Refusal → Type 0) → List ℕ → List ℕ → Type 0
-ShowsWalk Walked word reply = (steps : ℕ) × (why : Option Refusal) × Walked steps why × (reply ≡ walk_line word steps why)
+ShowsWalk Walked word reply =
+    (steps : ℕ) × (why : Option Refusal) × Walked steps why × (reply ≡ walk_line word steps why)
 
 -- ---- commands
 
--- to this command there may be this reply, and then the session is `new`: there is one reply, but that a step forward may be refused
--- for memory
+-- to this command there may be this reply, and then the session is `new`: there is one reply, but that a step
+-- forward may be refused for memory
 abbrev pub Replies : LineCommand → PlainSession → List ℕ → PlainSession → Type 0
-Replies (Forward n) old reply new = ShowsWalk (λ steps why. IsWalk session.Step no_goal n old steps why new) (codes "forward") reply
-Replies (Back n) old reply new = ShowsWalk (λ steps why. IsWalk session.Back no_goal n old steps why new) (codes "back") reply
-Replies (Until name n) old reply new = ShowsWalk (λ steps why. IsSearch session.Step (is_call_of name) n old steps why new) (codes "until") reply
+Replies (Forward n) old reply new =
+    ShowsWalk (λ steps why. IsWalk session.Step no_goal n old steps why new) (codes "forward") reply
+Replies (Back n) old reply new =
+    ShowsWalk (λ steps why. IsWalk session.Back no_goal n old steps why new) (codes "back") reply
+Replies (Until name n) old reply new =
+    ShowsWalk (λ steps why. IsSearch session.Step (is_call_of name) n old steps why new) (codes "until") reply
 -- by as many steps as there are, and one at least, so that without any it is `AtStart`
 Replies (Return name) old reply new =
-    ShowsWalk (λ steps why. IsSearch session.Back (is_call_of name) (max 1 (length old.earlier)) old steps why new) (codes "return") reply
+    ShowsWalk (λ steps why. IsSearch session.Back (is_call_of name) (max 1 (length old.earlier)) old steps why new)
+    (codes "return") reply
 Replies Print old reply new = (reply ≡ state_text old) × (new ≡ old)
 -- what was pending at the first state that stays is shown, and released
-Replies (Commit keep) old reply new = (reply ≡ text_line (codes "commit") (first_kept keep old).output) × (answer (session.Commit keep) old ≡ done new)
+Replies (Commit keep) old reply new =
+    (reply ≡ text_line (codes "commit") (first_kept keep old).output) × (answer (session.Commit keep) old ≡ done new)
 -- it is never replied to: the session ends
 Replies Quit old reply new = (reply ≡ []) × (new ≡ old)
 
 -- the same where there is memory for each step: then a walk says of no step that memory was refused for it
 abbrev pub RepliesWithMemory : LineCommand → PlainSession → List ℕ → PlainSession → Type 0
 RepliesWithMemory (Forward n) old reply new =
-    ShowsWalk (λ steps why. IsWalk session.Step no_goal n old steps why new × (why ≡ Some refusals.Memory → ⊥)) (codes "forward") reply
-RepliesWithMemory (Until name n) old reply new =
-    ShowsWalk (λ steps why. IsSearch session.Step (is_call_of name) n old steps why new × (why ≡ Some refusals.Memory → ⊥)) (codes "until") reply
+    ShowsWalk (λ steps why. IsWalk session.Step no_goal n old steps why new × (why ≡ Some refusals.Memory → ⊥))
+    (codes "forward") reply
+RepliesWithMemory (Until name n) old reply new = ShowsWalk
+    (λ steps why. IsSearch session.Step (is_call_of name) n old steps why new × (why ≡ Some refusals.Memory → ⊥))
+    (codes "until") reply
 RepliesWithMemory command old reply new = Replies command old reply new
 
 -- a reply says that memory was refused for a step
@@ -65,10 +73,11 @@ SaysMemory reply = (word : List ℕ) × (steps : ℕ) × (reply ≡ walk_line wo
 
 -- somewhere in a text stands what such a reply says
 abbrev pub HasMemoryReply : List ℕ → Type 0
-HasMemoryReply text = (before : List ℕ) × (reply : List ℕ) × (after : List ℕ) × SaysMemory reply × (text ≡ before ++ (reply ++ after))
+HasMemoryReply text =
+    (before : List ℕ) × (reply : List ℕ) × (after : List ℕ) × SaysMemory reply × (text ≡ before ++ (reply ++ after))
 
--- what stands where memory is refused for the reply to this command: it is carried out, and there is a reply to that; but nothing is
--- committed
+-- what stands where memory is refused for the reply to this command: it is carried out, and there is a reply to
+-- that; but nothing is committed
 abbrev pub StandsUnreplied : LineCommand → PlainSession → PlainSession → Type 0
 StandsUnreplied (Commit keep) old new = new ≡ old
 StandsUnreplied command old new = (reply : List ℕ) × Replies command old reply new

@@ -9,7 +9,7 @@ use trac_streams::place_of;
 /// What stands between two words of a line.
 pub const SPACE: u8 = b' ';
 
-/// A count has at most so many digits (this project's profile).
+/// A count has at most so many digits.
 pub const DIGIT_LIMIT: usize = 9;
 
 /// What the debugger is told to do.
@@ -31,8 +31,8 @@ pub enum LineCommand<'a> {
     Quit,
 }
 
-/// The command that a line says, without what ends it; none where it is not understood. Words are separated by exactly one
-/// space (this project's profile). It takes no memory.
+/// The command that a line says, without what ends it; none where it is not understood. Words are separated by exactly
+/// one space. It takes no memory.
 pub fn command_in(line: &[u8]) -> Option<LineCommand<'_>>
     ensures { option_map command_seen result ≡ command_of line.now }
 {

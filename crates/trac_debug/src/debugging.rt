@@ -3,7 +3,8 @@ ghost use Rattle.std.specs.Prelude.{◌≡◌, ◌+◌, ◌<◌, ◌≤◌, ℕ,
 ghost use Rattle.std.specs.Io.KnownBytes.{IsAtEnd};
 ghost use Rattle.trac_rules.specs.Session.{PlainSession};
 ghost use Rattle.trac_debug.specs.Debugging.{FollowsFirst, MayFollow, MayShow, RepliesToFirst, turn_at, turn_of};
-ghost use Rattle.trac_debug.specs.Debugs.{Advances, Debugs, DebugsBy, Halts, MOST_READ, IsReady, IsReplied, IsNotReplied, Settles, Stops};
+ghost use Rattle.trac_debug.specs.Debugs.{Advances, Debugs, DebugsBy, Halts, MOST_READ, IsReady, IsReplied};
+ghost use Rattle.trac_debug.specs.Debugs.{IsNotReplied, Settles, Stops};
 ghost use Rattle.trac_debug.specs.Views.{command_seen};
 ghost use Rattle.trac_streams.specs.Tape.{MayRefuseTape};
 
@@ -34,11 +35,11 @@ pub struct DebugReport {
 /// carries each of them out, and writes the reply to it, which is flushed before more is read. The commands are read by
 /// at most 4,096 bytes at a time.
 ///
-/// The session ends with `Ended` at the end of the commands, and where it is asked to; with `NotUnderstood` at a line that
-/// says no command; with `Budget` where there is a line after the first 1,048,576; with `Limit`, and nothing written, where
-/// the tape has more than 33,554,432 bytes; with `Read` and `Write` where the reader or the writer fails; and with `Memory`
-/// where there is no memory for the session, for a line or for a reply, of which nothing is written then. A walk for which
-/// memory was refused is replied to as any other (this project's profile).
+/// The session ends with `Ended` at the end of the commands, and where it is asked to; with `NotUnderstood` at a line
+/// that says no command; with `Budget` where there is a line after the first 1,048,576; with `Limit`, and nothing
+/// written, where the tape has more than 33,554,432 bytes; with `Read` and `Write` where the reader or the writer
+/// fails; and with `Memory` where there is no memory for the session, for a line or for a reply, of which nothing is
+/// written then. A walk for which memory was refused is replied to as any other.
 pub fn debug<R: Read, W: Write, A: Allocator + Copy>(
     alloc: A,
     tape: &[u8],
@@ -48,8 +49,9 @@ pub fn debug<R: Read, W: Write, A: Allocator + Copy>(
 ) -> Ending
     requires some_records { 1 ≤ options.journal }
     requires most_records { options.journal ≤ JOURNAL_LIMIT }
-    ensures debugs { Debugs (R.remaining commands.old) (R.remaining commands.new) (W.contents output.old) (W.contents output.new)
-        (MayShow tape.now options.journal options.decimals) (RepliesToFirst tape.now options.journal options.decimals) result }
+    ensures debugs { Debugs (R.remaining commands.old) (R.remaining commands.new)
+        (W.contents output.old) (W.contents output.new) (MayShow tape.now options.journal options.decimals)
+        (RepliesToFirst tape.now options.journal options.decimals) result }
     ensures too_long { TAPE_LIMIT < length tape.now → result ≡ Ending.Limit }
 {
     let mut session = match session_over(alloc, tape, options.journal, options.decimals) {
@@ -59,15 +61,17 @@ pub fn debug<R: Read, W: Write, A: Allocator + Copy>(
     debug_session(alloc, &mut session, commands, output).ending
 }
 
-/// Takes the lines of the commands, as `debug` does, from the session as it stands, and counts what it does: there are at most
-/// 1,048,576 lines. Each read but the last gave a byte at least, and so did the last, unless it saw the end or failed.
+/// Takes the lines of the commands, as `debug` does, from the session as it stands, and counts what it does:
+/// there are at most 1,048,576 lines. Each read but the last gave a byte at least, and so did the last,
+/// unless it saw the end or failed.
 pub fn debug_session<R: Read, W: Write, A: Allocator + Copy>(
     alloc: A,
     session: &mut Session<A>,
     commands: &mut R,
     output: &mut W,
 ) -> DebugReport
-    ensures debugs { DebugsBy (R.remaining commands.old) (R.remaining commands.new) (W.contents output.old) (W.contents output.new)
+    ensures debugs { DebugsBy (R.remaining commands.old)
+        (R.remaining commands.new) (W.contents output.old) (W.contents output.new)
         (MayFollow session.old) (FollowsFirst session.old) result.lines result.reads result.ending }
     ensures few_lines { result.lines ≤ LINE_COUNT_LIMIT }
     ensures few_reads { result.reads ≤ MOST_READ + 1 }
@@ -102,7 +106,8 @@ fn last_ending<R: Read, A: Allocator + Copy>(
     requires at_end { lines.old.ended ≡ true → IsAtEnd (R.remaining commands.old) }
     requires few_reads { reads.old ≤ READ_COUNT_LIMIT }
     ensures { (number : ℕ) → (output : Option (List ℕ)) → (p : PlainSession) → LINE_COUNT_LIMIT < number →
-        Halts (R.remaining commands.old) (R.remaining commands.new) output output reads.old reads.new number lines.old p result }
+        Halts (R.remaining commands.old) (R.remaining commands.new) output output reads.old reads.new number
+        lines.old p result }
 {
     match lines.has_more(commands, reads) {
         Ok(true) => Ending::Budget,
@@ -149,10 +154,10 @@ fn take_line<R: Read, W: Write, A: Allocator + Copy>(
     requires few { number ≤ LINE_COUNT_LIMIT }
     requires at_end { lines.old.ended ≡ true → IsAtEnd (R.remaining commands.old) }
     requires few_reads { reads.old ≤ READ_COUNT_LIMIT }
-    ensures ok { OnOk result (Advances (R.remaining commands.old) (R.remaining commands.new) (W.contents output.old) (W.contents output.new)
-        reads.old reads.new number lines.old session.old lines.new session.new) }
-    ensures err { IfErr result (Halts (R.remaining commands.old) (R.remaining commands.new) (W.contents output.old) (W.contents output.new)
-        reads.old reads.new number lines.old session.old) }
+    ensures ok { OnOk result (Advances (R.remaining commands.old) (R.remaining commands.new) (W.contents output.old)
+        (W.contents output.new) reads.old reads.new number lines.old session.old lines.new session.new) }
+    ensures err { IfErr result (Halts (R.remaining commands.old) (R.remaining commands.new) (W.contents output.old)
+        (W.contents output.new) reads.old reads.new number lines.old session.old) }
 {
     match lines.seek_counted(commands, reads)? {
         NextLine::End => Err(Ending::Ended),
@@ -179,8 +184,10 @@ fn carry_out<W: Write, A: Allocator + Copy>(
 ) -> Result<(), Ending>
     requires few { number ≤ LINE_COUNT_LIMIT }
     requires short { length line.now ≤ LINE_LIMIT }
-    ensures ok { OnOk result (Settles (turn_at number line.now) session.old session.new (W.contents output.old) (W.contents output.new)) }
-    ensures err { IfErr result (Stops (turn_at number line.now) session.old (W.contents output.old) (W.contents output.new)) }
+    ensures ok { OnOk result
+        (Settles (turn_at number line.now) session.old session.new (W.contents output.old) (W.contents output.new)) }
+    ensures err { IfErr result
+        (Stops (turn_at number line.now) session.old (W.contents output.old) (W.contents output.new)) }
 {
     if line.is_empty() {
         return Ok(());
@@ -201,8 +208,10 @@ fn reply<W: Write, A: Allocator + Copy>(
     command: LineCommand<'_>,
     output: &mut W,
 ) -> Result<(), Ending>
-    ensures ok { OnOk result (IsReplied (command_seen command.entry) session.old session.new (W.contents output.old) (W.contents output.new)) }
-    ensures err { IfErr result (IsNotReplied (command_seen command.entry) session.old (W.contents output.old) (W.contents output.new)) }
+    ensures ok { OnOk result (IsReplied (command_seen command.entry) session.old session.new (W.contents output.old)
+        (W.contents output.new)) }
+    ensures err { IfErr result
+        (IsNotReplied (command_seen command.entry) session.old (W.contents output.old) (W.contents output.new)) }
 {
     let Ok(reply) = reply_to(alloc, session, command) else {
         return Err(Ending::Memory);

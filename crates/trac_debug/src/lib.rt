@@ -1,4 +1,5 @@
-//! The debugger: commands, one a line, to a session that walks forwards and backwards, and the replies to them.
+//! The debugger: commands, one a line, to a session that walks forwards and backwards, and the replies to them. All
+//! of it is this project's profile.
 #![tactic(auto)]
 
 mod command;

@@ -7,18 +7,20 @@ ghost use Rattle.trac_debug.specs.Commands.{LineCommand};
 ghost use Rattle.trac_debug.specs.Debugging.{MayShow, ShowsWithMemory};
 ghost use Rattle.trac_debug.specs.Replies.{HasMemoryReply, Replies, RepliesWithMemory, SaysMemory};
 
-/// Over each tape and with each text of commands there is just one text, with one ending, in which no reply says that memory
-/// was refused. It is one of those that `debug` may write; each other reply that there may be does say so, and each other text
-/// has somewhere what such a reply says.
+/// Over each tape and with each text of commands there is just one text, with one ending, in which no reply says that
+/// memory was refused. It is one of those that `debug` may write; each other reply that there may be does say so, and
+/// each other text has somewhere what such a reply says.
 pub fn one_text_has_no_refused_memory()
     ensures there { (tape : List ℕ) (limit : ℕ) (width : Width) (commands : List ℕ) →
         (text : List ℕ) × (stop : Ending) × ShowsWithMemory tape limit width commands text stop }
     ensures one { (tape : List ℕ) (limit : ℕ) (width : Width) (commands text other : List ℕ) (stop last : Ending) →
-        ShowsWithMemory tape limit width commands text stop → ShowsWithMemory tape limit width commands other last → (text ≡ other) × (stop ≡ last) }
+        ShowsWithMemory tape limit width commands text stop → ShowsWithMemory tape limit width commands other last →
+        (text ≡ other) × (stop ≡ last) }
     ensures among { (tape : List ℕ) (limit : ℕ) (width : Width) (commands text : List ℕ) (stop : Ending) →
         ShowsWithMemory tape limit width commands text stop → MayShow tape limit width commands text stop }
-    ensures else_said { (command : LineCommand) (old new : PlainSession) (reply : List ℕ) → Replies command old reply new →
-        RepliesWithMemory command old reply new ⊎ SaysMemory reply }
-    ensures else_has { (tape : List ℕ) (limit : ℕ) (width : Width) (commands text : List ℕ) (stop : Ending) → MayShow tape limit width commands text stop →
+    ensures else_said { (command : LineCommand) (old new : PlainSession) (reply : List ℕ) →
+        Replies command old reply new → RepliesWithMemory command old reply new ⊎ SaysMemory reply }
+    ensures else_has { (tape : List ℕ) (limit : ℕ) (width : Width) (commands text : List ℕ) (stop : Ending) →
+        MayShow tape limit width commands text stop →
         ShowsWithMemory tape limit width commands text stop ⊎ HasMemoryReply text }
 {}

@@ -14,8 +14,8 @@ use trac_show::machine_lines;
 use trac_streams::{number_into, text_line_into};
 
 /// Carries out a command, and gives the reply to it, which is exact: a word, how many steps were taken, and why no more
-/// were; or what was released; or the state (this project's profile). To `Quit` nothing is replied. The error is that memory
-/// was refused for the reply: the command is carried out then, but for `Commit`, which changes nothing.
+/// were; or what was released; or the state. To `Quit` nothing is replied. The error is that memory was refused for the
+/// reply: the command is carried out then, but for `Commit`, which changes nothing.
 pub fn reply_to<A: Allocator + Copy>(
     alloc: A,
     session: &mut Session<A>,
@@ -35,8 +35,7 @@ pub fn reply_to<A: Allocator + Copy>(
     }
 }
 
-/// All parts of a session's last state and how many records it has, as lines (this project's profile).
-/// The error is that memory was refused.
+/// All parts of a session's last state and how many records it has, as lines. The error is that memory was refused.
 pub fn state_lines<A: Allocator + Copy>(
     alloc: A,
     session: &Session<A>,
@@ -46,7 +45,8 @@ pub fn state_lines<A: Allocator + Copy>(
     machine_lines(alloc, session.machine(), session.len())
 }
 
-// Keeps so many steps, and shows what was released, as a line. Nothing is committed where memory is refused for the line.
+// Keeps so many steps, and shows what was released, as a line. Nothing is committed where memory is
+// refused for the line.
 fn commit_reply<A: Allocator + Copy>(
     alloc: A,
     session: &mut Session<A>,

@@ -46,3 +46,9 @@ failed_takes a b old new e h = record { got = h.kept ++ h.lost; took = h.took }
 
 pub failed_stops : (a b : Option (List ℕ)) (old new : Pending) (e : Ending) → MayFail a b old new e → IsStop e
 failed_stops a b old new e h = ⊎_elim (λ (is : e ≡ Memory). subst IsStop (sym is) tt) (λ (is : (e ≡ Read) × (h.lost ≡ [])). subst IsStop (sym is.0) tt) h.fault
+
+-- what the goals of `converse` use
+pub ruleset for_converse = (takes_none, gives_none, takes_both, gives_both)
+
+-- what the goals of `take_line` use
+pub ruleset for_take_line = (seek_takes, failed_takes, failed_stops, fault_stops, faults_stop, takes_none, gives_both)

@@ -2,7 +2,8 @@
 use Rattle.std.specs.Prelude.{◌≡◌, ◌⊎◌, ℕ, List, Option}
 use Rattle.std.specs.Io.KnownBytes.{Appends, Consumes}
 use Rattle.trac_streams.specs.declared.ending.Ending.{Ending}
-use Rattle.trac_streams.specs.declared.ending.Ending.TheVariants.{Ended, Budget, Limit, Memory, Read, Write, NotUnderstood}
+use Rattle.trac_streams.specs.declared.ending.Ending.TheVariants.{Ended, Budget, Limit, Memory, Read, Write}
+use Rattle.trac_streams.specs.declared.ending.Ending.TheVariants.{NotUnderstood}
 
 -- some bytes were read, from the front of what there is
 pub record Takes (old new : Option (List ℕ)) : Type 0 where
@@ -18,8 +19,8 @@ pub record Gives (old new : Option (List ℕ)) : Type 0 where
 abbrev pub IsFault : Ending → Type 0
 IsFault ending = (ending ≡ Memory) ⊎ (ending ≡ Write)
 
--- how a dialogue may end that was begun: not for a line that is not understood, nor for a limit. This says which endings
--- there are, and not when they come
+-- how a dialogue may end that was begun: not for a line that is not understood, nor for a limit. This says which
+-- endings there are, and not when they come
 abbrev pub IsStop : Ending → Type 0
 IsStop Ended = Unit {0}
 IsStop Budget = Unit {0}

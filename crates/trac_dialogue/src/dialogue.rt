@@ -14,8 +14,8 @@ pub trait Replier<A: Allocator + Copy> {
     /// The number that stands in the prompt before the next line.
     fn number(&self) -> u64;
 
-    /// Does what a line asks for, and puts what is to be said of it at the end of a text; whether the dialogue goes on. The
-    /// error is that memory was refused.
+    /// Does what a line asks for, and puts what is to be said of it at the end of a text; whether the dialogue goes on.
+    /// The error is that memory was refused.
     fn reply_into(
         &mut self,
         alloc: A,
@@ -32,14 +32,14 @@ struct Taking {
     passing: bool,
 }
 
-/// Reads lines, and writes the reply to each, which is flushed before more is read. A line of more than 4,096 bytes is said
-/// not to be understood, and nobody is asked (this project's profile). Before each line the replier's number is written
-/// where a prompt is wanted.
+/// Reads lines, and writes the reply to each, which is flushed before more is read. A line of more than
+/// 4,096 bytes is said not to be understood, and nobody is asked. Before each line the replier's number is
+/// written where a prompt is wanted.
 ///
-/// It ends with `Ended` at the end of the lines, and where the replier ends it; with `Read` and `Write` where the reader or
-/// the writer fails; with `Memory` where there is no memory for a line or for what is to be written; and with `Budget` after
-/// as many lines as a number of 64 bits counts.
-#[tactic(auto, using(crate::proofs::Talked::takes_none, crate::proofs::Talked::gives_none, crate::proofs::Talked::takes_both, crate::proofs::Talked::gives_both))]
+/// It ends with `Ended` at the end of the lines, and where the replier ends it; with `Read` and `Write` where the
+/// reader or the writer fails; with `Memory` where there is no memory for a line or for what is to be written; and with
+/// `Budget` after as many lines as a number of 64 bits counts.
+#[tactic(auto, using(crate::proofs::Talked::for_converse))]
 pub fn converse<R: Read, W: Write, A: Allocator + Copy, T: Replier<A>>(
     alloc: A,
     replier: &mut T,
@@ -66,7 +66,7 @@ pub fn converse<R: Read, W: Write, A: Allocator + Copy, T: Replier<A>>(
 }
 
 // Takes a line, or as much as is read of one that is too long.
-#[tactic(auto, using(crate::proofs::Talked::seek_takes, crate::proofs::Talked::failed_takes, crate::proofs::Talked::failed_stops, crate::proofs::Talked::fault_stops, crate::proofs::Talked::faults_stop, crate::proofs::Talked::takes_none, crate::proofs::Talked::gives_both))]
+#[tactic(auto, using(crate::proofs::Talked::for_take_line))]
 fn take_line<R: Read, W: Write, A: Allocator + Copy, T: Replier<A>>(
     alloc: A,
     replier: &mut T,
@@ -155,7 +155,8 @@ fn prompt<A: Allocator + Copy>(alloc: A, number: u64) -> Result<Vec<u8, A>, Allo
     Ok(text)
 }
 
-// Does what a line asks for, and writes what is to be said of it. The rest of a line that was too long asks for nothing.
+// Does what a line asks for, and writes what is to be said of it. The rest of a line that was too
+// long asks for nothing.
 #[tactic(auto, using(crate::proofs::Talked::faults_stop, crate::proofs::Talked::gives_none))]
 fn answer<W: Write, A: Allocator + Copy, T: Replier<A>>(
     alloc: A,
@@ -178,8 +179,8 @@ fn answer<W: Write, A: Allocator + Copy, T: Replier<A>>(
     }
 }
 
-// What is to be said of a line, once what it asks for is done; none where it asks for the end. The error is that memory was
-// refused.
+// What is to be said of a line, once what it asks for is done; none where it asks for the end. The
+// error is that memory was refused.
 fn reply_to<A: Allocator + Copy, T: Replier<A>>(
     alloc: A,
     replier: &mut T,

@@ -28,7 +28,8 @@ pub(crate) fn is_address<A: Allocator + Copy>(form: &Form<A>, store: &Store<A>) 
 
 // The bytes of a form on both sides of its pointer, its gaps left out; none where these are too many for a number.
 fn short_text<A: Allocator + Copy>(form: &Form<A>) -> Option<ArrayVec<u8, DIGITS>>
-    ensures { MatchOption result (DIGITS < length (bytes_in (all_items form.now))) (λ text. text.items ≡ bytes_in (all_items form.now)) }
+    ensures { MatchOption result (DIGITS < length (bytes_in (all_items form.now)))
+        (λ text. text.items ≡ bytes_in (all_items form.now)) }
 {
     let mut text = ArrayVec::new();
     for place in 0..form.len() {
@@ -40,8 +41,8 @@ fn short_text<A: Allocator + Copy>(form: &Form<A>) -> Option<ArrayVec<u8, DIGITS
     Some(text)
 }
 
-// Puts the byte of an item, if there is one, at the end of a text, and answers whether there was room for it; a gap takes
-// none.
+// Puts the byte of an item, if there is one, at the end of a text, and answers whether there was
+// room for it; a gap takes none.
 fn add_byte(item: Option<Item>, text: &mut ArrayVec<u8, DIGITS>) -> bool
     ensures added { result ≡ true → text.new.items ≡ text.old.items ++ bytes_in (option_to_list item) }
     ensures full { result ≡ false → DIGITS < length (text.old.items ++ bytes_in (option_to_list item)) }
@@ -55,7 +56,8 @@ fn add_byte(item: Option<Item>, text: &mut ArrayVec<u8, DIGITS>) -> bool
 
 // Whether this text is the number of a live block in decimal.
 fn is_live<A: Allocator + Copy>(text: &[u8], store: &Store<A>) -> bool
-    ensures { (form : Divided) → bytes_in (all_items form) ≡ text.now → result ≡ is_some (number_addressed form store.now.blocks) }
+    ensures { (form : Divided) → bytes_in (all_items form) ≡ text.now →
+        result ≡ is_some (number_addressed form store.now.blocks) }
 {
     let _count = store.block_count();
     // Whatever the width of the program's numbers, the number of a block fits 64 bits.

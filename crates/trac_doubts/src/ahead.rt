@@ -33,8 +33,7 @@ pub struct Ahead<'a, A: Allocator + Copy = Global> {
 }
 
 impl<'a, A: Allocator + Copy> Ahead<'a, A> {
-    /// Whether there is a doubt: the step does something that a person is unlikely to have meant (this project's profile).
-    /// It takes no memory.
+    /// Whether there is a doubt: the step does something that a person is unlikely to have meant. It takes no memory.
     pub fn is_doubtful(&self) -> bool
         ensures { result ≡ nat_lt 0 (length (doubts_ahead self.now)) }
     {
@@ -45,8 +44,8 @@ impl<'a, A: Allocator + Copy> Ahead<'a, A> {
         in_call || scanning_doubt(self.active, self.depth).is_some()
     }
 
-    /// Puts all doubts at the end of `out`, in the order in which they are defined (this project's profile).
-    /// Refused with `Memory` where the allocator of `out` refuses.
+    /// Puts all doubts at the end of `out`, in the order in which they are defined. Refused with `Memory` where
+    /// the allocator of `out` refuses.
     pub fn doubts_into<B: Allocator>(&self, out: &mut Vec<Doubt, B>) -> Result<(), Refusal>
         ensures ok { OnOk result (out.new.items ≡ out.old.items ++ doubts_ahead self.now) }
         ensures err { IsOkUnless result Refusal.Memory }

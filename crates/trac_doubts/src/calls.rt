@@ -4,7 +4,8 @@ ghost use Rattle.std.specs.FinMap as finite;
 ghost use Rattle.std.specs.Option.{option_and_then, option_to_list};
 ghost use Rattle.trac_forms.specs.Stored.{storage_in};
 ghost use Rattle.trac_rules.specs.Blocks.{number_addressed};
-ghost use Rattle.trac_rules.specs.Doubts.{block_doubts, doubts_of_call, form_doubts, name_doubts, needs_block, needs_form, unknown_name};
+ghost use Rattle.trac_rules.specs.Doubts.{block_doubts, doubts_of_call, form_doubts, name_doubts, needs_block};
+ghost use Rattle.trac_rules.specs.Doubts.{needs_form, unknown_name};
 ghost use Rattle.trac_rules.specs.Effect.{argument};
 
 use crate::addresses::is_address;
@@ -46,7 +47,8 @@ pub(crate) fn call_doubts_into<A: Allocator + Copy, B: Allocator>(
     width: Width,
     out: &mut Vec<Doubt, B>,
 ) -> Result<(), Refusal>
-    ensures ok { OnOk result (out.new.items ≡ out.old.items ++ doubts_of_call width (Some args.now) (storage_in store.now)) }
+    ensures ok { OnOk result
+        (out.new.items ≡ out.old.items ++ doubts_of_call width (Some args.now) (storage_in store.now)) }
     ensures err { IsOkUnless result Refusal.Memory }
 {
     let primitive = primitive_named(args.get(0));

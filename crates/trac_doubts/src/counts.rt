@@ -11,8 +11,8 @@ use trac_forms::Form;
 use trac_rules::doubt::Doubt;
 use trac_rules::primitive::{BlockAction, Computation, FormAction, FormReading, Primitive};
 
-// The doubt of a call of so many arguments, its name among them, that gives one more than its primitive uses. The form is
-// the one that argument 1 names.
+// The doubt of a call of so many arguments, its name among them, that gives one more than its primitive uses. The form
+// is the one that argument 1 names.
 pub(crate) fn unused_doubt<A: Allocator + Copy>(
     primitive: Primitive,
     form: Option<&Form<A>>,

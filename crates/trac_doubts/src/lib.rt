@@ -1,5 +1,5 @@
-//! Doubts: what the next step would do that a person is unlikely to have meant. They are judged by parts of a state, and
-//! nothing is changed.
+//! Doubts: what the next step would do that a person is unlikely to have meant. They are judged by parts of a state,
+//! and nothing is changed. All of it is this project's profile.
 #![tactic(auto)]
 
 mod addresses;

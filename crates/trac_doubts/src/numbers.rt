@@ -81,7 +81,8 @@ fn lacks_result(primitive: Primitive, args: &Args<'_>, width: Width) -> bool
 
 // Whether these arguments of an operation give no result, and none in its place.
 fn is_silent(operation: Operation, args: &Args<'_>, width: Width) -> bool
-    ensures { result ≡ (is_none (calculated (result_of operation) width (argument 1 args.now) (argument 2 args.now)) && nat_le (length args.now) 3) }
+    ensures { result ≡ (is_none (calculated (result_of operation) width (argument 1 args.now) (argument 2 args.now))
+        && nat_le (length args.now) 3) }
 {
     let is_missing = result_on(operation, args, width).is_none();
     is_missing && args.count() <= 3

@@ -1,5 +1,6 @@
 //! Texts that `ss` does not find.
-ghost use Rattle.std.specs.Prelude.{◌≡◌, ◌++◌, ◌*◌, ◌<◌, ◌≤◌, ◌&&◌, not, ◌+◌, drop, length, nat_lt, option_copied, option_to_list, slice_get, sum, take, false, [], ◌∷◌, OnOk, IsOkUnless};
+ghost use Rattle.std.specs.Prelude.{◌≡◌, ◌++◌, ◌*◌, ◌<◌, ◌≤◌, ◌&&◌, not, ◌+◌, drop, length, nat_lt, option_copied};
+ghost use Rattle.std.specs.Prelude.{option_to_list, slice_get, sum, take, false, [], ◌∷◌, OnOk, IsOkUnless};
 ghost use Rattle.std.specs.Option.{option_map_or};
 ghost use Rattle.trac_rules.specs.Doubts.{is_null, nowhere_doubts, nowhere_from, stands_in};
 ghost use Rattle.trac_rules.specs.Form.{all_items};
@@ -40,7 +41,8 @@ pub(crate) fn nowhere_into<A: Allocator + Copy, B: Allocator>(
     form: Option<&Form<A>>,
     out: &mut Vec<Doubt, B>,
 ) -> Result<(), Refusal>
-    ensures ok { OnOk result (out.new.items ≡ out.old.items ++ nowhere_doubts primitive args.now (option_copied form.entry)) }
+    ensures ok { OnOk result
+        (out.new.items ≡ out.old.items ++ nowhere_doubts primitive args.now (option_copied form.entry)) }
     ensures err { IsOkUnless result Refusal.Memory }
 {
     match primitive {
@@ -70,7 +72,8 @@ fn missing_into<A: Allocator + Copy, B: Allocator>(
     form: &Form<A>,
     out: &mut Vec<Doubt, B>,
 ) -> Result<(), Refusal>
-    ensures ok { OnOk result (out.new.items ≡ out.old.items ++ nowhere_from 2 (drop 2 args.now) (runs_of (all_items form.now))) }
+    ensures ok { OnOk result
+        (out.new.items ≡ out.old.items ++ nowhere_from 2 (drop 2 args.now) (runs_of (all_items form.now))) }
     ensures err { IsOkUnless result Refusal.Memory }
 {
     for k in 2..args.count() {

@@ -1,5 +1,6 @@
 -- What a faulty reader gives, and when it fails.
-use Rattle.std.specs.Prelude.{◌≡◌, ℕ, ◌^◌, ◌-◌, Bool, true, false, ◌&&◌, ◌||◌, ◌==◌, not, if◌then◌else◌, nat_lt, min, max, List, length, None, Some}
+use Rattle.std.specs.Prelude.{◌≡◌, ℕ, ◌^◌, ◌-◌, Bool, true, false, ◌&&◌, ◌||◌, ◌==◌, not, if◌then◌else◌, nat_lt, min}
+use Rattle.std.specs.Prelude.{max, List, length, None, Some}
 use Rattle.std.specs.Borrow.{Bor}
 use Rattle.std.specs.declared.io.ErrorKind.{ErrorKind}
 use Rattle.std.specs.declared.io.ErrorKind.TheVariants.{Other}
@@ -21,7 +22,15 @@ kind_of r = r.kind
 
 -- a reader that gives as much as there is room for, and never fails
 abbrev pub first_reader : Bor (List ℕ) → FaultyReader
-first_reader bytes = record { rest = bytes; most = 2 ^ 64 - 1; by_lines = false; reads = 0; fails_at = None; fails_at_end = false; kind = Other }
+first_reader bytes = record {
+  rest = bytes;
+  most = 2 ^ 64 - 1;
+  by_lines = false;
+  reads = 0;
+  fails_at = None;
+  fails_at_end = false;
+  kind = Other;
+}
 
 -- the same reader with one option changed
 abbrev pub with_most : FaultyReader → ℕ → FaultyReader

@@ -1,5 +1,6 @@
 //! A reader over bytes in memory, which gives little at a time and fails when it is told to.
-ghost use Rattle.std.specs.Prelude.{◌≡◌, ◌↔◌, min, length, take, drop, position, true, Ok, IsErr, IfOk, IfErr, IfSome, None, Some, ◌<◌};
+ghost use Rattle.std.specs.Prelude.{◌≡◌, ◌↔◌, min, length, take, drop, position, true, Ok, IsErr, IfOk, IfErr, IfSome};
+ghost use Rattle.std.specs.Prelude.{None, Some, ◌<◌};
 ghost use Rattle.std.specs.Io.{ReadsAtMost};
 ghost use Rattle.std.specs.Io.KnownBytes.{ReadConsumes};
 ghost use Rattle.std.specs.IoError.{error_kind};
@@ -10,8 +11,9 @@ use std::io::{Error, ErrorKind, Read, Result};
 
 /// A reader over bytes in memory, which gives them once, in order, and then is at its end.
 ///
-/// `new` makes one that never fails. The calls `at_most`, `by_lines`, `failing_at`, `failing_at_end` and `with_kind` each
-/// add an option, as in `FaultyReader::new(b"AB'").at_most(1).failing_at(2)`. A failed read gives no byte and loses none.
+/// `new` makes one that never fails. The calls `at_most`, `by_lines`, `failing_at`, `failing_at_end` and
+/// `with_kind` each add an option, as in `FaultyReader::new(b"AB'").at_most(1).failing_at(2)`. A failed
+/// read gives no byte and loses none.
 #[derive(Drop)]
 pub struct FaultyReader<'a> {
     rest: &'a [u8],
@@ -24,7 +26,8 @@ pub struct FaultyReader<'a> {
 }
 
 impl<'a> FaultyReader<'a> {
-    ghost use Rattle.trac_faults.specs.Reading.{first_reader, with_most, with_lines, with_fault, with_fault_at_end, with_kind, bytes_left, read_count};
+    ghost use Rattle.trac_faults.specs.Reading.{first_reader, with_most, with_lines, with_fault, with_fault_at_end};
+    ghost use Rattle.trac_faults.specs.Reading.{with_kind, bytes_left, read_count};
 
     /// A reader of these bytes, which gives as many a call as there is room for, and never fails.
     pub fn new(bytes: &'a [u8]) -> FaultyReader<'a>

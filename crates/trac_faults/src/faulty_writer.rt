@@ -26,7 +26,8 @@ pub struct FaultyWriter<A: Allocator = Global> {
 }
 
 impl<A: Allocator> FaultyWriter<A> {
-    ghost use Rattle.trac_faults.specs.Writing.{IsFirstWriter, with_most, with_fault, with_empty_write, with_flush_fault, with_kind, bytes_taken, write_count, flush_count};
+    ghost use Rattle.trac_faults.specs.Writing.{IsFirstWriter, with_most, with_fault, with_empty_write};
+    ghost use Rattle.trac_faults.specs.Writing.{with_flush_fault, with_kind, bytes_taken, write_count, flush_count};
 
     /// A writer that holds nothing yet, takes whole texts and never fails but for want of memory.
     pub fn new(alloc: A) -> FaultyWriter<A>
@@ -52,7 +53,8 @@ impl<A: Allocator> FaultyWriter<A> {
         self
     }
 
-    /// Fails at the write of this number, where 1 is the first call of `write`, and goes on after it. At 0 no write fails.
+    /// Fails at the write of this number, where 1 is the first call of `write`, and goes on after
+    /// it. At 0 no write fails.
     pub fn failing_at(mut self, write: u64) -> FaultyWriter<A>
         ensures { result ≡ with_fault self write }
     {
@@ -60,7 +62,8 @@ impl<A: Allocator> FaultyWriter<A> {
         self
     }
 
-    /// Takes no byte at the write of this number, where 1 is the first call of `write`, and answers 0. At 0 no write does.
+    /// Takes no byte at the write of this number, where 1 is the first call of `write`, and answers
+    /// 0. At 0 no write does.
     pub fn taking_none_at(mut self, write: u64) -> FaultyWriter<A>
         ensures { result ≡ with_empty_write self write }
     {
@@ -68,7 +71,8 @@ impl<A: Allocator> FaultyWriter<A> {
         self
     }
 
-    /// Fails at the flush of this number, where 1 is the first call of `flush`, and goes on after it. At 0 no flush fails.
+    /// Fails at the flush of this number, where 1 is the first call of `flush`, and goes on after
+    /// it. At 0 no flush fails.
     pub fn failing_flush_at(mut self, flush: u64) -> FaultyWriter<A>
         ensures { result ≡ with_flush_fault self flush }
     {
@@ -76,7 +80,8 @@ impl<A: Allocator> FaultyWriter<A> {
         self
     }
 
-    /// Fails with an error of this kind, in place of `ErrorKind::Other`. For want of memory it is `ErrorKind::OutOfMemory`.
+    /// Fails with an error of this kind, in place of `ErrorKind::Other`. For want of memory it is
+    /// `ErrorKind::OutOfMemory`.
     pub fn with_kind(mut self, kind: ErrorKind) -> FaultyWriter<A>
         ensures { result ≡ with_kind self kind }
     {
@@ -107,7 +112,8 @@ impl<A: Allocator> FaultyWriter<A> {
 }
 
 impl<A: Allocator> Write for FaultyWriter<A> {
-    ghost use Rattle.trac_faults.specs.Writing.{bytes_taken, write_fails_next, flush_fails_next, taken_count, kind_of, IsAfterWrite, IsAfterFlush};
+    ghost use Rattle.trac_faults.specs.Writing.{bytes_taken, write_fails_next, flush_fails_next, taken_count, kind_of};
+    ghost use Rattle.trac_faults.specs.Writing.{IsAfterWrite, IsAfterFlush};
 
     ghost contents = { λ w. Some (bytes_taken w) };
 

@@ -1,5 +1,5 @@
-//! Faults on demand, for tests: an allocator that refuses chosen requests for memory, and readers and writers over memory
-//! that fail at chosen calls.
+//! Faults on demand, for tests: an allocator that refuses chosen requests for memory, and readers and writers over
+//! memory that fail at chosen calls.
 //!
 //! No product crate stands on this one but for its tests. In a test, with `run(alloc, &mut reader, &mut writer)` as the
 //! code under test:
@@ -27,9 +27,9 @@
 //! }
 //! ```
 //!
-//! What is proved: the allocator hands out, grows and gives back blocks as std's trait asks; each reader and writer keeps
-//! what std's traits say of its bytes, after errors too; and the rules by which requests and calls are chosen. What a cell
-//! holds no clause can say, so the counts and the log are shown by tests alone.
+//! What is proved: the allocator hands out, grows and gives back blocks as std's trait asks; each reader and writer
+//! keeps what std's traits say of its bytes, after errors too; and the rules by which requests and calls are chosen.
+//! What a cell holds no clause can say, so the counts and the log are shown by tests alone.
 #![tactic(auto)]
 
 mod faulty_reader;

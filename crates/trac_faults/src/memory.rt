@@ -7,9 +7,10 @@ use std::cell::Cell;
 
 /// An allocator over another one, the backing, which refuses the requests that it is told to refuse.
 ///
-/// A `&Refusing<Global>` is an allocator too, and `Copy`: give that to the code under test, and keep the value itself to
-/// say what is refused. Each request for a block counts. Growing and shrinking a block are each a request for a new one,
-/// since both are made of `allocate` and `deallocate` here. Giving a block back is no request, and is never refused.
+/// A `&Refusing<Global>` is an allocator too, and `Copy`: give that to the code under test, and keep the value
+/// itself to say what is refused. Each request for a block counts. Growing and shrinking a block are each a
+/// request for a new one, since both are made of `allocate` and `deallocate` here. Giving a block back is no
+/// request, and is never refused.
 #[derive(Drop)]
 pub struct Refusing<B: Allocator> {
     backing: B,
@@ -41,7 +42,8 @@ impl<B: Allocator> Refusing<B> {
             .set(self.requests.get().under(Rule::RefuseAll));
     }
 
-    /// Refuses the request of number `nth` from now, where 1 is the next one, and accepts all others. At 0 it refuses none.
+    /// Refuses the request of number `nth` from now, where 1 is the next one, and accepts all
+    /// others. At 0 it refuses none.
     pub fn refuse_nth(&self, nth: u64) {
         self.requests
             .set(self.requests.get().under(Rule::RefuseNth(nth)));

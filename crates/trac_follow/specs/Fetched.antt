@@ -8,7 +8,8 @@ use Rattle.trac_origins.specs.Places.{Place, InForm, InHeld, held_form}
 
 -- the number of the block whose address the form of a name is, if there is one
 abbrev pub block_named : List ℕ → Storage → Option ℕ
-block_named given storage = option_and_then (λ form. number_addressed form storage.blocks) (finite.get storage.forms given)
+block_named given storage =
+    option_and_then (λ form. number_addressed form storage.blocks) (finite.get storage.forms given)
 
 -- where an item stood that stands in the form of a name, when copies of the forms of a block were put among the forms
 abbrev pub place_fetched : Option ℕ → List ℕ → ℕ → Storage → Place

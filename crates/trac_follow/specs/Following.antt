@@ -18,29 +18,34 @@ IsKnown width old place = (width ≡ old.width) × IsTrail old × Stands old.las
 
 -- over the last so many steps of a session a byte was carried by so many, and has this origin
 abbrev pub IsOrigin : PlainSession → Place → ℕ → ℕ → Origin → Type 0
-IsOrigin p place steps carried source = followed (over p.width p.tape) (take steps p.earlier) place ≡ record { carried = carried; origin = source }
+IsOrigin p place steps carried source =
+    followed (over p.width p.tape) (take steps p.earlier) place ≡ record { carried = carried; origin = source }
 
--- what was found: nothing stood there; all steps carried the byte and it is followed no further; or the last of them carried it from a place
--- that a reader wants to see, took it out of a form, read it or made it
+-- what was found: nothing stood there; all steps carried the byte and it is followed no further; or the last of them
+-- carried it from a place that a reader wants to see, took it out of a form, read it or made it
 abbrev pub IsSource : PlainSession → Place → ℕ → PlainSession → ℕ → code.Source → Type 0
 IsSource old place most new steps code.TheVariants.Nothing = (steps ≡ 0) × IsBare old.last place
-IsSource old place most new steps (code.TheVariants.Here there) = IsOrigin old place steps steps (Carried (place_of there)) × ((steps ≡ most) ⊎ (new.earlier ≡ []))
+IsSource old place most new steps (code.TheVariants.Here there) =
+    IsOrigin old place steps steps (Carried (place_of there)) × ((steps ≡ most) ⊎ (new.earlier ≡ []))
 IsSource old place most new steps (code.TheVariants.Passed there) =
-    IsOrigin old place steps steps (Carried (place_of there))
-    × ((before : ℕ) × ((here : Place) × (steps ≡ before + 1) × IsOrigin old place before before (Carried here) × IsPassed new.last here (place_of there)
+    IsOrigin old place steps steps (Carried (place_of there)) × ((before : ℕ) × ((here : Place) × (steps ≡ before + 1)
+    × IsOrigin old place before before (Carried here) × IsPassed new.last here (place_of there)
     × (is_in_form (place_of there) ≡ true → is_in_storage here ≡ true)))
-IsSource old place most new steps (code.TheVariants.OfForm i) =
-    ((call : Call) × (scan new.last ≡ Calls call) × IsOrigin old place steps steps (Carried (InForm (argument 1 call.arguments) i)))
-    × ((before : ℕ) × ((here : Place) × (steps ≡ before + 1) × IsOrigin old place before before (Carried here) × (is_in_storage here ≡ false)))
-IsSource old place most new steps (code.TheVariants.Read n) = (0 < steps) × IsOrigin old place steps (steps - 1) (Read n)
+IsSource old place most new steps (code.TheVariants.OfForm i) = ((call : Call) × (scan new.last ≡ Calls call)
+    × IsOrigin old place steps steps (Carried (InForm (argument 1 call.arguments) i))) × ((before : ℕ) × ((here : Place)
+    × (steps ≡ before + 1) × IsOrigin old place before before (Carried here) × (is_in_storage here ≡ false)))
+IsSource old place most new steps (code.TheVariants.Read n) =
+    (0 < steps) × IsOrigin old place steps (steps - 1) (Read n)
 IsSource old place most new steps code.TheVariants.Made = (0 < steps) × IsOrigin old place steps (steps - 1) Made
 
--- over how many of the steps it is known that none passed the byte on: where it is followed no further over all, else over all before the last
+-- over how many of the steps it is known that none passed the byte on: where it is followed no further over
+-- all, else over all before the last
 abbrev pub quiet_steps : ℕ → code.Source → ℕ
 quiet_steps steps (code.TheVariants.Here there) = steps
 quiet_steps steps source = steps - 1
 
-pub record IsFollowed (old : PlainSession) (place : Place) (most : ℕ) (new : PlainSession) (found : Found) : Type 0 where
+pub record IsFollowed
+    (old : PlainSession) (place : Place) (most : ℕ) (new : PlainSession) (found : Found) : Type 0 where
   pub source : IsSource old place most new found.steps found.source
   -- it goes no further than to the first step that passed the byte on
   pub unpassed : IsUnpassed (over old.width old.tape) (take (quiet_steps found.steps found.source) old.earlier) place

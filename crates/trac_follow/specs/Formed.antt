@@ -1,5 +1,6 @@
 -- What is told of a form that a call reads, prints or cuts.
-use Rattle.std.specs.Prelude.{◌≡◌, ◌==◌, ◌⊎◌, ℕ, ◌+◌, ◌<◌, ◌≤◌, min, List, length, take, drop, Bool, true, false, Option, None, Some, slice_get}
+use Rattle.std.specs.Prelude.{◌≡◌, ◌==◌, ◌⊎◌, ℕ, ◌+◌, ◌<◌, ◌≤◌, min, List, length, take, drop, Bool, true, false}
+use Rattle.std.specs.Prelude.{Option, None, Some, slice_get}
 use Rattle.std.specs.FinMap as finite
 use Rattle.std.specs.List.{All}
 use Rattle.trac_rules.specs.declared.item.Item.{Item}
@@ -25,24 +26,27 @@ use Rattle.trac_follow.specs.declared.place.Origin as told
 use Rattle.trac_follow.specs.declared.place.Place as code_place
 use Rattle.trac_follow.specs.Places.{IsSeen, Tells, place_of}
 
--- what is told of the byte of this number of the value of a call of this primitive, which names this form and has these arguments, and is
--- that of the function of this number; so much is known of the value
+-- what is told of the byte of this number of the value of a call of this primitive, which names this form and has these
+-- arguments, and is that of the function of this number; so much is known of the value
 abbrev pub TellsOfForm : Primitive → Form → List (List ℕ) → ℕ → Width → Option ℕ → ℕ → told.Origin → Type 0
 TellsOfForm primitive form arguments function width seen i o =
-    (environment : Environment) (s : State) (call : Call) (e : Effect) → environment.width ≡ width → IsCallOf environment s call primitive e → call.arguments ≡ arguments →
-    length call.state.frames ≡ function → named_form call.arguments (storage_of call.state) ≡ Some form → IsSeen seen e → i < length e.value →
+    (environment : Environment) (s : State) (call : Call) (e : Effect) → environment.width ≡ width →
+    IsCallOf environment s call primitive e → call.arguments ≡ arguments → length call.state.frames ≡ function →
+    named_form call.arguments (storage_of call.state) ≡ Some form → IsSeen seen e → i < length e.value →
     Tells s o (origin environment s (value_at call.kind e.forced call.state i))
 
 -- the item of a form that has so many bytes before it, those from this place on
 abbrev pub ToldFrom : Form → ℕ → ℕ → told.Origin → Type 0
 ToldFrom form first i (told.TheVariants.OfForm n) =
-    (m : ℕ) × (b : ℕ) × (n ≡ first + m) × (slice_get (drop first (all_items form)) m ≡ Some (Byte b)) × (length (bytes_in (take m (drop first (all_items form)))) ≡ i)
+    (m : ℕ) × (b : ℕ) × (n ≡ first + m) × (slice_get (drop first (all_items form)) m ≡ Some (Byte b))
+    × (length (bytes_in (take m (drop first (all_items form)))) ≡ i)
 ToldFrom form first i told.TheVariants.Nothing = length (bytes_in (drop first (all_items form))) ≤ i
 ToldFrom form first i o = ⊥
 
 -- of a piece that is read of a form; without one, of an argument
 abbrev pub ToldAsPiece : Form → Option Measured → ℕ → ℕ → ℕ → told.Origin → Type 0
-ToldAsPiece form None function other i o = o ≡ told.TheVariants.Carried (code_place.TheVariants.Argument function other i)
+ToldAsPiece form None function other i o =
+    o ≡ told.TheVariants.Carried (code_place.TheVariants.Argument function other i)
 ToldAsPiece form (Some piece) function other i o = ToldFrom form (min piece.pointer (length form.before)) i o
 
 -- whether a text stands in a form after so many bytes that stand after the pointer: at the byte of that number
@@ -89,7 +93,8 @@ pub record IsShown (items : List Item) (first i : ℕ) (o : told.Origin) : Type 
 
 -- of what is printed after the mark of the pointer; nothing is past it
 abbrev pub ToldAsShownAfter : Form → ℕ → told.Origin → Type 0
-ToldAsShownAfter form i o = ((o ≡ told.TheVariants.Nothing) × (length (shown_items form.after) ≤ i)) ⊎ IsShown form.after (length form.before) i o
+ToldAsShownAfter form i o = ((o ≡ told.TheVariants.Nothing) × (length (shown_items form.after) ≤ i))
+    ⊎ IsShown form.after (length form.before) i o
 
 -- of the whole form, as it is printed
 abbrev pub ToldAsShownAt : Form → ℕ → told.Origin → Type 0
@@ -98,17 +103,18 @@ ToldAsShownAt form i o =
     ⊎ (((o ≡ told.TheVariants.Made) × ((j : ℕ) × (j < 3) × (i ≡ length (shown_items form.before) + j)))
     ⊎ ((j : ℕ) × (i ≡ length (shown_items form.before) + (3 + j)) × ToldAsShownAfter form j o))
 
--- of the form, which ends the output at `end`, and of the line that is made before it; no such output is within the limit, or nothing is
--- past its end
+-- of the form, which ends the output at `end`, and of the line that is made before it; no such output is within the
+-- limit, or nothing is past its end
 abbrev pub ToldAsShown : Form → ℕ → ℕ → told.Origin → Type 0
-ToldAsShown form end i o =
-    ((o ≡ told.TheVariants.Nothing) × ((length (shown form) ≤ OUTPUT_LIMIT → ⊥) ⊎ ((end < length (shown form)) ⊎ (end ≤ i))))
-    ⊎ (((o ≡ told.TheVariants.Made) × (i + length (shown form) < end)) ⊎ ((j : ℕ) × (j + end ≡ i + length (shown form)) × ToldAsShownAt form j o))
+ToldAsShown form end i o = ((o ≡ told.TheVariants.Nothing)
+    × ((length (shown form) ≤ OUTPUT_LIMIT → ⊥) ⊎ ((end < length (shown form)) ⊎ (end ≤ i))))
+    ⊎ (((o ≡ told.TheVariants.Made) × (i + length (shown form) < end))
+    ⊎ ((j : ℕ) × (j + end ≡ i + length (shown form)) × ToldAsShownAt form j o))
 
 -- of the form of a name; without one nothing is printed of it, and what is new is made
 abbrev pub ToldAsFormShown : State → List ℕ → ℕ → ℕ → told.Origin → Type 0
-ToldAsFormShown s name end i o =
-    ((o ≡ told.TheVariants.Made) × (finite.get s.forms name ≡ None)) ⊎ ((form : Form) × (finite.get s.forms name ≡ Some form) × ToldAsShown form end i o)
+ToldAsFormShown s name end i o = ((o ≡ told.TheVariants.Made) × (finite.get s.forms name ≡ None))
+    ⊎ ((form : Form) × (finite.get s.forms name ≡ Some form) × ToldAsShown form end i o)
 
 -- whether an item is cut: a gap stands where a byte stood
 abbrev pub is_cut : Bool → Item → Bool
@@ -131,14 +137,14 @@ pub record IsAfter (form : Form) (bytes n : ℕ) (item : Item) : Type 0 where
   pub before : extent (take n (all_items form)) ≡ bytes
   pub wide : All IsWide (all_items form)
 
--- of an item that `ss` leaves: that of the form which stood after as many bytes, and made where it is a gap over a byte; nothing where none
--- stood so
+-- of an item that `ss` leaves: that of the form which stood after as many bytes, and made where it is a gap over a
+-- byte; nothing where none stood so
 abbrev pub ToldAsCut : Form → List ℕ → After → told.Origin → Type 0
-ToldAsCut form name after o =
-    ((o ≡ told.TheVariants.Nothing) × ((n : ℕ) (was : Item) → slice_get (all_items form) n ≡ Some was → extent (take n (all_items form)) ≡ after.extent → ⊥))
+ToldAsCut form name after o = ((o ≡ told.TheVariants.Nothing) × ((n : ℕ) (was : Item) →
+    slice_get (all_items form) n ≡ Some was → extent (take n (all_items form)) ≡ after.extent → ⊥))
     ⊎ ((n : ℕ) × (was : Item) × IsAfter form after.extent n was × told_of (is_cut after.is_gap was) o name n)
 
 -- of the form of a name; nothing where there is none
 abbrev pub ToldAsFormCut : State → List ℕ → After → told.Origin → Type 0
-ToldAsFormCut s name after o =
-    ((o ≡ told.TheVariants.Nothing) × (finite.get s.forms name ≡ None)) ⊎ ((form : Form) × (finite.get s.forms name ≡ Some form) × ToldAsCut form name after o)
+ToldAsFormCut s name after o = ((o ≡ told.TheVariants.Nothing) × (finite.get s.forms name ≡ None))
+    ⊎ ((form : Form) × (finite.get s.forms name ≡ Some form) × ToldAsCut form name after o)

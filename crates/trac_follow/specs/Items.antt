@@ -31,7 +31,8 @@ abbrev pub IsAmong : (Item → List ℕ) → List Item → ℕ → ℕ → among
 IsAmong give items count i (among.TheVariants.Here given) = (given.at < count) × IsGiven give items i given
 IsAmong give items count i (among.TheVariants.Past rest) = length (flat_map give (take count items)) + rest ≡ i
 
--- of a place in a form where something stands: how many bytes the items before it stand for, and whether a gap stands there
+-- of a place in a form where something stands: how many bytes the items before it stand for, and
+-- whether a gap stands there
 abbrev pub IsMeasured : ℕ → Bool → State → Place → Type 0
 IsMeasured bytes gap t (InForm name i) =
     (item : Item) → slice_get (items_of (finite.get t.forms name)) i ≡ Some item →

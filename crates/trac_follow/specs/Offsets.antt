@@ -15,7 +15,8 @@ neutral_bytes s = length s.base + argument_bytes s.frames
 abbrev pub argument_offset : List Frame → List ℕ → ℕ → ℕ → ℕ → ℕ
 argument_offset [] base n k i = 0
 argument_offset (f ∷ fs) base n k i =
-    if n == length fs then length base + argument_bytes fs + (total_length (take k (arguments_of f)) + i) else argument_offset fs base n k i
+    if n == length fs then length base + argument_bytes fs + (total_length (take k (arguments_of f)) + i)
+    else argument_offset fs base n k i
 
 -- and before a place in the base text or in an argument
 abbrev pub offset : State → Place → ℕ
@@ -23,13 +24,14 @@ offset s (InBase i) = i
 offset s (InArgument n k i) = argument_offset s.frames s.base n k i
 offset s place = 0
 
--- what is known of a place at which something stands: of an item of a form what is measured of it, and of a byte of the base text or of
--- an argument how many bytes of the neutral text stand before it
+-- what is known of a place at which something stands: of an item of a form what is measured of it, and of a byte of the
+-- base text or of an argument how many bytes of the neutral text stand before it
 pub record IsPlaced (bytes : ℕ) (gap : Bool) (t : State) (place : Place) : Type 0 where
   pub measured : IsMeasured bytes gap t place
   pub before : is_in_text place ≡ true → bytes ≡ offset t place
 
--- how many bytes of the neutral text the step from a state leaves where they are: all, but for the function that it performs
+-- how many bytes of the neutral text the step from a state leaves where they are: all, but for the
+-- function that it performs
 abbrev pub left_by : Scanned → State → ℕ
 left_by (Moves t) s = neutral_bytes s
 left_by (Calls call) s = neutral_bytes call.state

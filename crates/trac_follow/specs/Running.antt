@@ -14,19 +14,19 @@ use Rattle.trac_follow.specs.declared.place.Place as code_place
 use Rattle.trac_follow.specs.Offsets.{IsPlaced}
 use Rattle.trac_follow.specs.Places.{IsPassed, TellsOf, is_in_form, is_in_storage, place_of}
 
--- what stands at a place after the step from a state stood there before it, what is known of the place stays known, and the step does not
--- pass it on
+-- what stands at a place after the step from a state stood there before it, what is known of the place stays known,
+-- and the step does not pass it on
 abbrev pub StaysAt : State → ℕ → Bool → Place → Type 0
-StaysAt s bytes gap place =
-    (environment : Environment) (t : State) (item : Item) → step environment s ≡ Ok t → found_at t place ≡ Some item → IsPlaced bytes gap t place →
+StaysAt s bytes gap place = (environment : Environment) (t : State) (item : Item) →
+    step environment s ≡ Ok t → found_at t place ≡ Some item → IsPlaced bytes gap t place →
     (origin environment s place ≡ Carried place) × IsPlaced bytes gap s place × (IsPassed s place place → ⊥)
 
--- what stands at a place here after the step from a state, which leaves so much of the active text, stood there before it, whatever is known of
--- that place, and the step does not pass it on
+-- what stands at a place here after the step from a state, which leaves so much of the active text, stood there before
+-- it, whatever is known of that place, and the step does not pass it on
 abbrev pub CameFrom : State → ℕ → Place → Place → Type 0
-CameFrom s left here there =
-    (environment : Environment) (t : State) (item : Item) → step environment s ≡ Ok t → left ≡ length t.active → found_at t here ≡ Some item →
-    (origin environment s here ≡ Carried there) × ((bytes : ℕ) (gap : Bool) → IsPlaced bytes gap s there) × (IsPassed s here there → ⊥)
+CameFrom s left here there = (environment : Environment) (t : State) (item : Item) → step environment s ≡ Ok t →
+    left ≡ length t.active → found_at t here ≡ Some item → (origin environment s here ≡ Carried there)
+    × ((bytes : ℕ) (gap : Bool) → IsPlaced bytes gap s there) × (IsPassed s here there → ⊥)
 
 -- how it goes on from a place here, by what is told of it
 abbrev pub IsTurn : State → code_place.Place → told.Origin → turning.Turn → Type 0
@@ -34,7 +34,8 @@ IsTurn s here (told.TheVariants.Carried there) turn =
     ((turn ≡ turning.TheVariants.On there) × (IsPassed s (place_of here) (place_of there) → ⊥))
     ⊎ ((turn ≡ turning.TheVariants.Found (code.TheVariants.Passed there)) × IsPassed s (place_of here) (place_of there)
     × (is_in_form (place_of there) ≡ true → is_in_storage (place_of here) ≡ true))
-IsTurn s here (told.TheVariants.OfForm i) turn = (turn ≡ turning.TheVariants.Found (code.TheVariants.OfForm i)) × (is_in_storage (place_of here) ≡ false)
+IsTurn s here (told.TheVariants.OfForm i) turn =
+    (turn ≡ turning.TheVariants.Found (code.TheVariants.OfForm i)) × (is_in_storage (place_of here) ≡ false)
 IsTurn s here (told.TheVariants.Read n) turn = turn ≡ turning.TheVariants.Found (code.TheVariants.Read n)
 IsTurn s here told.TheVariants.Made turn = turn ≡ turning.TheVariants.Found code.TheVariants.Made
 IsTurn s here told.TheVariants.Nothing turn = turn ≡ turning.TheVariants.Found code.TheVariants.Nothing

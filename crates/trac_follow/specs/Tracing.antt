@@ -20,18 +20,20 @@ AllCarried old place steps = (q : Place) × IsOrigin old place steps steps (Carr
 
 -- the last of so many steps passed a byte on, which it had from there
 abbrev pub WasPassed : PlainSession → Place → ℕ → PlainSession → Place → Type 0
-WasPassed old place steps new q =
-    (before : ℕ) × ((here : Place) × (steps ≡ before + 1) × IsOrigin old place before before (Carried here) × IsPassed new.last here q)
+WasPassed old place steps new q = (before : ℕ) × ((here : Place) × (steps ≡ before + 1)
+    × IsOrigin old place before before (Carried here) × IsPassed new.last here q)
 
--- where it comes from: nothing stood there; all steps carried it, and there are no more, or as many were wanted; the last of them read or
--- made it, and the others carried it; or all carried it, and the last of them passed it on, from a form whose name of more than 256 bytes
--- could not be kept, or by a call of which the witness refused to be told
+-- where it comes from: nothing stood there; all steps carried it, and there are no more, or as many were wanted; the
+-- last of them read or made it, and the others carried it; or all carried it, and the last of them passed it on, from a
+-- form whose name of more than 256 bytes could not be kept, or by a call of which the witness refused to be told
 abbrev pub IsEnd : PlainSession → Place → ℕ → PlainSession → ℕ → ends.End → Type 0
 IsEnd old place most new steps ends.TheVariants.Nothing = IsSource old place most new steps code.TheVariants.Nothing
-IsEnd old place most new steps ends.TheVariants.Earlier = AllCarried old place steps × ((steps ≡ most) ⊎ (new.earlier ≡ []))
+IsEnd old place most new steps ends.TheVariants.Earlier =
+    AllCarried old place steps × ((steps ≡ most) ⊎ (new.earlier ≡ []))
 IsEnd old place most new steps (ends.TheVariants.Read n) = IsSource old place most new steps (code.TheVariants.Read n)
 IsEnd old place most new steps ends.TheVariants.Made = IsSource old place most new steps code.TheVariants.Made
-IsEnd old place most new steps ends.TheVariants.Unkept = (q : Place) × IsOrigin old place steps steps (Carried q) × IsLong q × WasPassed old place steps new q
+IsEnd old place most new steps ends.TheVariants.Unkept =
+    (q : Place) × IsOrigin old place steps steps (Carried q) × IsLong q × WasPassed old place steps new q
 IsEnd old place most new steps ends.TheVariants.Untold = AllCarried old place steps
 
 pub record IsTraced (old : PlainSession) (place : Place) (most : ℕ) (new : PlainSession) (found : Traced) : Type 0 where
@@ -46,10 +48,12 @@ abbrev pub ToldAll : {W : Type 0} → (W → Passing → W → Type 0) → W →
 ToldAll passes old [] new = new ≡ old
 ToldAll {W} passes old (p ∷ later) new = (m : W) × passes old p m × ToldAll passes m later new
 
--- it was told of all these over so many steps; where it refused one, of all but the last, to which they lead and which it refused
-abbrev pub IsTold : {W : Type 0} → (W → Passing → W → Type 0) → (W → Passing → W → Type 0) → List Passing → ℕ → ends.End → W → W → Type 0
-IsTold {W} passes refuses way steps ends.TheVariants.Untold old new =
-    (before : List Passing) × ((p : Passing) × ((m : W) × (way ≡ before ++ p ∷ []) × (p.steps ≡ steps) × ToldAll passes old before m × refuses m p new))
+-- it was told of all these over so many steps; where it refused one, of all but the last, to which
+-- they lead and which it refused
+abbrev pub IsTold : {W : Type 0} → (W → Passing → W → Type 0) → (W → Passing → W → Type 0) → List Passing → ℕ →
+    ends.End → W → W → Type 0
+IsTold {W} passes refuses way steps ends.TheVariants.Untold old new = (before : List Passing) × ((p : Passing)
+    × ((m : W) × (way ≡ before ++ p ∷ []) × (p.steps ≡ steps) × ToldAll passes old before m × refuses m p new))
 IsTold passes refuses way steps end old new = ToldAll passes old way new
 
 -- the calls on the way of a byte over the last so many steps
@@ -71,11 +75,13 @@ IsOfStorage (onwards.TheVariants.OfForm i) = Unit {0}
 -- the place from which it is followed further, and a form there that has a name of more than 256 bytes
 abbrev pub LeadsTo : State → onwards.Onward → Place → Type 0
 LeadsTo s (onwards.TheVariants.At there) q = q ≡ place_of there
-LeadsTo s (onwards.TheVariants.OfForm i) q = (call : Call) → scan s ≡ Calls call → q ≡ InForm (argument 1 call.arguments) i
+LeadsTo s (onwards.TheVariants.OfForm i) q =
+    (call : Call) → scan s ≡ Calls call → q ≡ InForm (argument 1 call.arguments) i
 
 abbrev pub LeadsToLong : State → onwards.Onward → Type 0
 LeadsToLong s (onwards.TheVariants.At there) = IsLong (place_of there)
-LeadsToLong s (onwards.TheVariants.OfForm i) = (call : Call) → scan s ≡ Calls call → IsLong (InForm (argument 1 call.arguments) i)
+LeadsToLong s (onwards.TheVariants.OfForm i) =
+    (call : Call) → scan s ≡ Calls call → IsLong (InForm (argument 1 call.arguments) i)
 
 -- where a byte comes from that no call passed on, of which this was found
 abbrev pub EndsAs : code.Source → ends.End → Type 0

@@ -10,7 +10,8 @@ ghost use Rattle.trac_rules.specs.Scanning.{Call, Calls, scan};
 ghost use Rattle.trac_follow.specs.declared.place.After.{After as Lengths};
 ghost use Rattle.trac_follow.specs.Formed.{ToldAsFormCut, ToldAsFormShown};
 ghost use Rattle.trac_follow.specs.Putting.{put_by};
-ghost use Rattle.trac_follow.specs.Places.{IsTakenOut, TellsOf, ToldAsPrinted, ToldAsPut, is_from_form, is_in_text, place_of};
+ghost use Rattle.trac_follow.specs.Places.{IsTakenOut, TellsOf, ToldAsPrinted, ToldAsPut, is_from_form, is_in_text};
+ghost use Rattle.trac_follow.specs.Places.{place_of};
 
 use crate::fetched::before_fetch;
 use crate::formed::{cut_item, shown_byte};
@@ -139,8 +140,8 @@ fn of_output<'a, E: TwoEnds<u8, A>, M: TwoEnds<Mark, A>, A: Allocator + Copy>(
     }
 }
 
-// Of what `pf` prints of the form of this name, after which the output ends; without a form it prints nothing, so what is new
-// is the line of the trace.
+// Of what `pf` prints of the form of this name, after which the output ends; without a form it prints nothing, so what
+// is new is the line of the trace.
 fn form_shown<'a, E: TwoEnds<u8, A>, M: TwoEnds<Mark, A>, A: Allocator + Copy>(
     before: &Core<E, M, A>,
     name: &[u8],
@@ -283,7 +284,8 @@ fn of_block<'a, E: TwoEnds<u8, A>, M: TwoEnds<Mark, A>, A: Allocator + Copy>(
     i: usize,
 ) -> Origin<'a>
     requires call { IsCall (next_call before.now.state) kind arguments.now }
-    ensures tells { (width : Width) (after : Lengths) → TellsOf before.now.state width after (InHeld number name.now i) result }
+    ensures tells { (width : Width) (after : Lengths) →
+        TellsOf before.now.state width after (InHeld number name.now i) result }
     ensures taken { IsTakenOut (InHeld number name.now i) result }
 {
     let count = before.store().block_count();

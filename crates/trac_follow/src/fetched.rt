@@ -1,6 +1,7 @@
 //! Forms that `fb` brings back from a block.
 ghost use Rattle.std.specs.Option.{option_copied};
-ghost use Rattle.std.specs.Prelude.{◌≡◌, ◌∷◌, ◌++◌, bytes_eq, decimal, false, is_some, List, MatchOption, option_to_list, Some, ℕ};
+ghost use Rattle.std.specs.Prelude.{◌≡◌, ◌∷◌, ◌++◌, bytes_eq, decimal, false, is_some, List, MatchOption};
+ghost use Rattle.std.specs.Prelude.{option_to_list, Some, ℕ};
 ghost use Rattle.trac_follow.specs.Fetched.{block_named, place_fetched};
 ghost use Rattle.trac_follow.specs.Places.{place_of};
 ghost use Rattle.trac_forms.specs.Stored.{storage_in};
@@ -23,7 +24,8 @@ pub(crate) fn before_fetch<'a, A: Allocator + Copy>(
     name: &'a [u8],
     i: usize,
 ) -> Place<'a>
-    ensures { place_of result ≡ place_fetched (block_named given.now (storage_in store.now)) name.now i (storage_in store.now) }
+    ensures { place_of result
+        ≡ place_fetched (block_named given.now (storage_in store.now)) name.now i (storage_in store.now) }
 {
     match named_block(store, given) {
         Some(number) => before_copy(store, number, name, i),
@@ -31,8 +33,8 @@ pub(crate) fn before_fetch<'a, A: Allocator + Copy>(
     }
 }
 
-// Where it stood when copies of the forms of the block of this number were put among the forms: in the block, where that holds a
-// form of this name.
+// Where it stood when copies of the forms of the block of this number were put among the forms: in the block, where
+// that holds a form of this name.
 fn before_copy<'a, A: Allocator + Copy>(
     store: &Store<A>,
     number: usize,
@@ -106,7 +108,9 @@ fn reads_as<A: Allocator + Copy>(form: &Form<A>, text: &[u8]) -> bool
 
 // What is left of a text after the byte of an item, where it begins with that; a gap has none.
 fn after_item(item: Option<Item>, text: &[u8]) -> Option<&[u8]>
-    ensures { MatchOption result ((others : List Item) → bytes_eq text.now (bytes_in (option_to_list item ++ others)) ≡ false) (λ rest. text.now ≡ bytes_in (option_to_list item) ++ rest.now) }
+    ensures { MatchOption result
+        ((others : List Item) → bytes_eq text.now (bytes_in (option_to_list item ++ others)) ≡ false)
+        (λ rest. text.now ≡ bytes_in (option_to_list item) ++ rest.now) }
 {
     match item {
         Some(Item::Byte(b)) => after_byte(b, text),
@@ -116,7 +120,8 @@ fn after_item(item: Option<Item>, text: &[u8]) -> Option<&[u8]>
 
 // What is left of a text after this byte, where it begins with it.
 fn after_byte(b: u8, text: &[u8]) -> Option<&[u8]>
-    ensures { MatchOption result ((others : List ℕ) → bytes_eq text.now (b ∷ others) ≡ false) (λ rest. text.now ≡ b ∷ rest.now) }
+    ensures { MatchOption result ((others : List ℕ) → bytes_eq text.now (b ∷ others) ≡ false)
+        (λ rest. text.now ≡ b ∷ rest.now) }
 {
     let Some((first, rest)) = text.split_first() else {
         return None;

@@ -9,7 +9,8 @@ ghost use Rattle.trac_rules.specs.declared.primitive.FormAction.TheVariants.{Cal
 ghost use Rattle.trac_rules.specs.declared.primitive.Primitive.TheVariants.{Handle};
 ghost use Rattle.trac_rules.specs.declared.primitive.FormReading.TheVariants.{ReadCount, ReadUntil};
 ghost use Rattle.trac_rules.specs.declared.width.Width.{Width};
-ghost use Rattle.trac_follow.specs.Formed.{IsFound, TellsOfForm, ToldAsCut, ToldAsPiece, ToldAsShown, ToldAsShownAfter, ToldAsShownAt, ToldFrom, is_byte, is_cut, of_shown};
+ghost use Rattle.trac_follow.specs.Formed.{IsFound, TellsOfForm, ToldAsCut, ToldAsPiece, ToldAsShown, ToldAsShownAfter};
+ghost use Rattle.trac_follow.specs.Formed.{ToldAsShownAt, ToldFrom, is_byte, is_cut, of_shown};
 ghost use Rattle.trac_follow.specs.Places.{is_from_form};
 
 use crate::items::{Among, Giving, byte_among, item_after};
@@ -29,7 +30,8 @@ pub(crate) fn called_byte<'a, A: Allocator + Copy>(
     function: usize,
     i: usize,
 ) -> Origin<'a>
-    ensures tells { (width : Width) (seen : Option ℕ) → TellsOfForm (Handle Call) form.now arguments.now function width seen i result }
+    ensures tells { (width : Width) (seen : Option ℕ) →
+        TellsOfForm (Handle Call) form.now arguments.now function width seen i result }
     ensures taken { is_from_form result ≡ false }
 {
     let start = form.pointer();
@@ -70,7 +72,8 @@ pub(crate) fn read_byte_of<'a, A: Allocator + Copy>(
 
 // What `cn` reads of a form: as many bytes as the number says; nothing where that does not fit the width.
 fn counted<A: Allocator + Copy>(form: &Form<A>, arguments: &Args<'_>, width: Width) -> Option<Piece>
-    ensures read { option_map (λ piece. taken piece form.now) result ≡ piece_read ReadCount width arguments.now form.now }
+    ensures read { option_map (λ piece. taken piece form.now) result
+        ≡ piece_read ReadCount width arguments.now form.now }
     ensures there { IfSome result (IsThere form.now) }
 {
     form.read_count(number_at(arguments, 2, width).unwrap_or(0))
@@ -94,8 +97,8 @@ fn piece_byte<'a, A: Allocator + Copy>(
     }
 }
 
-// Of the value of `in`, which searches this text: what stands before it is the form's. Where the text is not found, the value
-// is the default argument.
+// Of the value of `in`, which searches this text: what stands before it is the form's. Where the text is not found, the
+// value is the default argument.
 fn until_byte<'a, A: Allocator + Copy>(
     form: &Form<A>,
     text: &[u8],
@@ -174,7 +177,8 @@ fn byte_from<'a, A: Allocator + Copy>(form: &Form<A>, first: usize, i: usize) ->
     Origin::OfForm(first + given.at)
 }
 
-// Of what `pf` prints of a form, after which the output ends: bytes are the form's, and marks made, as is the line before it.
+// Of what `pf` prints of a form, after which the output ends: bytes are the form's, and marks made,
+// as is the line before it.
 pub(crate) fn shown_byte<'a, A: Allocator + Copy>(
     form: &Form<A>,
     end: usize,
@@ -234,8 +238,8 @@ fn of_shown<'a>(item: Item, place: usize) -> Origin<'a>
     }
 }
 
-// Of an item of a form of this name that `ss` leaves: it stood where as many bytes stood before it, and a gap over a byte is
-// made.
+// Of an item of a form of this name that `ss` leaves: it stood where as many bytes stood before it,
+// and a gap over a byte is made.
 pub(crate) fn cut_item<'a, A: Allocator + Copy>(
     form: &Form<A>,
     name: &'a [u8],

@@ -8,7 +8,8 @@ use trac_text::front::front_at;
 
 // Where the first byte stands in the active text that the rule moves to the current text, where the rule moves any.
 pub(crate) fn first_moved_at(active: &[u8]) -> Option<usize>
-    ensures moves { MatchOption result (moves_bytes (front_of active.now) ≡ false) (λ n. (moves_bytes (front_of active.now) ≡ true) × (n ≡ first_moved (front_of active.now))) }
+    ensures moves { MatchOption result (moves_bytes (front_of active.now) ≡ false)
+        (λ n. (moves_bytes (front_of active.now) ≡ true) × (n ≡ first_moved (front_of active.now))) }
     ensures small { IfSome result (λ n. n ≤ 1) }
 {
     match front_at(active) {

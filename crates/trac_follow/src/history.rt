@@ -26,14 +26,14 @@ use trac_step::{Core, Mark};
 pub enum Source<'a> {
     /// Nothing stood at the place.
     Nothing,
-    /// All steps that were gone back over carried it; it stands at this place. There are no more steps, or as many were taken
-    /// as were wanted.
+    /// All steps that were gone back over carried it; it stands at this place. There are no more steps, or as
+    /// many were taken as were wanted.
     Here(Place<'a>),
-    /// All steps that were gone back over carried it; it stands at this place, and the call that comes next carried it from
-    /// there: from an argument of its own, or between a form and a block.
+    /// All steps that were gone back over carried it; it stands at this place, and the call that comes next carried it
+    /// from there: from an argument of its own, or between a form and a block.
     Passed(Place<'a>),
-    /// All steps that were gone back over carried it, the last of them from this item of the form that argument 1 of the call
-    /// that comes next names.
+    /// All steps that were gone back over carried it, the last of them from this item of the form that argument 1 of
+    /// the call that comes next names.
     OfForm(usize),
     /// The step that comes next read it, as the byte of this number of the tape.
     Read(usize),
@@ -50,10 +50,10 @@ pub struct Followed<'a> {
     pub source: Source<'a>,
 }
 
-/// Goes back over up to `most` steps, as long as these carried the byte at a place, or the item of a form: until one made or
-/// read it, has it from a form, or performs a call that passed it on. Bytes that moved one by one are passed at once, as
-/// `Session::back` passes them. It takes no memory, and says that nothing is there only where nothing stands at the place (this
-/// project's profile).
+/// Goes back over up to `most` steps, as long as these carried the byte at a place, or the item of a form: until
+/// one made or read it, has it from a form, or performs a call that passed it on. Bytes that moved one by one
+/// are passed at once, as `Session::back` passes them. It takes no memory, and says that nothing is there only
+/// where nothing stands at the place.
 pub fn follow<'a, A: Allocator + Copy>(
     session: &mut Session<A>,
     place: Place<'a>,
@@ -82,7 +82,8 @@ pub(crate) fn follow_from<'a, A: Allocator + Copy>(
 ) -> Followed<'a>
     ensures back { repeated Back result.steps session.old ≡ Some session.new }
     ensures most { result.steps ≤ most }
-    ensures followed { IsKnown width session.old (place_of place.entry) → IsFollowed session.old (place_of place.entry) most session.new result }
+    ensures followed { IsKnown width session.old (place_of place.entry) →
+        IsFollowed session.old (place_of place.entry) most session.new result }
 {
     let mut here = place;
     let mut measure = measured(session.machine(), place);
@@ -171,13 +172,14 @@ fn turned<'a, E: TwoEnds<u8, A>, M: TwoEnds<Mark, A>, A: Allocator + Copy>(
     }
 }
 
-// Of a place at which something stands: in a form, how many bytes the items before it stand for, and whether a gap stands there;
-// in the base text or in an argument, how many bytes of the neutral text stand before it.
+// Of a place at which something stands: in a form, how many bytes the items before it stand for, and whether a gap
+// stands there; in the base text or in an argument, how many bytes of the neutral text stand before it.
 fn measured<E: TwoEnds<u8, A>, M: TwoEnds<Mark, A>, A: Allocator + Copy>(
     machine: &Core<E, M, A>,
     place: Place<'_>,
 ) -> (usize, bool)
-    ensures { Stands machine.now.state (place_of place.entry) → IsPlaced result.0 result.1 machine.now.state (place_of place.entry) }
+    ensures { Stands machine.now.state (place_of place.entry) →
+        IsPlaced result.0 result.1 machine.now.state (place_of place.entry) }
 {
     match place {
         Place::Form(name, i) => measured_in(machine, name, i),
@@ -205,8 +207,8 @@ fn measured_in<E: TwoEnds<u8, A>, M: TwoEnds<Mark, A>, A: Allocator + Copy>(
     }
 }
 
-// Of a byte that the call which comes next carried here from there: whether it was from an argument of its own, into a form from
-// a block, or out of a form.
+// Of a byte that the call which comes next carried here from there: whether it was from an argument of its own, into a
+// form from a block, or out of a form.
 fn is_passed<E: TwoEnds<u8, A>, M: TwoEnds<Mark, A>, A: Allocator + Copy>(
     machine: &Core<E, M, A>,
     here: Place<'_>,

@@ -131,7 +131,8 @@ fn mark_len(ordinal: u32) -> usize
     b"<".len() + buffer.format(ordinal).len() + b">".len()
 }
 
-// How many bytes the items before this place stand for, and whether a gap stands there; nothing is told of a place past the end.
+// How many bytes the items before this place stand for, and whether a gap stands there; nothing is
+// told of a place past the end.
 pub(crate) fn item_measured<A: Allocator + Copy>(form: &Form<A>, place: usize) -> (usize, bool)
     ensures extent { place < length (all_items form.now) → result.0 ≡ extent (take place (all_items form.now)) }
     ensures gap { (item : Item) → slice_get (all_items form.now) place ≡ Some item → result.1 ≡ is_gap item }
@@ -162,8 +163,8 @@ pub(crate) fn extent_before<A: Allocator + Copy>(form: &Form<A>, place: usize) -
 
 // The item before which items stand that stand for so many bytes, and its place.
 pub(crate) fn item_after<A: Allocator + Copy>(form: &Form<A>, bytes: usize) -> Option<(usize, Item)>
-    ensures { MatchOption result ((n : ℕ) (item : Item) → slice_get (all_items form.now) n ≡ Some item → extent (take n (all_items form.now)) ≡ bytes → ⊥)
-        (λ found. IsAfter form.now bytes found.0 found.1) }
+    ensures { MatchOption result ((n : ℕ) (item : Item) → slice_get (all_items form.now) n ≡ Some item →
+        extent (take n (all_items form.now)) ≡ bytes → ⊥) (λ found. IsAfter form.now bytes found.0 found.1) }
 {
     let mut left = bytes;
     for place in 0..form.len() {

@@ -11,8 +11,8 @@ use std::marker::Model;
 use std::sync::ArcSlice;
 use trac_forms::Store;
 
-/// A name of up to so many bytes is copied where it is kept, and a longer one is shared (this project's profile). The store shares
-/// those of more than 256 bytes alone: so this may not be less.
+/// A name of up to so many bytes is copied where it is kept, and a longer one is shared. The store shares those of more
+/// than 256 bytes alone: so this may not be less.
 pub(crate) const SHORT_NAME: usize = 256;
 
 /// A place without the name of its form.
@@ -28,8 +28,8 @@ pub(crate) enum Nameless {
 
 /// A name of a form. To keep it takes no memory.
 ///
-/// `Lent`: that of the place where the trace begins, which the caller lends; or the empty name. `Short`: a copy, which stands here.
-/// `Shared`: a longer name, which this and the store both own.
+/// `Lent`: that of the place where the trace begins, which the caller lends; or the empty name. `Short`: a copy, which
+/// stands here. `Shared`: a longer name, which this and the store both own.
 #[derive(Drop)]
 pub(crate) enum KeptName<'n, A: Allocator + Copy> {
     Lent(&'n [u8]),
@@ -37,8 +37,8 @@ pub(crate) enum KeptName<'n, A: Allocator + Copy> {
     Shared(ArcSlice<u8, A>),
 }
 
-/// A place in a state that keeps the name of its form, where it is in one, or is lent it: it borrows nothing from the machine. It
-/// is seen as the place.
+/// A place in a state that keeps the name of its form, where it is in one, or is lent it: it borrows nothing from the
+/// machine. It is seen as the place.
 #[derive(Drop)]
 pub(crate) struct Kept<'n, A: Allocator + Copy> {
     pub(crate) spot: Nameless,
@@ -56,7 +56,8 @@ impl<'n, A: Allocator + Copy> Model for Kept<'n, A> {
 }
 
 impl<'n, A: Allocator + Copy> KeptName<'n, A> {
-    // This name. `None` where it has more than 256 bytes, and the store does not know it or no more owners of it can be counted.
+    // This name. `None` where it has more than 256 bytes, and the store does not know it or no more
+    // owners of it can be counted.
     fn of(store: &Store<A>, name: &[u8]) -> Option<Self>
         ensures same { IfSome result (λ kept. name_in kept ≡ name.now) }
         ensures long { IfNone result (SHORT_NAME < length name.now) }
@@ -93,8 +94,8 @@ impl<'n, A: Allocator + Copy> Kept<'n, A> {
         Kept { spot, name }
     }
 
-    /// This place in a state with this store. `None` where the name of its form cannot be kept, which has more than 256 bytes:
-    /// the store does not know it, or no more owners of it can be counted.
+    /// This place in a state with this store. `None` where the name of its form cannot be kept, which has more than 256
+    /// bytes: the store does not know it, or no more owners of it can be counted.
     pub(crate) fn of(store: &Store<A>, place: Place<'_>) -> Option<Self>
         ensures same { IfSome result (λ kept. kept ≡ place_of place.entry) }
         ensures long { IfNone result (IsLong (place_of place.entry)) }
@@ -104,8 +105,8 @@ impl<'n, A: Allocator + Copy> Kept<'n, A> {
         Some(Kept { spot, name })
     }
 
-    /// Goes to a place that is in no form. The name that is kept stays, and is not looked at: to move another one takes more time
-    /// than most legs of a trace.
+    /// Goes to a place that is in no form. The name that is kept stays, and is not looked at: to move another one takes
+    /// more time than most legs of a trace.
     pub(crate) fn go(&mut self, spot: Nameless)
         requires { IsFormless spot }
         ensures { self.new ≡ named spot [] }
@@ -123,7 +124,8 @@ impl<'n, A: Allocator + Copy> Kept<'n, A> {
 
 /// A place that is in no form; none just where it is in one, or in one of a block.
 pub(crate) fn formless(place: Place<'_>) -> Option<Nameless>
-    ensures { MatchOption result (is_in_storage (place_of place.entry) ≡ true) (λ spot. IsFormless spot × (named spot [] ≡ place_of place.entry)) }
+    ensures { MatchOption result (is_in_storage (place_of place.entry) ≡ true)
+        (λ spot. IsFormless spot × (named spot [] ≡ place_of place.entry)) }
 {
     match place {
         Place::Form(_, _) | Place::Held(_, _, _) => None,

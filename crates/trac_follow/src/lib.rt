@@ -1,4 +1,5 @@
-//! Following a byte back to the step that made it, or to the byte of the input that it is.
+//! Following a byte back to the step that made it, or to the byte of the input that it is. All of
+//! it is this project's profile.
 #![tactic(auto)]
 
 mod called;

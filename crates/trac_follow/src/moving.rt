@@ -16,15 +16,16 @@ use std::alloc::Allocator;
 use trac_gap::TwoEnds;
 use trac_step::{Core, Mark};
 
-// Where what stands at a place comes from, after a step by which scanning moves on and which leaves so much of the active
-// text.
+// Where what stands at a place comes from, after a step by which scanning moves on and which leaves
+// so much of the active text.
 pub(crate) fn moved<'a, E: TwoEnds<u8, A>, M: TwoEnds<Mark, A>, A: Allocator + Copy>(
     before: &Core<E, M, A>,
     left: usize,
     place: Place<'a>,
 ) -> Origin<'a>
-    ensures tells { (environment : Environment) (t : State) (item : Item) → step environment before.now.state ≡ Ok t → scan before.now.state ≡ Moves t → left ≡ length t.active →
-        found_at t (place_of place.entry) ≡ Some item → Tells before.now.state result (origin environment before.now.state (place_of place.entry)) }
+    ensures tells { (environment : Environment) (t : State) (item : Item) → step environment before.now.state ≡ Ok t →
+        scan before.now.state ≡ Moves t → left ≡ length t.active → found_at t (place_of place.entry) ≡ Some item →
+        Tells before.now.state result (origin environment before.now.state (place_of place.entry)) }
     ensures taken { IsTakenOut (place_of place.entry) result }
 {
     if let Place::Active(i) = place {
@@ -38,8 +39,8 @@ pub(crate) fn moved<'a, E: TwoEnds<u8, A>, M: TwoEnds<Mark, A>, A: Allocator + C
 
 // Of the active text that is left.
 fn left_over<'a>(active: &[u8], left: usize, i: usize) -> Origin<'a>
-    ensures tells { (environment : Environment) (s t : State) (item : Item) → step environment s ≡ Ok t → scan s ≡ Moves t → s.active ≡ active.now → left ≡ length t.active →
-        found_at t (InActive i) ≡ Some item →
+    ensures tells { (environment : Environment) (s t : State) (item : Item) → step environment s ≡ Ok t →
+        scan s ≡ Moves t → s.active ≡ active.now → left ≡ length t.active → found_at t (InActive i) ≡ Some item →
         Tells s result (origin environment s (InActive i)) }
     ensures taken { IsTakenOut (InActive i) result }
 {
@@ -62,8 +63,9 @@ fn gathered<'a, E: TwoEnds<u8, A>, M: TwoEnds<Mark, A>, A: Allocator + Copy>(
 ) -> Origin<'a>
     requires new { is_outside (place_of place) ≡ true }
     requires bare { IsBare before.now.state (place_of place) }
-    ensures tells { (environment : Environment) (t : State) (item : Item) → step environment before.now.state ≡ Ok t → scan before.now.state ≡ Moves t →
-        found_at t (place_of place.entry) ≡ Some item → Tells before.now.state result (origin environment before.now.state (place_of place.entry)) }
+    ensures tells { (environment : Environment) (t : State) (item : Item) → step environment before.now.state ≡ Ok t →
+        scan before.now.state ≡ Moves t → found_at t (place_of place.entry) ≡ Some item →
+        Tells before.now.state result (origin environment before.now.state (place_of place.entry)) }
     ensures taken { IsTakenOut (place_of place.entry) result }
 {
     let Some(first) = first_moved_at(before.active()) else {

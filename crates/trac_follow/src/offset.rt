@@ -19,7 +19,8 @@ pub(crate) fn argument_offset<E: TwoEnds<u8, A>, M: TwoEnds<Mark, A>, A: Allocat
     argument: usize,
     byte: usize,
 ) -> usize
-    ensures { Stands machine.now.state (InArgument function argument byte) → result ≡ offset machine.now.state (InArgument function argument byte) }
+    ensures { Stands machine.now.state (InArgument function argument byte) →
+        result ≡ offset machine.now.state (InArgument function argument byte) }
 {
     match machine.frame(function) {
         Some((_, arguments)) => {
@@ -32,8 +33,8 @@ pub(crate) fn argument_offset<E: TwoEnds<u8, A>, M: TwoEnds<Mark, A>, A: Allocat
     }
 }
 
-// How many bytes the arguments of the functions from this number on hold, counted from the outermost; the one of this number has
-// these. Where it is the innermost no other one is looked at.
+// How many bytes the arguments of the functions from this number on hold, counted from the outermost; the one of this
+// number has these. Where it is the innermost no other one is looked at.
 fn bytes_from<E: TwoEnds<u8, A>, M: TwoEnds<Mark, A>, A: Allocator + Copy>(
     machine: &Core<E, M, A>,
     function: usize,

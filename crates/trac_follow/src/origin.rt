@@ -10,11 +10,12 @@ use trac_rules::width::Width;
 use trac_session::Machine;
 use trac_step::{Core, Mark};
 
-/// Where what stands at a place comes from after the next step of a machine, whose numbers are of this width, if that step
-/// leaves texts of these lengths: for any input the origin that the definitions of `trac_origins` say, of whatever stands
-/// there. Of a step after which 2^64 bytes or more are read nothing is promised; no machine counts so many. It takes no memory;
-/// and time for the begun functions, for the arguments of the call, for the form that is named, where the call fetches a block
-/// for each block and the forms of that one, and where it lists names for each of them with each.
+/// Where what stands at a place comes from after the next step of a machine, whose numbers are of this width, if
+/// that step leaves texts of these lengths: for any input the origin that the definitions of `trac_origins` say,
+/// of whatever stands there. Of a step after which 2^64 bytes or more are read nothing is promised; no machine
+/// counts so many. It takes no memory; and time for the begun functions, for the arguments of the call, for the
+/// form that is named, where the call fetches a block for each block and the forms of that one, and where it lists
+/// names for each of them with each.
 pub fn origin_of<'a, A: Allocator + Copy>(
     before: &Machine<A>,
     width: Width,

@@ -27,8 +27,8 @@ pub enum Place<'a> {
 pub enum Origin<'a> {
     /// It stood at this place. That is a form only where it stands in a form or a block after the step.
     Carried(Place<'a>),
-    /// It is this item of the form that argument 1 of the call names which the step performs. It stands in no form and no block
-    /// after the step.
+    /// It is this item of the form that argument 1 of the call names which the step performs. It stands in no
+    /// form and no block after the step.
     OfForm(usize),
     /// It is the byte of this number of the tape, which the step read.
     Read(usize),
@@ -38,7 +38,8 @@ pub enum Origin<'a> {
     Nothing,
 }
 
-/// What is told of the state after a step: how long texts are, and of a place in a form what stands before it and there.
+/// What is told of the state after a step: how long texts are, and of a place in a form what stands
+/// before it and there.
 #[derive(Clone, Copy)]
 pub struct After {
     /// How long the active text is.

@@ -1,5 +1,6 @@
 //! Steps back over which a byte is followed without a look at where it comes from.
-ghost use Rattle.std.specs.Prelude.{◌≡◌, ◌+◌, ◌-◌, ◌<◌, ◌≤◌, if◌then◌else◌, length, nat_lt, Bool, IfSome, IsTrue, None, Some, ℕ};
+ghost use Rattle.std.specs.Prelude.{◌≡◌, ◌+◌, ◌-◌, ◌<◌, ◌≤◌, if◌then◌else◌, length, nat_lt, Bool, IfSome, IsTrue, None};
+ghost use Rattle.std.specs.Prelude.{Some, ℕ};
 ghost use Rattle.trac_follow.specs.Offsets.{IsPlaced, bytes_left};
 ghost use Rattle.trac_follow.specs.Places.{place_of};
 ghost use Rattle.trac_follow.specs.Running.{CameFrom, StaysAt};
@@ -19,15 +20,18 @@ use trac_step::{Core, Mark};
 
 // ---- runs of bytes that moved one by one
 
-// Where what stands at a place after so many bytes moved stood before them, in this machine; so much is known of the place.
+// Where what stands at a place after so many bytes moved stood before them, in this machine; so
+// much is known of the place.
 pub(crate) fn before_run<'a, E: TwoEnds<u8, A>, M: TwoEnds<Mark, A>, A: Allocator + Copy>(
     before: &Core<E, M, A>,
     count: u64,
     measure: (usize, bool),
     place: Place<'a>,
 ) -> Place<'a>
-    ensures { (item : Item) → count ≤ length before.now.state.active → found_at (moved_on count before.now.state) (place_of place.entry) ≡ Some item →
-        IsPlaced measure.0 measure.1 (moved_on count before.now.state) (place_of place.entry) → place_of result ≡ before_moved count before.now.state (place_of place.entry) }
+    ensures { (item : Item) → count ≤ length before.now.state.active →
+        found_at (moved_on count before.now.state) (place_of place.entry) ≡ Some item →
+        IsPlaced measure.0 measure.1 (moved_on count before.now.state) (place_of place.entry) →
+        place_of result ≡ before_moved count before.now.state (place_of place.entry) }
 {
     match place {
         Place::Active(i) => Place::Active(further_on(before.active(), count, i)),
@@ -77,8 +81,8 @@ fn past_end(len: usize, i: usize) -> Option<usize>
 
 // ---- steps that leave the rest of the active text
 
-// Where a byte of the active text stood before the next step of a machine, after which that text is so long: as far from its end,
-// where the step did not put it there.
+// Where a byte of the active text stood before the next step of a machine, after which that text is so long: as far
+// from its end, where the step did not put it there.
 pub(crate) fn before_in_active<'a, E: TwoEnds<u8, A>, M: TwoEnds<Mark, A>, A: Allocator + Copy>(
     before: &Core<E, M, A>,
     left: usize,
@@ -93,8 +97,8 @@ pub(crate) fn before_in_active<'a, E: TwoEnds<u8, A>, M: TwoEnds<Mark, A>, A: Al
     Some(Place::Active(byte))
 }
 
-// Which byte of so many is as far from the end as this one of others is from theirs; none where it would be the first, which the
-// step takes, or where there is none.
+// Which byte of so many is as far from the end as this one of others is from theirs; none where it would be the first,
+// which the step takes, or where there is none.
 fn as_far_from_end(len: usize, other_len: usize, i: usize) -> Option<usize>
     ensures { IfSome result (λ j. (j + other_len ≡ len + i) × (0 < j)) }
 {
@@ -110,8 +114,8 @@ fn as_far_from_end(len: usize, other_len: usize, i: usize) -> Option<usize>
 
 // ---- steps that leave what they do not act on
 
-// Whether it is told at once that what stands at a place after the next step of a machine, of which so much is known then, stood
-// there before it, in a form or in a text that held what it holds then.
+// Whether it is told at once that what stands at a place after the next step of a machine, of which so much is known
+// then, stood there before it, in a form or in a text that held what it holds then.
 pub(crate) fn stays<E: TwoEnds<u8, A>, M: TwoEnds<Mark, A>, A: Allocator + Copy>(
     before: &Core<E, M, A>,
     measure: (usize, bool),

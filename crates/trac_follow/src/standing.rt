@@ -31,8 +31,10 @@ pub(crate) fn stands_elsewhere<E: TwoEnds<u8, A>, M: TwoEnds<Mark, A>, A: Alloca
     machine: &Core<E, M, A>,
     place: Place<'_>,
 ) -> bool
-    ensures there { IsTrue result → Stands machine.now.state (place_of place.entry) × (is_outside (place_of place.entry) ≡ true) }
-    ensures bare { result ≡ false → is_outside (place_of place.entry) ≡ true → IsBare machine.now.state (place_of place.entry) }
+    ensures there { IsTrue result →
+        Stands machine.now.state (place_of place.entry) × (is_outside (place_of place.entry) ≡ true) }
+    ensures bare { result ≡ false → is_outside (place_of place.entry) ≡ true →
+        IsBare machine.now.state (place_of place.entry) }
 {
     match place {
         Place::Base(i) => has_byte(machine.base(), i),
@@ -54,8 +56,10 @@ pub(crate) fn stands_around<E: TwoEnds<u8, A>, M: TwoEnds<Mark, A>, A: Allocator
     function: usize,
     place: Place<'_>,
 ) -> bool
-    ensures there { IsTrue result → Stands machine.now.state (place_of place.entry) × ((is_of_text (place_of place.entry) ≡ true) × IsOutside function (place_of place.entry)) }
-    ensures bare { result ≡ false → is_in_text (place_of place.entry) ≡ true → IsOutside function (place_of place.entry) → IsBare machine.now.state (place_of place.entry) }
+    ensures there { IsTrue result → Stands machine.now.state (place_of place.entry)
+        × ((is_of_text (place_of place.entry) ≡ true) × IsOutside function (place_of place.entry)) }
+    ensures bare { result ≡ false → is_in_text (place_of place.entry) ≡ true →
+        IsOutside function (place_of place.entry) → IsBare machine.now.state (place_of place.entry) }
 {
     match place {
         Place::Base(i) => has_byte(machine.base(), i),
@@ -125,8 +129,10 @@ fn stands_in_block<E: TwoEnds<u8, A>, M: TwoEnds<Mark, A>, A: Allocator + Copy>(
 
 // The same, of this block.
 fn holds_item<A: Allocator + Copy>(block: &Block<A>, name: &[u8], i: usize) -> bool
-    ensures there { IsTrue result → (item : Item) × (slice_get (items_of (held_form name.now (Some block.now.held))) i ≡ Some item) }
-    ensures bare { result ≡ false → (item : Item) → slice_get (items_of (held_form name.now (Some block.now.held))) i ≡ Some item → ⊥ }
+    ensures there { IsTrue result →
+        (item : Item) × (slice_get (items_of (held_form name.now (Some block.now.held))) i ≡ Some item) }
+    ensures bare { result ≡ false → (item : Item) →
+        slice_get (items_of (held_form name.now (Some block.now.held))) i ≡ Some item → ⊥ }
 {
     match held_in(block, name) {
         Some(form) => form.item(i).is_some(),
@@ -140,8 +146,9 @@ pub(crate) fn past_current<E: TwoEnds<u8, A>, M: TwoEnds<Mark, A>, A: Allocator 
     depth: usize,
     place: Place<'_>,
 ) -> usize
-    ensures { (n : ℕ) → place_of place.entry ≡ in_current (drop (length machine.now.state.frames - depth) machine.now.state.frames)
-        (length (current_text (drop (length machine.now.state.frames - depth) machine.now.state.frames) machine.now.state) + n) → result ≡ n }
+    ensures { (n : ℕ) → place_of place.entry
+        ≡ in_current (drop (length machine.now.state.frames - depth) machine.now.state.frames) (length (current_text
+        (drop (length machine.now.state.frames - depth) machine.now.state.frames) machine.now.state) + n) → result ≡ n }
 {
     match place {
         Place::Base(i) => i.saturating_sub(machine.base().len()),
@@ -161,8 +168,9 @@ fn past_argument<E: TwoEnds<u8, A>, M: TwoEnds<Mark, A>, A: Allocator + Copy>(
     argument: usize,
     byte: usize,
 ) -> usize
-    ensures { (depth n : ℕ) → InArgument function argument byte ≡ in_current (drop (length machine.now.state.frames - depth) machine.now.state.frames)
-        (length (current_text (drop (length machine.now.state.frames - depth) machine.now.state.frames) machine.now.state) + n) → result ≡ n }
+    ensures { (depth n : ℕ) → InArgument function argument byte
+        ≡ in_current (drop (length machine.now.state.frames - depth) machine.now.state.frames) (length (current_text
+        (drop (length machine.now.state.frames - depth) machine.now.state.frames) machine.now.state) + n) → result ≡ n }
 {
     match machine.frame(function) {
         Some((_, arguments)) => byte.saturating_sub(arguments.get(argument).len()),

@@ -5,7 +5,8 @@ ghost use Rattle.trac_follow.specs.Following.{IsFollowed, IsKnown};
 ghost use Rattle.trac_follow.specs.Kept.{IsFormless, named};
 ghost use Rattle.trac_follow.specs.Passing.{Passing};
 ghost use Rattle.trac_follow.specs.Places.{place_of};
-ghost use Rattle.trac_follow.specs.Tracing.{EndsAs, IsOfStorage, IsTold, IsTraced, LeadsTo, LeadsToLong, source_of, way_of};
+ghost use Rattle.trac_follow.specs.Tracing.{EndsAs, IsOfStorage, IsTold, IsTraced, LeadsTo, LeadsToLong, source_of};
+ghost use Rattle.trac_follow.specs.Tracing.{way_of};
 ghost use Rattle.trac_rules.specs.Session.{Back, repeated};
 ghost use Rattle.trac_rules.specs.State.{State};
 
@@ -19,24 +20,26 @@ use trac_session::{Machine, Session};
 
 /// Who is told of the calls on the way of a byte.
 pub trait Witness<A: Allocator + Copy> {
-    // `passes` ties the witness before it is told of a call to the witness after; `refuses` does so where it refuses. A witness that
-    // gives neither promises nothing.
+    // `passes` ties the witness before it is told of a call to the witness after; `refuses` does so where it refuses. A
+    // witness that gives neither promises nothing.
     ghost passes: { Self → Passing → Self → Type 0 } = { λ _ _ _. ⊤ };
 
     ghost refuses: { Self → Passing → Self → Type 0 } = { λ _ _ _. ⊤ };
 
-    /// Told of a call that passed the byte on, the latest first: the machine performs it next, so many steps before the state in
-    /// which it is traced. The byte is followed back there from this place: the one where the trace begins, and later the one from
-    /// which the call that was told of last had it. The error is that the witness refuses to be told, for any reason of its own; it
-    /// ends the trace.
+    /// Told of a call that passed the byte on, the latest first: the machine performs it next, so many steps before the
+    /// state in which it is traced. The byte is followed back there from this place: the one where the trace begins,
+    /// and later the one from which the call that was told of last had it. The error is that the witness refuses to be
+    /// told, for any reason of its own; it ends the trace.
     fn passed(
         &mut self,
         machine: &Machine<A>,
         steps: u64,
         from: Place<'_>,
     ) -> Result<(), AllocError>
-        ensures ok { OnOk result (passes self.old (record { state = machine.now.state; steps = steps; from = place_of from.entry }) self.new) }
-        ensures err { OnErr result (refuses self.old (record { state = machine.now.state; steps = steps; from = place_of from.entry }) self.new) };
+        ensures ok { OnOk result (passes self.old
+            (record { state = machine.now.state; steps = steps; from = place_of from.entry }) self.new) }
+        ensures err { OnErr result (refuses self.old
+            (record { state = machine.now.state; steps = steps; from = place_of from.entry }) self.new) };
 }
 
 /// Where a byte comes from.
@@ -50,9 +53,9 @@ pub enum End {
     Read(usize),
     /// The step that comes next made it.
     Made,
-    /// All steps that were gone back over carried it, and the call that comes next passed it on, out of a form or of one in a
-    /// block. That form has a name of more than 256 bytes, which could not be kept: the store does not know it, as it may of a
-    /// block's, or no more owners of it can be counted. The witness was told of the call.
+    /// All steps that were gone back over carried it, and the call that comes next passed it on, out of a form or of
+    /// one in a block. That form has a name of more than 256 bytes, which could not be kept: the store does not know
+    /// it, as it may of a block's, or no more owners of it can be counted. The witness was told of the call.
     Unkept,
     /// All steps that were gone back over carried it, and the witness refused to be told of the call that comes next.
     Untold,
@@ -67,12 +70,12 @@ pub struct Traced {
     pub end: End,
 }
 
-/// Goes back over up to `most` steps, as long as these carried the byte at a place, or the item of a form, however they did:
-/// until one made or read it. A witness is told of each call that passed it on, as `follow` stops at it, and of no other. It
-/// takes no memory but what the witness takes: the name of a form from which a call passed the byte on is copied into the frame
-/// of `trace`, or, where it has more than 256 bytes, shared: `trace` and the store both own it. Where it cannot be kept, or the
-/// witness refuses, that is returned, and the session stays where it has come to. It says that nothing is there only where
-/// nothing stands at the place (this project's profile).
+/// Goes back over up to `most` steps, as long as these carried the byte at a place, or the item of a form, however they
+/// did: until one made or read it. A witness is told of each call that passed it on, as `follow` stops at it, and of no
+/// other. It takes no memory but what the witness takes: the name of a form from which a call passed the byte on is
+/// copied into the frame of `trace`, or, where it has more than 256 bytes, shared: `trace` and the store both own it.
+/// Where it cannot be kept, or the witness refuses, that is returned, and the session stays where it has come to. It
+/// says that nothing is there only where nothing stands at the place.
 pub fn trace<A: Allocator + Copy, W: Witness<A>>(
     session: &mut Session<A>,
     place: Place<'_>,
@@ -82,7 +85,8 @@ pub fn trace<A: Allocator + Copy, W: Witness<A>>(
     ensures back { repeated Back result.steps session.old ≡ Some session.new }
     ensures most { result.steps ≤ most }
     ensures traced { IsTraced session.old (place_of place.entry) most session.new result }
-    ensures told { IsTold W.passes W.refuses (way_of session.old (place_of place.entry) result.steps) result.steps result.end witness.old witness.new }
+    ensures told { IsTold W.passes W.refuses (way_of session.old (place_of place.entry) result.steps) result.steps
+        result.end witness.old witness.new }
 {
     if !stands(session.machine(), place) {
         return ended(0, End::Nothing);
@@ -157,10 +161,11 @@ fn had_from<'a>(source: Source<'a>) -> Result<Onward<'a>, End>
     }
 }
 
-// The place from which the call that comes next had a byte, where that is in no form; none just where it is in one, or in one of
-// a block.
+// The place from which the call that comes next had a byte, where that is in no form; none just where it
+// is in one, or in one of a block.
 fn formless_from(from: Onward<'_>) -> Option<Nameless>
-    ensures { MatchOption result (IsOfStorage from.entry) (λ spot. IsFormless spot × ((s : State) → LeadsTo s from.entry (named spot []))) }
+    ensures { MatchOption result (IsOfStorage from.entry)
+        (λ spot. IsFormless spot × ((s : State) → LeadsTo s from.entry (named spot []))) }
 {
     match from {
         Onward::At(there) => formless(there),
@@ -168,8 +173,8 @@ fn formless_from(from: Onward<'_>) -> Option<Nameless>
     }
 }
 
-// The place from which the call that comes next had a byte. `None` where the name of its form cannot be kept, which has more than
-// 256 bytes.
+// The place from which the call that comes next had a byte. `None` where the name of its form cannot be kept,
+// which has more than 256 bytes.
 fn further<'n, A: Allocator + Copy>(machine: &Machine<A>, from: Onward<'_>) -> Option<Kept<'n, A>>
     ensures leads { IfSome result (λ kept. LeadsTo machine.now.state from.entry kept) }
     ensures long { IfNone result (LeadsToLong machine.now.state from.entry) }
@@ -180,8 +185,8 @@ fn further<'n, A: Allocator + Copy>(machine: &Machine<A>, from: Onward<'_>) -> O
     }
 }
 
-// This item of the form that the call which comes next names. A call took the item out of a form, so one comes next: so `None`
-// says that the name cannot be kept, as by `further`.
+// This item of the form that the call which comes next names. A call took the item out of a form, so one comes next: so
+// `None` says that the name cannot be kept, as by `further`.
 fn item_called<'n, A: Allocator + Copy>(machine: &Machine<A>, item: usize) -> Option<Kept<'n, A>>
     ensures leads { IfSome result (λ kept. LeadsTo machine.now.state (OfForm item) kept) }
     ensures long { IfNone result (LeadsToLong machine.now.state (OfForm item)) }

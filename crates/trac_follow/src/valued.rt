@@ -23,8 +23,8 @@ use trac_rules::primitive::{Computation, FormAction, Operation, Primitive};
 use trac_rules::width::Width;
 use trac_step::{Core, Mark};
 
-// Where byte `i` of the value comes from that the next step gives, which performs this call. Of a value that is scanned its
-// length is `seen`. The call's function has the number `function`.
+// Where byte `i` of the value comes from that the next step gives, which performs this call. Of a value that is scanned
+// its length is `seen`. The call's function has the number `function`.
 pub(crate) fn value_byte<'a, E: TwoEnds<u8, A>, M: TwoEnds<Mark, A>, A: Allocator + Copy>(
     before: &Core<E, M, A>,
     kind: Kind,
@@ -197,8 +197,8 @@ fn has_greater(arguments: &Args<'_>) -> bool
 
 // ---- numbers
 
-// Of `ad`, `su`, `ml` or `dv`: the prefix is that of the first number, and the digits are made; where there is no result, of
-// the default argument.
+// Of `ad`, `su`, `ml` or `dv`: the prefix is that of the first number, and the digits are made; where there is no
+// result, of the default argument.
 fn calculated_byte<'a>(
     operation: Operation,
     arguments: &Args<'_>,

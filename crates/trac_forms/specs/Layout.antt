@@ -1,5 +1,5 @@
--- How a form is kept: its items as two lists, before and after the pointer, and a text right after the pointer. And what that says of each
--- form.
+-- How a form is kept: its items as two lists, before and after the pointer, and a text right after the pointer.
+-- And what that says of each form.
 use Rattle.std.specs.Prelude.{◌≡◌, ◌⊎◌, ◌≤◌, ◌++◌, List, [], ℕ}
 use Rattle.std.specs.List.{All}
 use Rattle.trac_gap.specs.Ends.{Ends}
@@ -19,7 +19,8 @@ with_text text items = record items { right = as_items text ++ items.right }
 abbrev pub IsEither : List ℕ → List Item → Type 0
 IsEither text items = (text ≡ []) ⊎ (items ≡ [])
 
--- what is true of every form of the code: it stands for no more bytes than a form may, and each of its items for one at least
+-- what is true of every form of the code: it stands for no more bytes than a form may, and each of
+-- its items for one at least
 pub record IsSound (form : Form) : Type 0 where
   pub within : extent (all_items form) ≤ FORM_LIMIT
   pub wide : All IsWide (all_items form)

@@ -23,7 +23,8 @@ pub record IsListed (names : List (List ℕ)) (text i byte : ℕ) : Type 0 where
 -- how long those of the names are together that are less than this one
 abbrev pub lesser_len : ℕ → List ℕ → List (List ℕ) → ℕ
 lesser_len text name [] = 0
-lesser_len text name (other ∷ others) = (if is_lt (slice_cmp nat_cmp other name) then text + length other else 0) + lesser_len text name others
+lesser_len text name (other ∷ others) =
+    (if is_lt (slice_cmp nat_cmp other name) then text + length other else 0) + lesser_len text name others
 
 -- the byte is of this name's text and name, after those of the lesser ones
 pub record IsHit (text i : ℕ) (names : List (List ℕ)) (byte : ℕ) : Type 0 where

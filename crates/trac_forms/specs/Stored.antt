@@ -32,8 +32,8 @@ gathered_code =
     code_by (Held × ℕ) (coded× (coded_list (coded× text_code form_code)) coded_ℕ)
     (λ b. (b.held, b.room)) (λ p. record { held = p.0; room = p.1 }) (λ _. refl)
 
--- the forms by their names, the blocks, how many more of them have a place without memory, and the names that have a place, with a
--- form or without one
+-- the forms by their names, the blocks, how many more of them have a place without memory, and the names that have a
+-- place, with a form or without one
 pub record Stored : Type 0 where
   pub forms : Forms
   pub blocks : List Block
@@ -42,9 +42,10 @@ pub record Stored : Type 0 where
 
 -- the code of what a store holds, by which a proof tells two of them apart
 abbrev pub stored_code : Coded Stored
-stored_code =
-    code_by (Forms × (List Block × (ℕ × Names))) (coded× forms_code (coded× (coded_list block_code) (coded× coded_ℕ (set.code text_code))))
-    (λ s. (s.forms, (s.blocks, (s.spare, s.known)))) (λ p. record { forms = p.0; blocks = p.1.0; spare = p.1.1.0; known = p.1.1.1 }) (λ _. refl)
+stored_code = code_by (Forms × (List Block × (ℕ × Names)))
+    (coded× forms_code (coded× (coded_list block_code) (coded× coded_ℕ (set.code text_code))))
+    (λ s. (s.forms, (s.blocks, (s.spare, s.known))))
+    (λ p. record { forms = p.0; blocks = p.1.0; spare = p.1.1.0; known = p.1.1.1 }) (λ _. refl)
 
 -- no form, no block, and no name
 abbrev pub nothing_stored : Stored

@@ -1,5 +1,6 @@
 -- How a store is kept: a table with an entry for each known name, which has a form or none.
-use Rattle.std.specs.Prelude.{◌≡◌, ℕ, ◌-◌, nat_lt, slice_index_or, List, [], ◌∷◌, map, Option, None, Some, filter, is_some, option_map, Vec, vec_capacity, vec_len}
+use Rattle.std.specs.Prelude.{◌≡◌, ℕ, ◌-◌, nat_lt, slice_index_or, List, [], ◌∷◌, map, Option, None, Some, filter}
+use Rattle.std.specs.Prelude.{is_some, option_map, Vec, vec_capacity, vec_len}
 use Rattle.std.specs.FinMap as finite
 use Rattle.std.specs.FinSet as set
 use Rattle.std.specs.Map.{keys_of, values_of}
@@ -15,8 +16,8 @@ named name entries = map (λ e. (name e.0, e.1)) entries
 abbrev pub full_keys : List (List ℕ × Option Form) → List (List ℕ)
 full_keys entries = keys_of (filter (λ e. is_some e.1) entries)
 
--- the forms of a table, with an entry before the others: where a name stands twice its first entry counts, and one without a form
--- takes the name's form away
+-- the forms of a table, with an entry before the others: where a name stands twice its first entry counts, and one
+-- without a form takes the name's form away
 abbrev pub with_entry : List ℕ → Option Form → Forms → Forms
 with_entry name None forms = finite.remove forms name
 with_entry name (Some form) forms = finite.insert forms name form
@@ -47,7 +48,8 @@ kept_in blocks = record { blocks = blocks_of blocks.items; spare = places_left b
 
 -- what a table of these entries holds, beside these blocks
 abbrev pub stored : List (List ℕ × Option Form) → Kept → Stored
-stored entries kept = record { forms = forms_of entries; blocks = kept.blocks; spare = kept.spare; known = known_of entries }
+stored entries kept =
+    record { forms = forms_of entries; blocks = kept.blocks; spare = kept.spare; known = known_of entries }
 
 -- the first `live` entries have a value, and no other has
 abbrev pub IsParted : {K X : Type 0} → List (K × Option X) → ℕ → Type 0

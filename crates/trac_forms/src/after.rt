@@ -7,8 +7,8 @@ use crate::byte_runs::run_len;
 use crate::packed::PackedItem;
 use std::marker::Model;
 
-/// The items after the pointer of a form: the bytes of a text that is kept as one, or items that are kept as such. It is seen
-/// as the list of these items.
+/// The items after the pointer of a form: the bytes of a text that is kept as one, or items that are kept as such. It
+/// is seen as the list of these items.
 #[derive(Drop)]
 pub(crate) struct After<'a> {
     /// The bytes, where these are all that there is; else empty.
@@ -47,7 +47,8 @@ impl<'a> After<'a> {
         self.items.get(i - self.text.len()).copied()
     }
 
-    /// How many items from one number on, up to another, stand before the first gap among them; all where there is none.
+    /// How many items from one number on, up to another, stand before the first gap among them; all
+    /// where there is none.
     pub(crate) fn run_len(&self, from: usize, to: usize) -> usize
         requires order { from ≤ to }
         requires within { to ≤ length self.now }

@@ -1,6 +1,7 @@
-//! Blocks: forms that were put aside together, with their names. Only the room of a block takes memory, and that when the
-//! block is made (this project's profile).
-ghost use Rattle.std.specs.Prelude.{◌≡◌, ◌-◌, ◌==◌, ◌<◌, ◌≤◌, ◌++◌, ◌∷◌, [], false, length, slice_get, IfOk, IsOkUnless, MatchOption, Some};
+//! Blocks: forms that were put aside together, with their names. Only the room of a block takes memory,
+//! and that when the block is made.
+ghost use Rattle.std.specs.Prelude.{◌≡◌, ◌-◌, ◌==◌, ◌<◌, ◌≤◌, ◌++◌, ◌∷◌, [], false, length, slice_get, IfOk};
+ghost use Rattle.std.specs.Prelude.{IsOkUnless, MatchOption, Some};
 ghost use Rattle.std.specs.List.{list_any};
 ghost use Rattle.std.specs.Str.{bytes_eq};
 ghost use Rattle.trac_forms.specs.Stored.{AreApart};
@@ -10,8 +11,8 @@ use crate::form::Form;
 use std::alloc::{Allocator, Global};
 use std::marker::Model;
 
-/// Forms with their names, in the order in which they came into the block. It is seen as the list of these pairs, and beside
-/// it the number of spare places, by which more can come in without memory. No name stands twice in it.
+/// Forms with their names, in the order in which they came into the block. It is seen as the list of these pairs, and
+/// beside it the number of spare places, by which more can come in without memory. No name stands twice in it.
 #[derive(Drop)]
 pub struct Block<A: Allocator + Copy = Global> {
     pub(crate) entries: Vec<(Vec<u8, A>, Form<A>), A>,
@@ -31,8 +32,7 @@ impl<A: Allocator + Copy> Model for Block<A> {
 }
 
 impl<A: Allocator + Copy> Block<A> {
-    /// A block of no forms, with spare places for at least `n` (this project's profile).
-    /// Refused with `Memory` where the allocator refuses.
+    /// A block of no forms, with spare places for at least `n`. Refused with `Memory` where the allocator refuses.
     pub fn with_room(alloc: A, n: usize) -> Result<Self, FormError>
         ensures none { IfOk result (λ b. b.held ≡ []) }
         ensures room { IfOk result (λ b. n ≤ b.room) }
@@ -60,7 +60,8 @@ impl<A: Allocator + Copy> Block<A> {
 
     /// The form of this number, from 0 on, in the block's order, and its name; `None` past the last.
     pub fn get(&self, i: usize) -> Option<(&[u8], &Form<A>)>
-        ensures { MatchOption result (length self.now.held ≤ i) (λ entry. slice_get self.now.held i ≡ Some (entry.0.now, entry.1.now)) }
+        ensures { MatchOption result (length self.now.held ≤ i)
+            (λ entry. slice_get self.now.held i ≡ Some (entry.0.now, entry.1.now)) }
     {
         let (name, form) = self.entries.get(i)?;
         Some((name.as_slice(), form))
@@ -77,9 +78,10 @@ impl<A: Allocator + Copy> Block<A> {
     }
 
     /// Takes the last form away with its name, and returns both; `None` where the block holds no forms. It takes no
-    /// spare place (this project's profile).
+    /// spare place.
     pub fn pop(&mut self) -> Option<(Vec<u8, A>, Form<A>)>
-        ensures last { MatchOption result ((self.old.held ≡ []) × (self.new.held ≡ [])) (λ entry. self.old.held ≡ self.new.held ++ (entry.0.items, entry.1) ∷ []) }
+        ensures last { MatchOption result ((self.old.held ≡ []) × (self.new.held ≡ []))
+            (λ entry. self.old.held ≡ self.new.held ++ (entry.0.items, entry.1) ∷ []) }
         ensures room { self.old.room ≤ self.new.room }
     {
         self.entries.pop()

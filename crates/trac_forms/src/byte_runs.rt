@@ -14,8 +14,8 @@ use trac_gap::TwoEnds;
 // How many items are looked at together, so that there is no jump for each, or unpacked together at the end of a run.
 const GROUP: usize = 8;
 
-// How many are looked at, packed or unpacked together where there are so many, so that there is neither a jump nor a call for
-// each.
+// How many are looked at, packed or unpacked together where there are so many, so that there is
+// neither a jump nor a call for each.
 const CHUNK: usize = 32;
 
 // How many items there are up to the first gap, or all where there is none.
@@ -44,8 +44,8 @@ pub(crate) fn run_len(items: &[PackedItem]) -> usize
     run
 }
 
-// The same from a place on before which there is no gap, as far as there is none in a whole chunk. It is called once for a
-// long run, and kept out of the way of the short ones.
+// The same from a place on before which there is no gap, as far as there is none in a whole chunk. It is called once
+// for a long run, and kept out of the way of the short ones.
 #[inline(never)]
 fn far_run_len(items: &[PackedItem], from: usize) -> usize
     requires within { from ≤ length items.now }

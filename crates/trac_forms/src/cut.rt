@@ -1,5 +1,6 @@
 //! What segmenting cuts: the gaps that it makes, kept so that they can be filled again.
-ghost use Rattle.std.specs.Prelude.{◌≡◌, ◌+◌, ◌++◌, ◌<◌, ◌≤◌, ◌∷◌, [], length, take, drop, is_some, option_map, Some, IfOk, IfSome, IsOkUnless, IsTrue};
+ghost use Rattle.std.specs.Prelude.{◌≡◌, ◌+◌, ◌++◌, ◌<◌, ◌≤◌, ◌∷◌, [], length, take, drop, is_some, option_map, Some};
+ghost use Rattle.std.specs.Prelude.{IfOk, IfSome, IsOkUnless, IsTrue};
 ghost use Rattle.std.specs.List.{All};
 ghost use Rattle.trac_gap.specs.Ends.{item_count};
 ghost use Rattle.trac_rules.specs.Cuts.{begins_with_gap, cut_between, cut_of, joined};
@@ -23,8 +24,9 @@ use trac_gap::TwoEnds;
 use trac_rules::item::{CutGap, Item};
 use trac_rules::limit::{FORM_LIMIT, MARK_LIMIT};
 
-/// The gaps that segmenting makes in a form, at rising places: how many items stand before each in the segmented form, and
-/// its ordinal. With the texts that were cut out it says what the form was before. It is seen as the list of these gaps.
+/// The gaps that segmenting makes in a form, at rising places: how many items stand before each in the
+/// segmented form, and its ordinal. With the texts that were cut out it says what the form was before. It is
+/// seen as the list of these gaps.
 #[derive(Drop)]
 pub struct Cut<A: Allocator + Copy = Global> {
     gaps: Vec<CutGap, A>,
@@ -40,7 +42,7 @@ impl<A: Allocator + Copy> Model for Cut<A> {
 }
 
 impl<A: Allocator + Copy> Cut<A> {
-    /// The gaps, one after another. It takes no memory (this project's profile).
+    /// The gaps, one after another. It takes no memory.
     pub fn gaps(&self) -> &[CutGap]
         ensures { result.now ≡ self.now }
     {
@@ -49,8 +51,8 @@ impl<A: Allocator + Copy> Cut<A> {
 }
 
 impl<A: Allocator + Copy> Form<A> {
-    /// What segmenting with these texts would cut: the gaps that it would make. There may be at most 1,048,576 texts. The
-    /// form stays as it is. This is this project's profile.
+    /// What segmenting with these texts would cut: the gaps that it would make. There may be at most 1,048,576
+    /// texts. The form stays as it is.
     ///
     /// Refused with `Memory` where the allocator refuses.
     pub fn cut_for<T: Texts>(&self, texts: &T) -> Result<Cut<A>, FormError>
@@ -65,10 +67,11 @@ impl<A: Allocator + Copy> Form<A> {
         Ok(Cut { gaps })
     }
 
-    /// Cuts these texts out of the form: for each text in turn, every run of bytes between gaps is searched from the left,
-    /// and the leftmost occurrences that do not overlap become gaps of that text's number, which counts from 1. Earlier gaps
-    /// stay, an empty text uses up its number, and the pointer goes to the start. `cut` has to be what `cut_for` returns for
-    /// this form and these texts. This is the rule of `ss`, in this project's profile. It takes no memory.
+    /// Cuts these texts out of the form: for each text in turn, every run of bytes between gaps is searched from
+    /// the left, and the leftmost occurrences that do not overlap become gaps of that text's number, which
+    /// counts from 1. Earlier gaps stay, an empty text uses up its number, and the pointer goes to the start.
+    /// `cut` has to be what `cut_for` returns for this form and these texts. This is the rule of `ss`, in this
+    /// project's profile. It takes no memory.
     pub fn segment<T: Texts>(&mut self, cut: &Cut<A>, texts: &T)
         requires { cut.now ≡ cut_of (T.texts texts.now) self.old }
         ensures { self.new ≡ segmented (T.texts texts.now) self.old }
@@ -77,9 +80,9 @@ impl<A: Allocator + Copy> Form<A> {
         cut_gaps(&mut self.items, cut.gaps(), texts);
     }
 
-    /// Undoes `segment`: puts the texts in place of the gaps of a cut again, and the pointer at the start. At each place of
-    /// the cut, which rise, a gap of its ordinal has to stand, as wide as the text of that number. Other gaps stay. This is
-    /// this project's profile. It takes no memory, since the form has room for all bytes that it stands for.
+    /// Undoes `segment`: puts the texts in place of the gaps of a cut again, and the pointer at the start. At each
+    /// place of the cut, which rise, a gap of its ordinal has to stand, as wide as the text of that number. Other gaps
+    /// stay. It takes no memory, since the form has room for all bytes that it stands for.
     pub fn unsegment<T: Texts>(&mut self, cut: Cut<A>, texts: &T)
         requires { IsTrue (is_some (joined (T.texts texts.now) cut (all_items self.old))) }
         ensures { option_map at_start (joined (T.texts texts.now) cut (all_items self.old)) ≡ Some self.new }
@@ -99,7 +102,8 @@ impl<A: Allocator + Copy> Form<A> {
         None
     }
 
-    // What segmenting with these texts would cut: by the form's items, and by what these are once the texts are cut out.
+    // What segmenting with these texts would cut: by the form's items, and by what these are once
+    // the texts are cut out.
     fn cut_among_items<T: Texts>(&self, texts: &T) -> Result<Cut<A>, FormError>
         requires { length (T.texts texts.now) ≤ MARK_LIMIT }
         ensures cut { IfOk result (λ c. c ≡ cut_of (T.texts texts.now) self.now) }
@@ -210,7 +214,8 @@ fn cut_gap<A: Allocator + Copy>(items: &mut Items<A>, passed: usize, ordinal: u3
 fn fill_gaps<T: Texts, A: Allocator + Copy>(items: &mut Items<A>, gaps: &[CutGap], texts: &T)
     requires there { IsTrue (is_some (joined (T.texts texts.now) gaps.now (all_items (divided items.old)))) }
     requires kept { IsKept items.old }
-    ensures filled { option_map at_start (joined (T.texts texts.now) gaps.now (all_items (divided items.old))) ≡ Some (divided items.new) }
+    ensures filled { option_map at_start (joined (T.texts texts.now) gaps.now (all_items (divided items.old)))
+        ≡ Some (divided items.new) }
     ensures kept { IsKept items.new }
 {
     let before = items.left().len();

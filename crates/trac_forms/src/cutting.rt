@@ -80,8 +80,8 @@ fn without<A: Allocator + Copy>(
     Ok(out)
 }
 
-// Puts the items at the end of `out`, the text of this number cut out of each run between gaps. `run` is an empty text, for the
-// run of bytes that is read; both are lent, so that no end drops them.
+// Puts the items at the end of `out`, the text of this number cut out of each run between gaps. `run` is an empty text,
+// for the run of bytes that is read; both are lent, so that no end drops them.
 fn cut_into<A: Allocator>(
     number: u32,
     text: &[u8],

@@ -8,8 +8,8 @@ use thiserror::Error;
 use trac_gap::GapError;
 use trac_rules::refusal::Refusal;
 
-/// Why a call on a form or on a store was refused. After each the forms, their names and their pointers are as they were,
-/// and a text to whose end the call was to add still begins with what it held.
+/// Why a call on a form or on a store was refused. After each the forms, their names and their pointers are as they
+/// were, and a text to whose end the call was to add still begins with what it held.
 #[derive(Clone, Copy, Debug, PartialEq, Eq, Error)]
 pub enum FormError {
     /// The allocator refused the memory.

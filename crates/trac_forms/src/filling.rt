@@ -15,9 +15,10 @@ use trac_rules::limit::TEXT_LIMIT;
 
 impl<A: Allocator + Copy> Form<A> {
     /// How many bytes a call with these texts would give, found without building them; `None` where these are more than
-    /// 16,777,216 (this project's profile). It takes no memory.
+    /// 16,777,216. It takes no memory.
     pub fn call_len<T: Texts>(&self, args: &T) -> Option<usize>
-        ensures { SomeIff result (length (called (T.texts args.now) self.now) ≤ TEXT_LIMIT) (length (called (T.texts args.now) self.now)) }
+        ensures { SomeIff result (length (called (T.texts args.now) self.now) ≤ TEXT_LIMIT)
+            (length (called (T.texts args.now) self.now)) }
     {
         let after = self.after();
         if after.text.is_empty() {
@@ -26,8 +27,8 @@ impl<A: Allocator + Copy> Form<A> {
         text_within(after.text, TEXT_LIMIT)
     }
 
-    /// Puts the value of a call with these texts at the end of `out`: the bytes after the pointer, with each gap replaced
-    /// by the text of its number, which counts from 1. A text that is missing is empty. The pointer stays.
+    /// Puts the value of a call with these texts at the end of `out`: the bytes after the pointer, with each gap
+    /// replaced by the text of its number, which counts from 1. A text that is missing is empty. The pointer stays.
     /// This is the rule of `cl`; that it starts at the pointer is this project's profile.
     ///
     /// Refused with `Memory` where the allocator refuses; then `out` still begins with what it held.
@@ -50,7 +51,8 @@ impl<A: Allocator + Copy> Form<A> {
 
 // How many bytes these items give in a call, where that is no more than `most`.
 fn all_filled_len<T: Texts>(items: &[PackedItem], args: &T, most: usize) -> Option<usize>
-    ensures { SomeIff result (length (all_filled (T.texts args.now) items.now) ≤ most) (length (all_filled (T.texts args.now) items.now)) }
+    ensures { SomeIff result (length (all_filled (T.texts args.now) items.now) ≤ most)
+        (length (all_filled (T.texts args.now) items.now)) }
 {
     let mut total = 0;
     let mut rest = items;

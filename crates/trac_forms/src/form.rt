@@ -1,5 +1,6 @@
 //! A form: a text with gaps and a pointer.
-ghost use Rattle.std.specs.Prelude.{◌≡◌, ◌⊎◌, ◌+◌, ◌-◌, ◌++◌, ◌≤◌, [], drop, length, slice_get, take, IfOk, IfErr, OnOk, IsOkUnless, SomeIff};
+ghost use Rattle.std.specs.Prelude.{◌≡◌, ◌⊎◌, ◌+◌, ◌-◌, ◌++◌, ◌≤◌, [], drop, length, slice_get, take, IfOk, IfErr};
+ghost use Rattle.std.specs.Prelude.{OnOk, IsOkUnless, SomeIff};
 ghost use Rattle.std.specs.List.{All, position_or_len};
 ghost use Rattle.trac_gap.specs.Ends.{item_count};
 ghost use Rattle.trac_rules.specs.Form.{IsWide, all_items, as_items, at_start, defined, extent, pointed_at, width_of};
@@ -20,16 +21,16 @@ use trac_rules::limit::FORM_LIMIT;
 /// What holds items of a form: those before its pointer on the left, those after it on the right.
 pub(crate) type Items<A> = GapBuf<PackedItem, A>;
 
-// From how many bytes on a form keeps its text as one, until it is pointed or cut: for a shorter one a second block of memory
-// would cost more than it takes to pack all bytes as items.
+// From how many bytes on a form keeps its text as one, until it is pointed or cut: for a shorter one a second block of
+// memory would cost more than it takes to pack all bytes as items.
 const LONG: usize = 16;
 
 /// A text in which gaps may stand, with a pointer before one of its items or at its end.
 /// It is seen as the items before and after its pointer. Lengths and places count items.
 ///
-/// From the moment that it is made it has room for as many items as it stands for bytes, so that what is cut out of it can
-/// come back without more memory. A long text is kept as one as long as it is neither pointed nor cut; then that room is
-/// untouched.
+/// From the moment that it is made it has room for as many items as it stands for bytes, so that what is cut
+/// out of it can come back without more memory. A long text is kept as one as long as it is neither pointed nor
+/// cut; then that room is untouched.
 #[derive(Drop)]
 pub struct Form<A: Allocator + Copy = Global> {
     pub(crate) alloc: A,
@@ -55,8 +56,8 @@ impl<A: Allocator + Copy> Model for Form<A> {
 impl<A: Allocator + Copy> Form<A> {
     /// A form of the bytes of `text`, with its pointer at the start.
     ///
-    /// Refused with `TooLong` where `text` has more than 16,777,216 bytes (this project's profile), and with
-    /// `Memory` where the allocator refuses.
+    /// Refused with `TooLong` where `text` has more than 16,777,216 bytes, and with `Memory` where
+    /// the allocator refuses.
     pub fn new(alloc: A, text: &[u8]) -> Result<Self, FormError>
         ensures made { IfOk result (λ f. f ≡ defined text.now) }
         ensures fits { OnOk result (length text.now ≤ FORM_LIMIT) }
@@ -74,8 +75,8 @@ impl<A: Allocator + Copy> Form<A> {
 
     /// A form of these items, with its pointer between the two lists. Each gap has to be at least one byte wide.
     ///
-    /// Refused with `TooLong` where there are more than 16,777,216 items, or where their bytes and the widths of their gaps
-    /// are more than that together (this project's profile); and with `Memory` where the allocator refuses.
+    /// Refused with `TooLong` where there are more than 16,777,216 items, or where their bytes and the widths of their
+    /// gaps are more than that together; and with `Memory` where the allocator refuses.
     pub fn of(alloc: A, before: &[Item], after: &[Item]) -> Result<Self, FormError>
         requires { All IsWide (before.now ++ after.now) }
         ensures made { IfOk result (λ f. f ≡ record { before = before.now; after = after.now }) }
@@ -94,7 +95,7 @@ impl<A: Allocator + Copy> Form<A> {
         Ok(Form { alloc, text, items })
     }
 
-    /// How many items the form has, gaps counted like bytes. It takes no memory (this project's profile).
+    /// How many items the form has, gaps counted like bytes. It takes no memory.
     pub fn len(&self) -> usize
         ensures len { result ≡ length (all_items self.now) }
         ensures within { extent (all_items self.now) ≤ FORM_LIMIT }
@@ -103,14 +104,14 @@ impl<A: Allocator + Copy> Form<A> {
         self.items.left().len() + self.text.len() + self.items.right().len()
     }
 
-    /// How many items are before the pointer. It takes no memory (this project's profile).
+    /// How many items are before the pointer. It takes no memory.
     pub fn pointer(&self) -> usize
         ensures { result ≡ length self.now.before }
     {
         self.before().len()
     }
 
-    /// The item at this place, from 0 on; `None` past the last. It takes no memory (this project's profile).
+    /// The item at this place, from 0 on; `None` past the last. It takes no memory.
     pub fn item(&self, i: usize) -> Option<Item>
         ensures { result ≡ slice_get (all_items self.now) i }
     {
@@ -118,8 +119,8 @@ impl<A: Allocator + Copy> Form<A> {
         Some(packed.item())
     }
 
-    /// A second form of the same items and with the same pointer, with memory and room of its own (this project's profile).
-    /// Refused with `Memory` where the allocator refuses.
+    /// A second form of the same items and with the same pointer, with memory and room of its own. Refused with
+    /// `Memory` where the allocator refuses.
     pub fn copy(&self) -> Result<Self, FormError>
         ensures same { IfOk result (λ f. f ≡ self.now) }
         ensures err { IsOkUnless result FormError.Memory }
@@ -134,7 +135,7 @@ impl<A: Allocator + Copy> Form<A> {
     }
 
     /// Sets the pointer before the item at this place, or at the end, and returns its old place.
-    /// The form has to have at least as many items. It takes no memory (this project's profile).
+    /// The form has to have at least as many items. It takes no memory.
     pub fn set_pointer(&mut self, place: usize) -> usize
         requires { place ≤ length (all_items self.old) }
         ensures old { result ≡ length self.old.before }
@@ -150,8 +151,8 @@ impl<A: Allocator + Copy> Form<A> {
         old
     }
 
-    /// How many items from one place on, up to another, stand before the first gap among them; all where there is none. It takes
-    /// no memory, and looks at many items together (this project's profile).
+    /// How many items from one place on, up to another, stand before the first gap among them; all where there is none.
+    /// It takes no memory, and looks at many items together.
     pub fn run_len(&self, from: usize, to: usize) -> usize
         requires order { from ≤ to }
         requires within { to ≤ length (all_items self.now) }

@@ -1,5 +1,6 @@
-//! Forms: texts with gaps and a pointer, how they are made, called, segmented, read and shown, and the store that keeps them
-//! by their names, beside blocks of them.
+//! Forms: texts with gaps and a pointer, how they are made, called, segmented, read and shown, and the store that
+//! keeps them by their names, beside blocks of them. Limits, refusals, what takes memory and what else T-64 does not
+//! name are this project's profile.
 #![tactic(auto)]
 
 mod after;

@@ -17,8 +17,8 @@ use std::sync::ArcSlice;
 // The most bytes of a name that a store has for itself.
 const SHORT_NAME: usize = 256;
 
-/// A name that a store knows. One of more than 256 bytes can be owned together with the store: so it is kept while the store
-/// changes, and no memory is taken for a copy. It is seen as its bytes.
+/// A name that a store knows. One of more than 256 bytes can be owned together with the store: so it is kept while the
+/// store changes, and no memory is taken for a copy. It is seen as its bytes.
 #[derive(Drop)]
 pub(crate) struct Name<A: Allocator + Copy> {
     bytes: Bytes<A>,

@@ -1,10 +1,13 @@
-//! Reading a form at its pointer: what is given, and where the pointer goes. A pointer before a gap and one after it are
-//! two places. Each call is measured before anything is built or moved.
-ghost use Rattle.std.specs.Prelude.{◌≡◌, ◌+◌, ◌-◌, ◌^◌, ◌++◌, ◌∷◌, [], ◌≤◌, ◌<◌, length, take, drop, position, option_map, IfOk, IfSome, OnOk, OnErr, IsOkUnless};
+//! Reading a form at its pointer: what is given, and where the pointer goes. A pointer before a gap and one after it
+//! are two places. Each call is measured before anything is built or moved.
+ghost use Rattle.std.specs.Prelude.{◌≡◌, ◌+◌, ◌-◌, ◌^◌, ◌++◌, ◌∷◌, [], ◌≤◌, ◌<◌, length, take, drop, position};
+ghost use Rattle.std.specs.Prelude.{option_map, IfOk, IfSome, OnOk, OnErr, IsOkUnless};
 ghost use Rattle.memchr.specs.Find.{FindsNeedle};
 ghost use Rattle.trac_rules.specs.Form.{as_items};
 ghost use Rattle.trac_rules.specs.Fronts.{IsFrontOf};
-ghost use Rattle.trac_rules.specs.Pieces.{at_most_all, bytes_in, char_read, count_read, is_gap, last_bytes, next_bytes, place_before, place_after, place_of_text, segment_items, segment_read, until_read};
+ghost use Rattle.trac_rules.specs.Pieces.{at_most_all, bytes_in, char_read, count_read, is_gap, last_bytes, next_bytes};
+ghost use Rattle.trac_rules.specs.Pieces.{place_before, place_after, place_of_text, segment_items, segment_read};
+ghost use Rattle.trac_rules.specs.Pieces.{until_read};
 ghost use Rattle.trac_forms.specs.Taken.{IsThere, taken};
 
 use crate::after::After;
@@ -29,8 +32,9 @@ pub struct Piece {
 }
 
 impl<A: Allocator + Copy> Form<A> {
-    /// The bytes from the pointer up to the next gap, the pointer after that gap; without a gap all bytes, the pointer at
-    /// the end. `None` where nothing stands after the pointer, no gap either. This is the rule of `cs`. It takes no memory.
+    /// The bytes from the pointer up to the next gap, the pointer after that gap; without a gap all bytes,
+    /// the pointer at the end. `None` where nothing stands after the pointer, no gap either. This is the
+    /// rule of `cs`. It takes no memory.
     pub fn read_segment(&self) -> Option<Piece>
         ensures read { option_map (λ p. taken p self.now) result ≡ segment_read self.now }
         ensures there { IfSome result (IsThere self.now) }
@@ -46,8 +50,8 @@ impl<A: Allocator + Copy> Form<A> {
         })
     }
 
-    /// The next byte, the pointer right after it; gaps before it are passed (this project's profile). `None` where no byte
-    /// stands after the pointer. This is the rule of `cc`. It takes no memory.
+    /// The next byte, the pointer right after it; gaps before it are passed. `None` where no byte stands after the
+    /// pointer. This is the rule of `cc`. It takes no memory.
     pub fn read_char(&self) -> Option<Piece>
         ensures read { option_map (λ p. taken p self.now) result ≡ char_read self.now }
         ensures there { IfSome result (IsThere self.now) }
@@ -55,10 +59,10 @@ impl<A: Allocator + Copy> Form<A> {
         self.read_next(1)
     }
 
-    /// For `n` above 0 the next `n` bytes, or as many as there are, the pointer right after the last of them. For `n` below
-    /// 0 as many bytes before the pointer, in the order of the text, the pointer right before the first of them. For 0 empty,
-    /// the pointer unmoved. Gaps are passed and not given (this project's profile). `None` where `n` is not 0 and no byte
-    /// stands on that side. This is the rule of `cn`. It takes no memory.
+    /// For `n` above 0 the next `n` bytes, or as many as there are, the pointer right after the last of them. For `n`
+    /// below 0 as many bytes before the pointer, in the order of the text, the pointer right before the first of them.
+    /// For 0 empty, the pointer unmoved. Gaps are passed and not given. `None` where `n` is not 0 and no byte stands on
+    /// that side. This is the rule of `cn`. It takes no memory.
     pub fn read_count(&self, n: i128) -> Option<Piece>
         ensures read { option_map (λ p. taken p self.now) result ≡ count_read n self.now }
         ensures there { IfSome result (IsThere self.now) }
@@ -78,11 +82,11 @@ impl<A: Allocator + Copy> Form<A> {
     }
 
     /// The bytes before the first occurrence of `text` after the pointer, the pointer right after that occurrence. No
-    /// occurrence crosses a gap; an empty text occurs at once, also at the end (this project's profile). `None` where it does
-    /// not occur. This is the rule of `in`.
+    /// occurrence crosses a gap; an empty text occurs at once, also at the end. `None` where it does not
+    /// occur. This is the rule of `in`.
     ///
-    /// Refused with `Memory` where the allocator refuses: runs of bytes between gaps are copied for the search, in growing
-    /// parts, so that time and memory grow with what is passed, and not with all that is left (this project's profile).
+    /// Refused with `Memory` where the allocator refuses: runs of bytes between gaps are copied for the search, in
+    /// growing parts, so that time and memory grow with what is passed, and not with all that is left.
     pub fn read_until(&self, text: &[u8]) -> Result<Option<Piece>, FormError>
         ensures read { IfOk result (λ r. option_map (λ p. taken p self.now) r ≡ until_read text.now self.now) }
         ensures there { IfOk result (λ r. IfSome r (IsThere self.now)) }
@@ -99,7 +103,7 @@ impl<A: Allocator + Copy> Form<A> {
 
     /// Puts the bytes of a piece at the end of `out`: the first `piece.len` bytes from the lesser of the
     /// form's and the piece's pointer on, with gaps passed. The pointer stays. A form that has fewer gives
-    /// what it has (this project's profile).
+    /// what it has.
     ///
     /// Refused with `Memory` where the allocator refuses; then `out` still begins with what it held.
     pub fn piece_into<B: Allocator>(
@@ -331,8 +335,8 @@ fn first_place_of<A: Allocator>(
     search(&Finder::new(text), items, &mut run)
 }
 
-// The first place of the finder's text, which is not empty, among these items, if it occurs. `run` is an empty text, for the
-// run of bytes that is read; it is lent, so that no end of the search has to drop it.
+// The first place of the finder's text, which is not empty, among these items, if it occurs. `run` is an empty text,
+// for the run of bytes that is read; it is lent, so that no end of the search has to drop it.
 fn search<A: Allocator>(
     finder: &Finder<'_>,
     items: &[PackedItem],
@@ -349,8 +353,8 @@ fn search<A: Allocator>(
     let mut start = Reached { items: 0, bytes: 0 };
     for item in items {
         if let Item::Byte(b) = item.item() {
-            // Searched each time before its room doubles: so it is read at most about twice as far as the text stands, and
-            // searched about twice in all, however much is left of it.
+            // Searched each time before its room doubles: so it is read at most about twice as far as the text stands,
+            // and searched about twice in all, however much is left of it.
             if run.len() == run.capacity() {
                 if let Some(at) = place_in_run(finder, run.as_slice(), start) {
                     return Ok(Some(at));

@@ -13,8 +13,7 @@ use trac_rules::item::Item;
 use trac_rules::limit::OUTPUT_LIMIT;
 
 impl<A: Allocator + Copy> Form<A> {
-    /// How many bytes `show_into` would give, found without building them; `None` where these are more than 16,777,216
-    /// (this project's profile).
+    /// How many bytes `show_into` would give, found without building them; `None` where these are more than 16,777,216.
     /// It takes no memory.
     pub fn show_len(&self) -> Option<usize>
         ensures { SomeIff result (length (shown self.now) ≤ OUTPUT_LIMIT) (length (shown self.now)) }

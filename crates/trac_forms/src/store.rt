@@ -1,5 +1,7 @@
 //! The forms by their names, and the blocks.
-ghost use Rattle.std.specs.Prelude.{◌≡◌, ◌+◌, ◌-◌, ◌^◌, ◌<◌, ◌≤◌, ◌++◌, ◌∷◌, [], filter, is_some, length, map, nat_lt, option_map, slice_get, slice_set, take, true, vec_capacity, vec_len, IfNone, IfOk, IfSome, IsOk, IsOkUnless, IsTrue, MatchOption, None, OnErr, OnOk, Some};
+ghost use Rattle.std.specs.Prelude.{◌≡◌, ◌+◌, ◌-◌, ◌^◌, ◌<◌, ◌≤◌, ◌++◌, ◌∷◌, [], filter, is_some, length, map, nat_lt};
+ghost use Rattle.std.specs.Prelude.{option_map, slice_get, slice_set, take, true, vec_capacity, vec_len, IfNone, IfOk};
+ghost use Rattle.std.specs.Prelude.{IfSome, IsOk, IsOkUnless, IsTrue, MatchOption, None, OnErr, OnOk, Some};
 ghost use Rattle.std.specs.FinMap as finite;
 ghost use Rattle.std.specs.FinSet as set;
 ghost use Rattle.std.specs.List.Sorted.{IsPermutation};
@@ -63,8 +65,7 @@ impl<A: Allocator + Copy> Model for Store<A> {
 }
 
 impl<A: Allocator + Copy> Store<A> {
-    /// A store without forms and blocks, which knows no name. It takes no memory (this project's
-    /// profile); `alloc` is kept for later.
+    /// A store without forms and blocks, which knows no name. It takes no memory; `alloc` is kept for later.
     pub fn new(alloc: A) -> Self
         ensures { result ≡ nothing_stored }
     {
@@ -76,14 +77,14 @@ impl<A: Allocator + Copy> Store<A> {
     }
 
     /// The name of each form is known, of every store. It does nothing: it is called for what it
-    /// says (this project's profile).
+    /// says.
     pub fn knows_its_forms(&self)
         ensures { KnowsAll self.now.known self.now.forms }
     {
         let _ = &self.table;
     }
 
-    /// How many forms there are. It takes no memory, and no time for each (this project's profile).
+    /// How many forms there are. It takes no memory, and no time for each.
     pub fn form_count(&self) -> usize
         ensures { result ≡ finite.len self.now.forms }
     {
@@ -92,15 +93,14 @@ impl<A: Allocator + Copy> Store<A> {
         self.live
     }
 
-    /// Whether there are fewer forms than `n`. It takes no memory, and no time for each form (this project's profile).
+    /// Whether there are fewer forms than `n`. It takes no memory, and no time for each form.
     pub fn has_fewer_forms(&self, n: usize) -> bool
         ensures { result ≡ nat_lt (finite.len self.now.forms) n }
     {
         self.form_count() < n
     }
 
-    /// The form of this name, if there is one: names are compared byte for byte. It takes no memory
-    /// (this project's profile).
+    /// The form of this name, if there is one: names are compared byte for byte. It takes no memory.
     pub fn get(&self, name: &[u8]) -> Option<&Form<A>>
         ensures value { option_copied result ≡ finite.get self.now.forms name.now }
 
@@ -115,8 +115,8 @@ impl<A: Allocator + Copy> Store<A> {
         Some(form)
     }
 
-    /// The bytes of this name, if it is known and has more than 256: they can be owned together with the store, and so be kept
-    /// while it changes. It takes no memory (this project's profile).
+    /// The bytes of this name, if it is known and has more than 256: they can be owned together with the store, and so
+    /// be kept while it changes. It takes no memory.
     pub fn shared_name(&self, name: &[u8]) -> Option<&ArcSlice<u8, A>>
         ensures none { IfNone result (IsTrue (set.contains self.now.known name.now) → length name.now ≤ 256) }
         ensures bytes { IfSome result (λ shared. arc_slice_items shared.now ≡ name.now) }
@@ -127,8 +127,8 @@ impl<A: Allocator + Copy> Store<A> {
         key.shared()
     }
 
-    /// The names of the forms, rising by their bytes (this project's profile). Names without a form are not among them.
-    /// Refused with `Memory` where the allocator refuses.
+    /// The names of the forms, rising by their bytes. Names without a form are not among them. Refused with
+    /// `Memory` where the allocator refuses.
     pub fn names(&self) -> Result<Vec<&[u8], A>, FormError>
         ensures names { IfOk result (λ names. map (λ name. name.now) names.items ≡ names_of self.now.forms) }
         ensures err { IsOkUnless result FormError.Memory }
@@ -138,8 +138,7 @@ impl<A: Allocator + Copy> Store<A> {
         Ok(names)
     }
 
-    /// Makes a place for a form of this name, so that `put` needs no memory (this project's profile). The forms stay as they
-    /// are.
+    /// Makes a place for a form of this name, so that `put` needs no memory. The forms stay as they are.
     /// Refused with `Memory` where the allocator refuses, and then nothing has changed.
     pub fn know(&mut self, name: &[u8]) -> Result<(), FormError>
         ensures known { OnOk result (self.new ≡ record self.old { known = set.insert self.old.known name.now }) }
@@ -155,8 +154,7 @@ impl<A: Allocator + Copy> Store<A> {
         add_name(&mut self.table, name)
     }
 
-    /// Puts a form under a name that is known, and returns the one that it replaces. It takes no memory
-    /// (this project's profile).
+    /// Puts a form under a name that is known, and returns the one that it replaces. It takes no memory.
     pub fn put(&mut self, name: &[u8], form: Form<A>) -> Option<Form<A>>
         requires { IsTrue (set.contains self.old.known name.now) }
         ensures replaced { result ≡ finite.get self.old.forms name.now }
@@ -168,12 +166,15 @@ impl<A: Allocator + Copy> Store<A> {
         }
     }
 
-    /// Puts a form under a name, known or not, and returns the one that it replaces. It takes memory only where the name is not
-    /// known (this project's profile).
+    /// Puts a form under a name, known or not, and returns the one that it replaces. It takes memory
+    /// only where the name is not known.
     /// Refused with `Memory` where the allocator refuses, and then nothing has changed.
     pub fn insert(&mut self, name: &[u8], form: Form<A>) -> Result<Option<Form<A>>, FormError>
         ensures replaced { IfOk result (λ replaced. replaced ≡ finite.get self.old.forms name.now) }
-        ensures put { OnOk result (self.new ≡ record self.old { forms = finite.insert self.old.forms name.now form; known = set.insert self.old.known name.now }) }
+        ensures put { OnOk result (self.new ≡ record self.old {
+          forms = finite.insert self.old.forms name.now form;
+          known = set.insert self.old.known name.now;
+        }) }
         ensures unchanged { OnErr result (self.new ≡ self.old) }
         ensures err { IsOkUnless result FormError.Memory }
 
@@ -189,8 +190,7 @@ impl<A: Allocator + Copy> Store<A> {
         Ok(put_at(&mut self.table, &mut self.live, last, form))
     }
 
-    /// Takes the form of this name away, if there is one, and returns it. The name stays known. It takes no memory
-    /// (this project's profile).
+    /// Takes the form of this name away, if there is one, and returns it. The name stays known. It takes no memory.
     pub fn take(&mut self, name: &[u8]) -> Option<Form<A>>
         ensures taken { result ≡ finite.get self.old.forms name.now }
         ensures gone { self.new ≡ record self.old { forms = finite.remove self.old.forms name.now } }
@@ -201,34 +201,41 @@ impl<A: Allocator + Copy> Store<A> {
         }
     }
 
-    /// Sets the pointer of the form of this name, if there is one: before the item at this place, or at the end where the form
-    /// has none there. Returns where it stood. It takes no memory (this project's profile).
+    /// Sets the pointer of the form of this name, if there is one: before the item at this place, or at the end where
+    /// the form has none there. Returns where it stood. It takes no memory.
     pub fn set_pointer(&mut self, name: &[u8], place: usize) -> Option<usize>
         ensures old { result ≡ option_map (λ form. length form.before) (finite.get self.old.forms name.now) }
-        ensures set { self.new ≡ record self.old { forms = changed_at name.now (λ form. pointed_at place (all_items form)) self.old.forms } }
+        ensures set { self.new ≡ record self.old {
+          forms = changed_at name.now (λ form. pointed_at place (all_items form)) self.old.forms;
+        } }
     {
         let i = self.table.get_index_of(name)?;
         point_at(&mut self.table, i, place)
     }
 
-    /// Cuts texts out of the form of this name, if there is one, and returns where its pointer stood, which goes to the start:
-    /// what `segment` does to a form. `cut` has to be what `cut_for` returns for that form and these texts. It takes no memory
-    /// (this project's profile).
+    /// Cuts texts out of the form of this name, if there is one, and returns where its pointer stood, which goes
+    /// to the start: what `segment` does to a form. `cut` has to be what `cut_for` returns for that form and
+    /// these texts. It takes no memory.
     pub fn segment<T: Texts>(&mut self, name: &[u8], cut: &Cut<A>, texts: &T) -> Option<usize>
         requires { IfSome (finite.get self.old.forms name.now) (λ form. cut.now ≡ cut_of (T.texts texts.now) form) }
         ensures old { result ≡ option_map (λ form. length form.before) (finite.get self.old.forms name.now) }
-        ensures cut { self.new ≡ record self.old { forms = changed_at name.now (λ form. segmented (T.texts texts.now) form) self.old.forms } }
+        ensures cut { self.new ≡ record self.old {
+          forms = changed_at name.now (λ form. segmented (T.texts texts.now) form) self.old.forms;
+        } }
     {
         let i = self.table.get_index_of(name)?;
         segment_at(&mut self.table, i, cut, texts)
     }
 
-    /// Undoes `segment` in the form of this name, if there is one: puts the texts in place of the gaps of a cut again, and sets
-    /// the pointer before the item at `pointer`, or at the end where the form then has none there. At each place of the cut a
-    /// gap of its ordinal has to stand, as wide as the text of that number. It takes no memory (this project's profile).
+    /// Undoes `segment` in the form of this name, if there is one: puts the texts in place of the gaps of a cut again,
+    /// and sets the pointer before the item at `pointer`, or at the end where the form then has none there. At each
+    /// place of the cut a gap of its ordinal has to stand, as wide as the text of that number. It takes no memory.
     pub fn unsegment<T: Texts>(&mut self, name: &[u8], cut: Cut<A>, texts: &T, pointer: usize)
-        requires { IfSome (finite.get self.old.forms name.now) (λ form. IsTrue (is_some (joined (T.texts texts.now) cut (all_items form)))) }
-        ensures { self.new ≡ record self.old { forms = changed_at name.now (λ form. unsegmented (T.texts texts.now) cut pointer form) self.old.forms } }
+        requires { IfSome (finite.get self.old.forms name.now)
+            (λ form. IsTrue (is_some (joined (T.texts texts.now) cut (all_items form)))) }
+        ensures { self.new ≡ record self.old {
+          forms = changed_at name.now (λ form. unsegmented (T.texts texts.now) cut pointer form) self.old.forms;
+        } }
     {
         let Some(i) = self.table.get_index_of(name) else {
             return;
@@ -236,15 +243,14 @@ impl<A: Allocator + Copy> Store<A> {
         unsegment_at(&mut self.table, i, cut, texts, pointer);
     }
 
-    /// Takes all forms away. The names stay known. It takes no memory (this project's profile).
+    /// Takes all forms away. The names stay known. It takes no memory.
     pub fn clear(&mut self)
         ensures { self.new ≡ record self.old { forms = finite.empty } }
     {
         take_values(&mut self.table, &mut self.live);
     }
 
-    /// Forgets the names without a form. It takes no memory, and time for those that it forgets alone
-    /// (this project's profile).
+    /// Forgets the names without a form. It takes no memory, and time for those that it forgets alone.
     pub fn sweep(&mut self)
         ensures { self.new ≡ swept self.old }
     {
@@ -254,7 +260,7 @@ impl<A: Allocator + Copy> Store<A> {
 
 // The blocks, by their numbers.
 impl<A: Allocator + Copy> Store<A> {
-    /// How many blocks there are, erased ones counted. It takes no memory (this project's profile).
+    /// How many blocks there are, erased ones counted. It takes no memory.
     pub fn block_count(&self) -> usize
         ensures count { result ≡ length self.now.blocks }
         ensures within { length self.now.blocks < 2 ^ 63 }
@@ -262,16 +268,16 @@ impl<A: Allocator + Copy> Store<A> {
         self.blocks.len()
     }
 
-    /// The block of this number, from 0 on; `None` where it is erased, and past the last. It takes no memory
-    /// (this project's profile).
+    /// The block of this number, from 0 on; `None` where it is erased, and past the last. It takes no memory.
     pub fn block(&self, i: usize) -> Option<&Block<A>>
-        ensures { MatchOption result (block_at i self.now.blocks ≡ None) (λ block. block_at i self.now.blocks ≡ Some block.now.held) }
+        ensures { MatchOption result (block_at i self.now.blocks ≡ None)
+            (λ block. block_at i self.now.blocks ≡ Some block.now.held) }
     {
         self.blocks.get(i)?.as_ref()
     }
 
-    /// Makes places for at least `n` more blocks, so that `push_block` needs no memory. Forms, blocks and names stay as they
-    /// are. Refused with `Memory` where the allocator refuses, and then nothing has changed (this project's profile).
+    /// Makes places for at least `n` more blocks, so that `push_block` needs no memory. Forms, blocks and names stay as
+    /// they are. Refused with `Memory` where the allocator refuses, and then nothing has changed.
     pub fn reserve_blocks(&mut self, n: usize) -> Result<(), FormError>
         ensures room { OnOk result (n ≤ self.new.spare) }
         ensures no_less { self.old.spare ≤ self.new.spare }
@@ -283,27 +289,29 @@ impl<A: Allocator + Copy> Store<A> {
         Ok(())
     }
 
-    /// Puts a block at the end of the blocks: its number is how many there were before. A place has to be spare, which it
-    /// takes. It takes no memory (this project's profile).
+    /// Puts a block at the end of the blocks: its number is how many there were before. A place has to be spare,
+    /// which it takes. It takes no memory.
     pub fn push_block(&mut self, block: Block<A>)
         requires { 0 < self.old.spare }
-        ensures { self.new ≡ record self.old { blocks = self.old.blocks ++ Some block.held ∷ []; spare = self.old.spare - 1 } }
+        ensures { self.new
+            ≡ record self.old { blocks = self.old.blocks ++ Some block.held ∷ []; spare = self.old.spare - 1 } }
     {
         self.blocks.push_reserved(Some(block));
     }
 
-    /// Takes the last block off the list, and returns it; `None` where it is an erased one, or where there are no blocks. It
-    /// takes no memory, and no spare place (this project's profile).
+    /// Takes the last block off the list, and returns it; `None` where it is an erased one, or where there are no
+    /// blocks. It takes no memory, and no spare place.
     pub fn pop_block(&mut self) -> Option<Block<A>>
         ensures last { option_map (λ b. b.held) result ≡ block_at (length self.old.blocks - 1) self.old.blocks }
-        ensures others { self.new ≡ record self.old { blocks = take (length self.old.blocks - 1) self.old.blocks; spare = self.new.spare } }
+        ensures others { self.new
+            ≡ record self.old { blocks = take (length self.old.blocks - 1) self.old.blocks; spare = self.new.spare } }
         ensures no_less { self.old.spare ≤ self.new.spare }
     {
         self.blocks.pop()?
     }
 
-    /// Takes the block of this number away and returns it; its place stays, as that of an erased block. `None` where it is
-    /// erased already, and past the last, and then nothing has changed. It takes no memory (this project's profile).
+    /// Takes the block of this number away and returns it; its place stays, as that of an erased block. `None` where it
+    /// is erased already, and past the last, and then nothing has changed. It takes no memory.
     pub fn take_block(&mut self, i: usize) -> Option<Block<A>>
         ensures taken { option_map (λ b. b.held) result ≡ block_at i self.old.blocks }
         ensures erased { self.new ≡ record self.old { blocks = slice_set self.old.blocks i None } }
@@ -314,8 +322,7 @@ impl<A: Allocator + Copy> Store<A> {
         self.blocks[i].take()
     }
 
-    /// Puts a block in the place of an erased one, under whose number it stands then. It takes no memory
-    /// (this project's profile).
+    /// Puts a block in the place of an erased one, under whose number it stands then. It takes no memory.
     pub fn set_block(&mut self, i: usize, block: Block<A>)
         requires { slice_get self.old.blocks i ≡ Some None }
         ensures { self.new ≡ record self.old { blocks = slice_set self.old.blocks i (Some block.held) } }
@@ -338,8 +345,8 @@ fn add_name<A: Allocator + Copy>(table: &mut Table<A>, name: &[u8]) -> Result<()
     }
 }
 
-// Puts a value into an entry, and returns the one that it replaces. An entry that had none takes the place after those that
-// have one.
+// Puts a value into an entry, and returns the one that it replaces. An entry that had none takes the
+// place after those that have one.
 fn put_at<K: Eq + Hash, V, S: BuildHasher, A: Allocator>(
     table: &mut IndexMap<K, Option<V>, S, A>,
     live: &mut usize,
@@ -362,7 +369,8 @@ fn put_at<K: Eq + Hash, V, S: BuildHasher, A: Allocator>(
     replaced
 }
 
-// Takes the value of an entry away, if it has one, and returns it. The entry takes the place of the last one with a value.
+// Takes the value of an entry away, if it has one, and returns it. The entry takes the place of the
+// last one with a value.
 fn take_at<K: Eq + Hash, V, S: BuildHasher, A: Allocator>(
     table: &mut IndexMap<K, Option<V>, S, A>,
     live: &mut usize,
@@ -386,7 +394,8 @@ fn take_at<K: Eq + Hash, V, S: BuildHasher, A: Allocator>(
 fn point_at<A: Allocator + Copy>(table: &mut Table<A>, i: usize, place: usize) -> Option<usize>
     requires { i < index_map_len table.old }
     ensures old { result ≡ option_map (λ form. length form.before) (option_flatten (slice_get (values table.old) i)) }
-    ensures set { table.new.entries ≡ set_value_at table.old.entries i (option_map (λ form. pointed_at place (all_items form)) (option_flatten (slice_get (values table.old) i))) }
+    ensures set { table.new.entries ≡ set_value_at table.old.entries i
+        (option_map (λ form. pointed_at place (all_items form)) (option_flatten (slice_get (values table.old) i))) }
 {
     let form = table[i].as_mut()?;
     let place = place.min(form.len());
@@ -401,9 +410,11 @@ fn segment_at<T: Texts, A: Allocator + Copy>(
     texts: &T,
 ) -> Option<usize>
     requires within { i < index_map_len table.old }
-    requires cut { IfSome (option_flatten (slice_get (values table.old) i)) (λ form. cut.now ≡ cut_of (T.texts texts.now) form) }
+    requires cut { IfSome (option_flatten (slice_get (values table.old) i))
+        (λ form. cut.now ≡ cut_of (T.texts texts.now) form) }
     ensures old { result ≡ option_map (λ form. length form.before) (option_flatten (slice_get (values table.old) i)) }
-    ensures cut { table.new.entries ≡ set_value_at table.old.entries i (option_map (λ form. segmented (T.texts texts.now) form) (option_flatten (slice_get (values table.old) i))) }
+    ensures cut { table.new.entries ≡ set_value_at table.old.entries i
+        (option_map (λ form. segmented (T.texts texts.now) form) (option_flatten (slice_get (values table.old) i))) }
 {
     let form = table[i].as_mut()?;
     let pointer = form.pointer();
@@ -420,8 +431,10 @@ fn unsegment_at<T: Texts, A: Allocator + Copy>(
     pointer: usize,
 )
     requires within { i < index_map_len table.old }
-    requires there { IfSome (option_flatten (slice_get (values table.old) i)) (λ form. IsTrue (is_some (joined (T.texts texts.now) cut (all_items form)))) }
-    ensures { table.new.entries ≡ set_value_at table.old.entries i (option_map (λ form. unsegmented (T.texts texts.now) cut pointer form) (option_flatten (slice_get (values table.old) i))) }
+    requires there { IfSome (option_flatten (slice_get (values table.old) i))
+        (λ form. IsTrue (is_some (joined (T.texts texts.now) cut (all_items form)))) }
+    ensures { table.new.entries ≡ set_value_at table.old.entries i (option_map
+        (λ form. unsegmented (T.texts texts.now) cut pointer form) (option_flatten (slice_get (values table.old) i))) }
 {
     let Some(form) = table[i].as_mut() else {
         return;
@@ -467,7 +480,8 @@ fn drop_empty<K: Eq + Hash + Drop, V: Drop, S: BuildHasher, A: Allocator>(
 
 // The names of the entries that have a form, in the order of the table.
 fn full_names<A: Allocator + Copy>(table: &Table<A>) -> Result<Vec<&[u8], A>, FormError>
-    ensures names { IfOk result (λ names. map (λ name. name.now) names.items ≡ full_keys (named (λ k. k) table.now.entries)) }
+    ensures names { IfOk result
+        (λ names. map (λ name. name.now) names.items ≡ full_keys (named (λ k. k) table.now.entries)) }
     ensures err { IsOkUnless result FormError.Memory }
     ensures unique { IsUnique (λ x y. bytes_eq x y) table.now }
 {
@@ -484,11 +498,12 @@ fn full_names<A: Allocator + Copy>(table: &Table<A>) -> Result<Vec<&[u8], A>, Fo
 // ---- names in order, without memory
 
 impl<A: Allocator + Copy> Store<A> {
-    /// Where a byte stands in the list of all names of forms, which rise by their bytes, each with a text of this length before
-    /// it: how many bytes of its own text and name stand before the byte of this number. `None` past the end of the list. It
-    /// takes no memory, and for each name that is tried time for all names (this project's profile).
+    /// Where a byte stands in the list of all names of forms, which rise by their bytes, each with a text of this
+    /// length before it: how many bytes of its own text and name stand before the byte of this number. `None` past the
+    /// end of the list. It takes no memory, and for each name that is tried time for all names.
     pub fn byte_listed(&self, text: usize, i: usize) -> Option<usize>
-        ensures { MatchOption result (listed_len text (names_of self.now.forms) ≤ i) (IsListed (names_of self.now.forms) text i) }
+        ensures { MatchOption result (listed_len text (names_of self.now.forms) ≤ i)
+            (IsListed (names_of self.now.forms) text i) }
     {
         // `len` is called for its clause that no key stands twice.
         let _len = self.table.len();
@@ -498,7 +513,8 @@ impl<A: Allocator + Copy> Store<A> {
 
 // The same, of the entries that have a form.
 fn byte_in_list<A: Allocator + Copy>(table: &Table<A>, text: usize, i: usize) -> Option<usize>
-    ensures { MatchOption result (AreMissed text i (full_keys (named (λ k. k) table.now.entries))) (IsHit text i (full_keys (named (λ k. k) table.now.entries))) }
+    ensures { MatchOption result (AreMissed text i (full_keys (named (λ k. k) table.now.entries)))
+        (IsHit text i (full_keys (named (λ k. k) table.now.entries))) }
 {
     for (name, held) in table.iter() {
         if held.is_none() {

@@ -9,11 +9,11 @@ use std::alloc::{AllocError, Allocator, Global};
 use std::marker::Model;
 use std_alloc::room::may_hold;
 
-/// Both lists lie in one block: the left one at its start, and the right one at its end. The places from `gap_start` up to
-/// `gap_end` are the gap. What lies there is of no use, so pushing, popping and cutting move no other item.
+/// Both lists lie in one block: the left one at its start, and the right one at its end. The places from `gap_start` up
+/// to `gap_end` are the gap. What lies there is of no use, so pushing, popping and cutting move no other item.
 ///
-/// Before room is reserved there is no block: no places, and no lease. `drop` and `copy` alone ask whether there is one; each
-/// other call does the same with no places.
+/// Before room is reserved there is no block: no places, and no lease. `drop` and `copy` alone ask whether there is
+/// one; each other call does the same with no places.
 pub struct GapBuf<T: Copy, A: Allocator + Copy = Global> {
     start: BlockStart<T>,
     places: Slots<T>,

@@ -1,5 +1,6 @@
-//! Lists with two ends: one list that grows at its end and one that grows at its front, over
-//! places that both share; and a list that grows at its end and loses items at both ends.
+//! Lists with two ends: one list that grows at its end and one that grows at its front, over places that both
+//! share; and a list that grows at its end and loses items at both ends. T-64 says nothing of such lists: all
+//! of it is this project's profile.
 #![tactic(auto)]
 
 pub mod error;

@@ -1,5 +1,6 @@
 //! Copies of runs of items into a row of places, and within it.
-ghost use Rattle.std.specs.Prelude.{◌≡◌, ℕ, ◌+◌, ◌-◌, ◌^◌, ◌<◌, ◌≤◌, ◌⊎◌, Some, None, length, take, drop, map, get_or, IsSome};
+ghost use Rattle.std.specs.Prelude.{◌≡◌, ℕ, ◌+◌, ◌-◌, ◌^◌, ◌<◌, ◌≤◌, ◌⊎◌, Some, None, length, take, drop, map, get_or};
+ghost use Rattle.std.specs.Prelude.{IsSome};
 ghost use Rattle.trac_gap.specs.Slots.{IsFull, IsShifted, run, pasted};
 
 use crate::slots::{BlockStart, Slots};
@@ -76,7 +77,8 @@ impl<T: Copy> Slots<T> {
         }
     }
 
-    // `shift` to lower places, the first items first. Its parts lie on the stack, so it is no part of the frame of `shift`.
+    // `shift` to lower places, the first items first. Its parts lie on the stack, so it is no part
+    // of the frame of `shift`.
     #[inline(never)]
     fn shift_down(&mut self, start: BlockStart<T>, from: usize, to: usize, count: usize)
         requires { (start.ptr ≡ self.old.at) × (from + count ≤ length self.old.slots)

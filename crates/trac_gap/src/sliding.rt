@@ -1,16 +1,16 @@
 //! A list that grows at its end and loses items at both ends.
-ghost use Rattle.std.specs.Prelude.{◌≡◌, ◌==◌, ◌+◌, ◌≤◌, [], ◌∷◌, ◌++◌, length, take, drop, vec_len, vec_capacity, IsOk, OnOk, OnErr, IfOk};
+ghost use Rattle.std.specs.Prelude.{◌≡◌, ◌==◌, ◌+◌, ◌≤◌, [], ◌∷◌, ◌++◌, length, take, drop, vec_len, vec_capacity};
+ghost use Rattle.std.specs.Prelude.{IsOk, OnOk, OnErr, IfOk};
 
 use std::alloc::{AllocError, Allocator, Global};
 use std::marker::Model;
 
-/// A list that grows at its end and loses items at both ends. What is dropped at its front stays in the block until as many
-/// items are gone as are left, and only then do those that are left move. So where each growth is reserved before, a call
-/// takes time for what it puts and drops alone, averaged over all calls.
+/// A list that grows at its end and loses items at both ends. What is dropped at its front stays in the block until as
+/// many items are gone as are left, and only then do those that are left move. So where each growth is reserved before,
+/// a call takes time for what it puts and drops alone, averaged over all calls.
 ///
-/// Lengths and the capacity count items. Only `with_capacity`, `reserve` and `extend_from_slice` can be refused. All other
-/// calls take no memory, and no call lessens the capacity. T-64 says nothing of such lists: all of this is this project's
-/// profile.
+/// Lengths and the capacity count items. Only `with_capacity`, `reserve` and `extend_from_slice` can be refused. All
+/// other calls take no memory, and no call lessens the capacity.
 #[derive(Drop)]
 pub struct SlidingBuf<T: Copy, A: Allocator = Global> {
     list: Vec<T, A>,

@@ -1,6 +1,7 @@
 //! The block: a row of places, each of which is empty or has an item.
 //! All of this crate's raw pointers are in this file.
-ghost use Rattle.std.specs.Prelude.{◌≡◌, ℕ, ◌+◌, ◌<◌, ◌≤◌, ◌⊎◌, [], List, Option, Some, None, length, replicate, slice_set, IfOk, ⊤};
+ghost use Rattle.std.specs.Prelude.{◌≡◌, ℕ, ◌+◌, ◌<◌, ◌≤◌, ◌⊎◌, [], List, Option, Some, None, length, replicate};
+ghost use Rattle.std.specs.Prelude.{slice_set, IfOk, ⊤};
 ghost use Rattle.std.specs.Vec.Ownership.{FitsInBlock};
 ghost use base.Fml.{ftrue};
 ghost use denote.RawPtr.{Ptr};
@@ -30,8 +31,8 @@ impl<T> Clone for BlockStart<T> {
 
 impl<T> Copy for BlockStart<T> {}
 
-/// The places of a block with the items in them. It takes no bytes: `BlockStart` has the pointer.
-/// Dropping places frees nothing. So no block is lost: a lease cannot be dropped, and `deallocate` takes it with its places.
+/// The places of a block with the items in them. It takes no bytes: `BlockStart` has the pointer. Dropping places frees
+/// nothing. So no block is lost: a lease cannot be dropped, and `deallocate` takes it with its places.
 #[derive(Drop)]
 pub struct Slots<T> {
     mark: PhantomData<*const T>,
@@ -59,8 +60,8 @@ impl<T, A: Allocator> Model for Lease<T, A> {
     ghost also_shares = { λ _ _ _. ftrue };
 }
 
-/// No places. Takes no memory: the pointer is that of an array without items, which is gone. It is aligned and not null, as a
-/// slice without items needs, and nothing is read there.
+/// No places. Takes no memory: the pointer is that of an array without items, which is gone. It is aligned and not
+/// null, as a slice without items needs, and nothing is read there.
 pub(crate) fn no_places<T>() -> (BlockStart<T>, Slots<T>)
     ensures { (result.1.at ≡ result.0.ptr) × (result.1.slots ≡ []) }
 {

@@ -1,5 +1,6 @@
 //! What lists with two ends promise, whatever holds them.
-ghost use Rattle.std.specs.Prelude.{◌≡◌, ◌+◌, ◌-◌, ◌^◌, ◌<◌, ◌≤◌, [], ◌∷◌, ◌++◌, length, take, drop, IsOk, OnOk, OnErr, IfOk, MatchOption};
+ghost use Rattle.std.specs.Prelude.{◌≡◌, ◌+◌, ◌-◌, ◌^◌, ◌<◌, ◌≤◌, [], ◌∷◌, ◌++◌, length, take, drop, IsOk, OnOk, OnErr};
+ghost use Rattle.std.specs.Prelude.{IfOk, MatchOption};
 ghost use Rattle.trac_gap.specs.Ends.{Ends, item_count};
 
 use crate::error::GapError;
@@ -9,8 +10,7 @@ use std::alloc::Allocator;
 /// They share `capacity` places, so that an item passes from one to the other without memory.
 /// Lengths, places and the capacity count items.
 ///
-/// Only `reserve` and `copy` can be refused. All other calls take no memory, and keep the capacity. T-64 says nothing of
-/// such lists: all of this is this project's profile.
+/// Only `reserve` and `copy` can be refused. All other calls take no memory, and keep the capacity.
 pub trait TwoEnds<T: Copy, A: Allocator + Copy>: Sized + Drop {
     ghost ends: { Self → Ends T };
 

@@ -14,7 +14,8 @@ use Rattle.trac_journal.specs.Listed.{Listed}
 use Rattle.trac_journal.specs.declared.entry.CallEntry.{CallEntry}
 
 abbrev pub cut_gap_code : Coded CutGap
-cut_gap_code = code_by (ℕ × ℕ) (coded× coded_ℕ coded_ℕ) (λ g. (g.place, g.ordinal)) (λ p. record { place = p.0; ordinal = p.1 }) (λ _. refl)
+cut_gap_code = code_by (ℕ × ℕ) (coded× coded_ℕ coded_ℕ) (λ g. (g.place, g.ordinal))
+    (λ p. record { place = p.0; ordinal = p.1 }) (λ _. refl)
 
 abbrev pub held_code : Coded Held
 held_code = coded_list (coded× text_code form_code)
@@ -22,7 +23,8 @@ held_code = coded_list (coded× text_code form_code)
 -- ---- what a call destroyed
 
 abbrev UndoneParts : Type 0
-UndoneParts = Bool ⊎ (ℕ ⊎ ((List CutGap × ℕ) ⊎ (Option Form ⊎ (Held ⊎ (Option Form ⊎ ((ℕ × Held) ⊎ (ℕ × (Held × Form))))))))
+UndoneParts =
+    Bool ⊎ (ℕ ⊎ ((List CutGap × ℕ) ⊎ (Option Form ⊎ (Held ⊎ (Option Form ⊎ ((ℕ × Held) ⊎ (ℕ × (Held × Form))))))))
 
 abbrev parts_of_undone : Undone → UndoneParts
 parts_of_undone Nothing = inl true
@@ -55,10 +57,9 @@ undone_from_parts (Unbring number held) = refl
 undone_from_parts (Unerase number held address) = refl
 
 abbrev pub undone_code : Coded Undone
-undone_code =
-    code_by UndoneParts
-    (coded⊎ coded_bool (coded⊎ coded_ℕ (coded⊎ (coded× (coded_list cut_gap_code) coded_ℕ) (coded⊎ (coded_option form_code) (coded⊎ held_code
-    (coded⊎ (coded_option form_code) (coded⊎ (coded× coded_ℕ held_code) (coded× coded_ℕ (coded× held_code form_code)))))))))
+undone_code = code_by UndoneParts (coded⊎ coded_bool (coded⊎ coded_ℕ
+    (coded⊎ (coded× (coded_list cut_gap_code) coded_ℕ) (coded⊎ (coded_option form_code) (coded⊎ held_code (coded⊎
+    (coded_option form_code) (coded⊎ (coded× coded_ℕ held_code) (coded× coded_ℕ (coded× held_code form_code)))))))))
     parts_of_undone undone_of_parts undone_from_parts
 
 -- ---- records
@@ -116,9 +117,8 @@ record_from_parts (Idle base frames) = refl
 record_from_parts (Called call) = refl
 
 abbrev pub record_code : Coded Record
-record_code =
-    code_by RecordParts
-    (coded⊎ coded_ℕ (coded⊎ (coded× coded_ℕ coded_bool) (coded⊎ coded_ℕ (coded⊎ (coded× text_code (coded_list frame_code)) call_record_code))))
+record_code = code_by RecordParts (coded⊎ coded_ℕ (coded⊎ (coded× coded_ℕ coded_bool)
+    (coded⊎ coded_ℕ (coded⊎ (coded× text_code (coded_list frame_code)) call_record_code))))
     parts_of_record record_of_parts record_from_parts
 
 -- ---- what is kept
@@ -131,10 +131,9 @@ room_code =
     (λ _. refl)
 
 abbrev pub call_code : Coded CallEntry
-call_code =
-    code_by (ℕ × (ℕ × (ℕ × (ℕ × (ℕ × (Kind × (Bool × (Bool × Option ℕ))))))))
-    (coded× coded_ℕ (coded× coded_ℕ (coded× coded_ℕ (coded× coded_ℕ (coded× coded_ℕ (coded× kind_code (coded× coded_bool (coded× coded_bool
-    (coded_option coded_ℕ)))))))))
+call_code = code_by (ℕ × (ℕ × (ℕ × (ℕ × (ℕ × (Kind × (Bool × (Bool × Option ℕ))))))))
+    (coded× coded_ℕ (coded× coded_ℕ (coded× coded_ℕ (coded× coded_ℕ
+    (coded× coded_ℕ (coded× kind_code (coded× coded_bool (coded× coded_bool (coded_option coded_ℕ)))))))))
     (λ c. (c.value, (c.printed, (c.read, (c.bytes, (c.commas, (c.kind, (c.scanned, (c.trace, c.meta)))))))))
     (λ p. record {
       value = p.0;
@@ -146,8 +145,7 @@ call_code =
       scanned = p.1.1.1.1.1.1.0;
       trace = p.1.1.1.1.1.1.1.0;
       meta = p.1.1.1.1.1.1.1.1;
-    })
-    (λ _. refl)
+    }) (λ _. refl)
 
 abbrev pub listed_code : Coded Listed
 listed_code =
@@ -159,7 +157,8 @@ listed_code =
     (λ _. refl)
 
 abbrev pub lists_code : Coded Lists
-lists_code = code_by (Listed × Room) (coded× listed_code room_code) (λ l. (l.listed, l.room)) (λ p. record { listed = p.0; room = p.1 }) (λ _. refl)
+lists_code = code_by (Listed × Room) (coded× listed_code room_code) (λ l. (l.listed, l.room))
+    (λ p. record { listed = p.0; room = p.1 }) (λ _. refl)
 
 abbrev pub journaled_code : Coded Journaled
 journaled_code =

@@ -34,7 +34,8 @@ pub record EndsWithCall (call : CallEntry) (newer : List CallEntry) (l : Listed)
 
 -- the lists without it
 abbrev pub without_oldest : CallEntry → List CallEntry → Listed → Listed
-without_oldest call newer l = record l { calls = newer; bytes = drop call.bytes l.bytes; commas = drop call.commas l.commas }
+without_oldest call newer l =
+    record l { calls = newer; bytes = drop call.bytes l.bytes; commas = drop call.commas l.commas }
 
 -- what is to be known of a record that is dropped: what it weighs, and how much its step read and printed
 pub record IsGone (gone : Gone) (r : Record) : Type 0 where
@@ -72,5 +73,5 @@ printed_in other calls = 0
 -- what the steps of so many of the oldest records printed, of these entries and calls, the oldest first
 abbrev pub printed_first : ℕ → List Entry → List CallEntry → ℕ
 printed_first count [] calls = 0
-printed_first count (e ∷ entries) calls =
-    if nat_le count e.moved then 0 else (printed_in e.kept calls + printed_first (count - (e.moved + 1)) entries (drop (calls_of e.kept) calls))
+printed_first count (e ∷ entries) calls = if nat_le count e.moved then 0
+    else (printed_in e.kept calls + printed_first (count - (e.moved + 1)) entries (drop (calls_of e.kept) calls))

@@ -7,7 +7,8 @@ use Rattle.trac_journal.specs.Listed.{Listed, Holds, newest_in, nothing_listed, 
 use Rattle.trac_journal.specs.Told.{sum_by}
 use Rattle.trac_journal.specs.declared.entry.Entry.{Entry}
 
--- how much more the lists have places for: calls, bytes and lengths of their arguments, what was destroyed, and what was emptied
+-- how much more the lists have places for: calls, bytes and lengths of their arguments, what was
+-- destroyed, and what was emptied
 pub record Room : Type 0 where
   pub calls : ℕ
   pub bytes : ℕ

@@ -1,6 +1,7 @@
 -- The lists of a journal, in which its records stand one after another.
 use Rattle.std.specs.Prelude.{◌≡◌, ℕ, ◌<◌, ◌≤◌, ◌^◌, List, [], ◌∷◌, length, map, drop, reverse, sum}
-use Rattle.trac_rules.specs.Records.{Record, Moved, Comma, Begun, Quoted, Deleted, Idle, Called, all_before_last, last_of}
+use Rattle.trac_rules.specs.Records.{Record, Moved, Comma, Begun, Quoted, Deleted, Idle, Called, all_before_last}
+use Rattle.trac_rules.specs.Records.{last_of}
 use Rattle.trac_rules.specs.State.{Frame}
 use Rattle.trac_rules.specs.Undone.{Undone, Nothing, Point}
 use Rattle.trac_text.specs.Pieces.{all_texts, cut_at}
@@ -18,7 +19,8 @@ use Rattle.trac_journal.specs.declared.entry.Kept.TheVariants as kept
 pub record Listed : Type 0 where
   -- the calls, the newest first
   pub calls : List CallEntry
-  -- the bytes of their arguments, one after another, those of the newest call last; and how long each argument is that a `,` ended
+  -- the bytes of their arguments, one after another, those of the newest call last; and how long
+  -- each argument is that a `,` ended
   pub bytes : List ℕ
   pub commas : List ℕ
   -- what calls destroyed of forms and blocks, where an entry does not hold it, the newest first
@@ -42,7 +44,8 @@ called_in c = record {
 }
 
 -- what these lists of the code hold
-abbrev pub listed_by : {A : Type 0} → List CallEntry → List ℕ → List ℕ → List (destroyed.Undone A) → List (Emptied A) → Listed
+abbrev pub listed_by : {A : Type 0} → List CallEntry → List ℕ → List ℕ → List (destroyed.Undone A) →
+    List (Emptied A) → Listed
 listed_by calls bytes commas undone emptied = record {
   calls = reverse calls;
   bytes = bytes;
@@ -61,8 +64,8 @@ pub record AreSmall (called : code.Called) (len count : ℕ) : Type 0 where
 
 -- ---- the newest record
 
--- that of the first of these calls, which destroyed this: it has the last of the bytes, cut by the last of the lengths. Where there is
--- no call, any record
+-- that of the first of these calls, which destroyed this: it has the last of the bytes, cut by the last of the lengths.
+-- Where there is no call, any record
 abbrev pub call_of : List CallEntry → Undone → List ℕ → List ℕ → Record
 call_of [] undone bytes commas = Moved
 call_of (c ∷ calls) undone bytes commas =
@@ -136,7 +139,8 @@ Holds kept.Changed l = HasCall l.calls l.bytes l.commas × (1 ≤ length l.undon
 Holds kept.Idle l = 1 ≤ length l.emptied
 Holds other l = Unit {0}
 
--- an entry keeps this of a call that destroyed this of forms and blocks, and what it cannot hold stands before the list of these then
+-- an entry keeps this of a call that destroyed this of forms and blocks, and what it cannot hold
+-- stands before the list of these then
 abbrev pub IsKept : Kept → Undone → List Undone → List Undone → Type 0
 IsKept kept.Call undone old new = (undone ≡ Nothing) × (new ≡ old)
 IsKept (kept.Pointed place) undone old new = (undone ≡ Point place) × (new ≡ old)

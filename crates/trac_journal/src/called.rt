@@ -30,7 +30,8 @@ pub struct LentCall<'a> {
     pub arguments: PiecesRef<'a>,
 }
 
-/// The record of a step that performs no function and does not empty the texts: small, copied freely, and it owns no memory.
+/// The record of a step that performs no function and does not empty the texts: small, copied
+/// freely, and it owns no memory.
 #[derive(Clone, Copy)]
 pub enum Short {
     /// A byte went to the current text.

@@ -23,9 +23,9 @@ const NONE_PASSED: Passed = Passed {
 };
 
 impl<A: Allocator + Copy> Journal<A> {
-    /// Keeps so many of the newest records, or all where there are fewer, and drops the others. Returns how many bytes of the
-    /// tape the steps of those read, and how many they printed: each sum has to fit a `usize`. It takes time for what it drops,
-    /// averaged over all calls, and none for what it keeps.
+    /// Keeps so many of the newest records, or all where there are fewer, and drops the others. Returns how many bytes
+    /// of the tape the steps of those read, and how many they printed: each sum has to fit a `usize`. It takes time for
+    /// what it drops, averaged over all calls, and none for what it keeps.
     pub fn keep_newest(&mut self, n: usize) -> Passed
         requires read_fits { sum_by read_by (drop n self.old.records) < 2 ^ 64 }
         requires printed_fits { sum_by printed_by (drop n self.old.records) < 2 ^ 64 }
@@ -42,8 +42,8 @@ impl<A: Allocator + Copy> Journal<A> {
         passed
     }
 
-    /// How many bytes the steps printed whose records `keep_newest` would drop: the sum has to fit a `usize`. It takes time for
-    /// these records, but for those of moved bytes.
+    /// How many bytes the steps printed whose records `keep_newest` would drop: the sum has to fit a `usize`. It takes
+    /// time for these records, but for those of moved bytes.
     pub fn printed_before(&self, n: usize) -> usize
         requires { sum_by printed_by (drop n self.now.records) < 2 ^ 64 }
         ensures { result ≡ sum_by printed_by (drop n self.now.records) }
@@ -51,8 +51,8 @@ impl<A: Allocator + Copy> Journal<A> {
         printed_by_first(&self.entries, &self.lists, self.len.saturating_sub(n))
     }
 
-    // Drops some of the oldest records, `most` at most: those of bytes that were moved one after another, or these and that of
-    // the entry after them.
+    // Drops some of the oldest records, `most` at most: those of bytes that were moved one after another, or these
+    // and that of the entry after them.
     fn drop_some(&mut self, most: usize) -> Passed
         requires some { 0 < most }
         requires there { most ≤ length self.old.records }

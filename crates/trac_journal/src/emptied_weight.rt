@@ -10,8 +10,8 @@ use trac_rules::kind::Kind;
 use trac_text::Pieces;
 
 impl<A: Allocator + Copy> Emptied<A> {
-    /// What this weighs: its bytes, and one for each `,` and each begun function. The sum has to fit a `usize`. It takes time
-    /// for the begun functions alone.
+    /// What this weighs: its bytes, and one for each `,` and each begun function. The sum has to fit a `usize`. It
+    /// takes time for the begun functions alone.
     pub fn weight(&self) -> usize
         requires { length self.now.base.items + frames_weight (frames_in self.now.frames.items) < 2 ^ 64 }
         ensures { result ≡ length self.now.base.items + frames_weight (frames_in self.now.frames.items) }
@@ -20,8 +20,8 @@ impl<A: Allocator + Copy> Emptied<A> {
     }
 }
 
-/// What the arguments of a function weigh: the bytes of all of them, and one for each `,` between them. The sum has to fit a
-/// `usize`.
+/// What the arguments of a function weigh: the bytes of all of them, and one for each `,` between
+/// them. The sum has to fit a `usize`.
 pub fn weigh_pieces<A: Allocator + Copy>(arguments: &Pieces<A>) -> usize
     requires { total_length (all_texts arguments.now) + (length (all_texts arguments.now) - 1) < 2 ^ 64 }
     ensures { result ≡ total_length (all_texts arguments.now) + (length (all_texts arguments.now) - 1) }

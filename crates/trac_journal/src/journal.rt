@@ -1,5 +1,6 @@
 //! The journal: a record for each step, packed.
-ghost use Rattle.std.specs.Prelude.{◌≡◌, ◌+◌, ◌-◌, ◌<◌, ◌≤◌, ◌^◌, ◌++◌, ◌∷◌, [], length, replicate, IsOkUnless, MatchOption, OnErr, OnOk};
+ghost use Rattle.std.specs.Prelude.{◌≡◌, ◌+◌, ◌-◌, ◌<◌, ◌≤◌, ◌^◌, ◌++◌, ◌∷◌, [], length, replicate, IsOkUnless};
+ghost use Rattle.std.specs.Prelude.{MatchOption, OnErr, OnOk};
 ghost use Rattle.std.specs.List.{concat};
 ghost use Rattle.std.specs.VecDeque.{deque_capacity, deque_len};
 ghost use Rattle.trac_rules.specs.declared.limit.TheConstants.{JOURNAL_LIMIT};
@@ -8,7 +9,8 @@ ghost use Rattle.trac_rules.specs.Weights.{meta_weight, undone_weight, weight};
 ghost use Rattle.trac_journal.specs.Journaled.{HasPlaceForCall, HasPlaceForIdle, IsLight};
 ghost use Rattle.trac_journal.specs.Listed.{newest_in, nothing_listed, AreSmall, IsBrief};
 ghost use Rattle.trac_text.specs.Pieces.{all_texts, frames_in};
-ghost use Rattle.trac_journal.specs.Told.{record_with, said_by, sum_by, FitsEntry, HasCallFirst, HasCallOut, IsCallFirst, IsIdleFirst, IsMovedFirst, IsShortFirst};
+ghost use Rattle.trac_journal.specs.Told.{record_with, said_by, sum_by, FitsEntry, HasCallFirst, HasCallOut};
+ghost use Rattle.trac_journal.specs.Told.{IsCallFirst, IsIdleFirst, IsMovedFirst, IsShortFirst};
 ghost use Rattle.trac_change.specs.Undone.{undone_in};
 
 use crate::called::{Called, LentCall, Short};
@@ -22,13 +24,14 @@ use trac_change::Undone;
 use trac_rules::refusal::Refusal;
 use trac_text::Args;
 
-/// What the steps of a machine destroyed, a record for each: seen as the list of the rules' records, the newest first, and
-/// beside it how much room there is for more.
+/// What the steps of a machine destroyed, a record for each: seen as the list of the rules' records, the newest first,
+/// and beside it how much room there is for more.
 ///
-/// A step first reserves, then changes the machine, and pushes its record, which cannot be refused. On the way back the
-/// newest record is taken out by the function for its kind; that of a call is lent before, and taken out after its texts are
-/// put back. Bytes that were moved one after another are kept as their number, and their records take no memory. Only calls
-/// that reserve can be refused, with `Memory`, and then the records stay. A journal holds at most 1,048,576 records.
+/// A step first reserves, then changes the machine, and pushes its record, which cannot be refused. On the way
+/// back the newest record is taken out by the function for its kind; that of a call is lent before, and taken out
+/// after its texts are put back. Bytes that were moved one after another are kept as their number, and their
+/// records take no memory. Only calls that reserve can be refused, with `Memory`, and then the records stay. A
+/// journal holds at most 1,048,576 records.
 #[derive(Drop)]
 pub struct Journal<A: Allocator + Copy = Global> {
     // how many bytes were moved since the last entry, a step each
@@ -59,7 +62,8 @@ impl<A: Allocator + Copy> Model for Journal<A> {
       room = j.lists.room;
     } };
 
-    ghost invariant = { λ j. AreListed (reverse j.entries.items) j.lists.listed × AreCounted (unpacked j.moved (reverse j.entries.items) j.lists.listed) j.len j.weight };
+    ghost invariant = { λ j. AreListed (reverse j.entries.items) j.lists.listed
+        × AreCounted (unpacked j.moved (reverse j.entries.items) j.lists.listed) j.len j.weight };
 }
 
 impl<A: Allocator + Copy> Journal<A> {
@@ -133,8 +137,8 @@ impl<A: Allocator + Copy> Journal<A> {
         self.len += n;
     }
 
-    /// Keeps one short record more, the newest. There has to be room for it, and a protected text to be shorter than 2^32
-    /// bytes, as every text of a machine is.
+    /// Keeps one short record more, the newest. There has to be room for it, and a protected text to be shorter than
+    /// 2^32 bytes, as every text of a machine is.
     pub fn push_short(&mut self, newest: Short)
         requires not_full { length self.old.records < JOURNAL_LIMIT }
         requires place { 1 ≤ self.old.places }
@@ -169,9 +173,9 @@ impl<A: Allocator + Copy> Journal<A> {
         self.weight += weigh_brief(kept);
     }
 
-    /// Keeps the record of one call more, the newest: what it says beside its arguments, these, and what it destroyed of forms
-    /// and blocks. There has to be room for it, each number to be below 2^32, and the record to weigh no more than 2^42, as that
-    /// of every step from a proper state does.
+    /// Keeps the record of one call more, the newest: what it says beside its arguments, these, and what it destroyed
+    /// of forms and blocks. There has to be room for it, each number to be below 2^32, and the record to weigh no more
+    /// than 2^42, as that of every step from a proper state does.
     #[inline(always)]
     pub fn push_call(&mut self, called: Called, arguments: &Args<'_>, undone: Undone<A>)
         requires not_full { length self.old.records < JOURNAL_LIMIT }
@@ -192,8 +196,8 @@ impl<A: Allocator + Copy> Journal<A> {
         self.weight += weight;
     }
 
-    /// Keeps the record of one step more that emptied all texts, the newest. There has to be room for it, and it may not weigh
-    /// more than 2^42, as that of no step from a proper state does.
+    /// Keeps the record of one step more that emptied all texts, the newest. There has to be room for it, and it may
+    /// not weigh more than 2^42, as that of no step from a proper state does.
     pub fn push_idle(&mut self, emptied: Emptied<A>)
         requires not_full { length self.old.records < JOURNAL_LIMIT }
         requires light { IsLight (Idle emptied.base.items (frames_in emptied.frames.items)) }
@@ -211,11 +215,12 @@ impl<A: Allocator + Copy> Journal<A> {
         self.weight += weight;
     }
 
-    /// Takes out the newest record and returns it, where its step performed no function and did not empty the texts; else
-    /// returns none, and changes nothing.
+    /// Takes out the newest record and returns it, where its step performed no function and did not empty the texts;
+    /// else returns none, and changes nothing.
     #[inline(always)]
     pub fn pop_short(&mut self) -> Option<Short>
-        ensures { MatchOption result ((IsShortFirst self.old.records → ⊥) × (self.new ≡ self.old)) (λ short. self.old.records ≡ said_by short ∷ self.new.records) }
+        ensures { MatchOption result ((IsShortFirst self.old.records → ⊥) × (self.new ≡ self.old))
+            (λ short. self.old.records ≡ said_by short ∷ self.new.records) }
     {
         if self.moved > 0 {
             self.moved -= 1;
@@ -234,7 +239,8 @@ impl<A: Allocator + Copy> Journal<A> {
     /// The newest record, lent, where it is of a call; else none.
     #[inline(always)]
     pub fn newest_call(&self) -> Option<LentCall<'_>>
-        ensures { MatchOption result (IsCallFirst self.now.records → ⊥) (λ call. HasCallFirst call.called (all_texts call.arguments) self.now.records) }
+        ensures { MatchOption result (IsCallFirst self.now.records → ⊥)
+            (λ call. HasCallFirst call.called (all_texts call.arguments) self.now.records) }
     {
         if self.moved > 0 {
             return None;
@@ -262,10 +268,11 @@ impl<A: Allocator + Copy> Journal<A> {
         undone
     }
 
-    /// Takes out the newest record and returns what its step emptied, where it emptied all texts; else returns none, and changes
-    /// nothing.
+    /// Takes out the newest record and returns what its step emptied, where it emptied all texts; else
+    /// returns none, and changes nothing.
     pub fn pop_idle(&mut self) -> Option<Emptied<A>>
-        ensures { MatchOption result ((IsIdleFirst self.old.records → ⊥) × (self.new ≡ self.old)) (λ emptied. self.old.records ≡ Idle emptied.base.items (frames_in emptied.frames.items) ∷ self.new.records) }
+        ensures { MatchOption result ((IsIdleFirst self.old.records → ⊥) × (self.new ≡ self.old)) (λ emptied.
+            self.old.records ≡ Idle emptied.base.items (frames_in emptied.frames.items) ∷ self.new.records) }
     {
         if self.moved > 0 {
             return None;
@@ -282,8 +289,8 @@ impl<A: Allocator + Copy> Journal<A> {
         Some(emptied)
     }
 
-    /// Takes out the records of the bytes that were moved last, up to `most` of them, and returns how many these are: fewer than
-    /// `most` only where the newest record then is of another kind, or there is none.
+    /// Takes out the records of the bytes that were moved last, up to `most` of them, and returns how many these are:
+    /// fewer than `most` only where the newest record then is of another kind, or there is none.
     pub fn pop_moved(&mut self, most: usize) -> usize
         ensures taken { self.old.records ≡ replicate result Moved ++ self.new.records }
         ensures most { result ≤ most }
@@ -310,7 +317,8 @@ impl<A: Allocator + Copy> Journal<A> {
 // The short record that an entry holds; none where it holds less than all of a record.
 #[inline(always)]
 fn short_in(kept: Kept) -> Option<Short>
-    ensures { MatchOption result (IsBrief kept → ⊥) (λ short. IsBrief kept × (said_by short ≡ newest_in kept nothing_listed)) }
+    ensures { MatchOption result (IsBrief kept → ⊥)
+        (λ short. IsBrief kept × (said_by short ≡ newest_in kept nothing_listed)) }
 {
     match kept {
         Kept::Comma => Some(Short::Comma),
@@ -324,8 +332,8 @@ fn short_in(kept: Kept) -> Option<Short>
     }
 }
 
-/// What the record of a call weighs whose arguments have so many bytes and commas together, which set the meta character where
-/// there is one here, and which destroyed this of forms and blocks. The sum has to fit a `u64`.
+/// What the record of a call weighs whose arguments have so many bytes and commas together, which set the meta
+/// character where there is one here, and which destroyed this of forms and blocks. The sum has to fit a `u64`.
 #[inline(always)]
 pub fn weigh_call<A: Allocator + Copy>(len: usize, meta: Option<u8>, undone: &Undone<A>) -> u64
     requires { len + meta_weight meta + undone_weight (undone_in undone.now) < 2 ^ 64 }

@@ -1,5 +1,6 @@
-//! The journal: what the steps of a machine destroyed, a record for each, packed one after another, and the parts of which
-//! records are made. Nothing here knows a machine. All of it is this project's profile: T-64 says nothing of ways back.
+//! The journal: what the steps of a machine destroyed, a record for each, packed one after another, and
+//! the parts of which records are made. Nothing here knows a machine. All of it is this project's profile:
+//! T-64 says nothing of ways back.
 #![tactic(auto)]
 
 pub mod called;

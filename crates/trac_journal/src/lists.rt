@@ -1,14 +1,18 @@
 //! The lists of a journal, in which its records stand one after another.
-ghost use Rattle.std.specs.Prelude.{◌≡◌, ℕ, ◌+◌, ◌-◌, ◌<◌, ◌≤◌, ◌^◌, ◌++◌, List, [], ◌∷◌, length, drop, map, reverse, IsOkUnless, OnOk};
+ghost use Rattle.std.specs.Prelude.{◌≡◌, ℕ, ◌+◌, ◌-◌, ◌<◌, ◌≤◌, ◌^◌, ◌++◌, List, [], ◌∷◌, length, drop, map, reverse};
+ghost use Rattle.std.specs.Prelude.{IsOkUnless, OnOk};
 ghost use Rattle.std.specs.List.{concat};
 ghost use Rattle.std.specs.VecDeque.{deque_capacity, deque_len};
 ghost use Rattle.trac_rules.specs.Records.{Called as CallOf, Idle};
 ghost use Rattle.trac_rules.specs.State.{Frame};
 ghost use Rattle.trac_rules.specs.Undone as rules;
 ghost use Rattle.trac_rules.specs.Weights.{meta_weight, undone_weight, weight};
-ghost use Rattle.trac_journal.specs.Dropped.{printed_at, printed_in, without_oldest, EndsWithCall, IsGone, IsGoneCall, IsOldest};
+ghost use Rattle.trac_journal.specs.Dropped.{printed_at, printed_in, without_oldest, EndsWithCall, IsGone, IsGoneCall};
+ghost use Rattle.trac_journal.specs.Dropped.{IsOldest};
 ghost use Rattle.trac_journal.specs.Journaled.{HasRoom};
-ghost use Rattle.trac_journal.specs.Listed.{call_of, called_in, first_undone, idle_of, newest_in, newest_undone, nothing_listed, older_undone, without_call, AreSmall, HasCall, HasMore, Holds, IsBrief, IsKept, Listed};
+ghost use Rattle.trac_journal.specs.Listed.{call_of, called_in, first_undone, idle_of, newest_in, newest_undone};
+ghost use Rattle.trac_journal.specs.Listed.{nothing_listed, older_undone, without_call, AreSmall, HasCall, HasMore};
+ghost use Rattle.trac_journal.specs.Listed.{Holds, IsBrief, IsKept, Listed};
 ghost use Rattle.trac_text.specs.Pieces.{all_texts, frames_in};
 ghost use Rattle.trac_journal.specs.Told.{record_with};
 ghost use Rattle.trac_journal.specs.Emptied.{texts_in};
@@ -25,9 +29,9 @@ use trac_gap::SlidingBuf;
 use trac_rules::refusal::Refusal;
 use trac_text::{Args, PiecesRef};
 
-/// What the records of a journal destroyed, but for what an entry holds: the calls with their arguments one after another, what
-/// was destroyed of forms and blocks, and what idle steps emptied, each in a list of its own. It is seen as these lists, and
-/// beside them how much room they have.
+/// What the records of a journal destroyed, but for what an entry holds: the calls with their arguments one after
+/// another, what was destroyed of forms and blocks, and what idle steps emptied, each in a list of its own. It is seen
+/// as these lists, and beside them how much room they have.
 #[derive(Drop)]
 pub struct Lists<A: Allocator + Copy = Global> {
     calls: VecDeque<CallEntry, A>,
@@ -107,8 +111,8 @@ impl<A: Allocator + Copy> Lists<A> {
         Ok(())
     }
 
-    // Puts a call with its arguments, and what it destroyed of forms and blocks, after all others, and returns what an entry
-    // is to keep. There has to be room.
+    // Puts a call with its arguments, and what it destroyed of forms and blocks, after all others, and returns what an
+    // entry is to keep. There has to be room.
     #[inline(always)]
     pub(crate) fn push_call(
         &mut self,
@@ -118,7 +122,8 @@ impl<A: Allocator + Copy> Lists<A> {
     ) -> Kept
         requires small { AreSmall called (length (concat arguments.now)) (length arguments.now) }
         requires room { HasRoom (length (concat arguments.now)) (length arguments.now - 1) self.old.room }
-        ensures { HasMore result (CallOf (record_with called arguments.now (undone_in undone))) self.old.listed self.new.listed }
+        ensures { HasMore result (CallOf (record_with called arguments.now (undone_in undone))) self.old.listed
+            self.new.listed }
     {
         // `len` is called for what it says: there are no more items than places.
         let _bytes = self.bytes.len();
@@ -134,7 +139,8 @@ impl<A: Allocator + Copy> Lists<A> {
     // Puts what an idle step emptied after all others. There has to be room.
     pub(crate) fn push_idle(&mut self, emptied: Emptied<A>)
         requires { 1 ≤ self.old.room.emptied }
-        ensures { HasMore Kept.Idle (Idle emptied.base.items (frames_in emptied.frames.items)) self.old.listed self.new.listed }
+        ensures { HasMore Kept.Idle (Idle emptied.base.items (frames_in emptied.frames.items)) self.old.listed
+            self.new.listed }
     {
         self.emptied.push_back_reserved(emptied);
     }
@@ -143,7 +149,9 @@ impl<A: Allocator + Copy> Lists<A> {
     #[inline(always)]
     pub(crate) fn newest_call(&self) -> LentCall<'_>
         requires { HasCall self.now.listed.calls self.now.listed.bytes self.now.listed.commas }
-        ensures { (undone : rules.Undone) → call_of self.now.listed.calls undone self.now.listed.bytes self.now.listed.commas ≡ CallOf (record_with result.called (all_texts result.arguments) undone) }
+        ensures { (undone : rules.Undone) →
+            call_of self.now.listed.calls undone self.now.listed.bytes self.now.listed.commas
+            ≡ CallOf (record_with result.called (all_texts result.arguments) undone) }
     {
         let Some(call) = self.calls.back() else {
             unreachable!()
@@ -158,12 +166,14 @@ impl<A: Allocator + Copy> Lists<A> {
         LentCall { called, arguments }
     }
 
-    // Takes out the newest call with its arguments, and returns what it weighs beside what it destroyed of forms and blocks.
+    // Takes out the newest call with its arguments, and returns what it weighs beside what it
+    // destroyed of forms and blocks.
     #[inline(always)]
     pub(crate) fn pop_call(&mut self) -> u64
         requires { HasCall self.old.listed.calls self.old.listed.bytes self.old.listed.commas }
         ensures others { self.new.listed ≡ without_call self.old.listed.calls self.old.listed }
-        ensures weighs { (undone : rules.Undone) → result + undone_weight undone ≡ weight (call_of self.old.listed.calls undone self.old.listed.bytes self.old.listed.commas) }
+        ensures weighs { (undone : rules.Undone) → result + undone_weight undone
+            ≡ weight (call_of self.old.listed.calls undone self.old.listed.bytes self.old.listed.commas) }
     {
         let Some(call) = self.calls.pop_back() else {
             unreachable!()
@@ -178,7 +188,8 @@ impl<A: Allocator + Copy> Lists<A> {
     #[inline(always)]
     pub(crate) fn pop_undone(&mut self, kept: Kept) -> Undone<A>
         requires { Holds kept self.old.listed }
-        ensures others { self.new.listed ≡ record self.old.listed { undone = older_undone kept self.old.listed.undone } }
+        ensures others { self.new.listed
+            ≡ record self.old.listed { undone = older_undone kept self.old.listed.undone } }
         ensures own { undone_in result ≡ newest_undone kept self.old.listed.undone }
     {
         match kept {
@@ -217,10 +228,13 @@ impl<A: Allocator + Copy> Lists<A> {
         emptied
     }
 
-    // Drops what the oldest record has in the lists, of which its entry keeps this, and returns what is to be known of it.
+    // Drops what the oldest record has in the lists, of which its entry keeps this, and returns
+    // what is to be known of it.
     pub(crate) fn drop_oldest(&mut self, kept: Kept) -> Gone
-        requires { (own : Listed) × ((others : Listed) × (IsOldest kept own others self.old.listed × (weight (newest_in kept own) < 2 ^ 64))) }
-        ensures { (own others : Listed) → IsOldest kept own others self.old.listed → IsGone result (newest_in kept own) × (self.new.listed ≡ others) }
+        requires { (own : Listed) × ((others : Listed)
+            × (IsOldest kept own others self.old.listed × (weight (newest_in kept own) < 2 ^ 64))) }
+        ensures { (own others : Listed) → IsOldest kept own others self.old.listed →
+            IsGone result (newest_in kept own) × (self.new.listed ≡ others) }
     {
         match kept {
             Kept::Comma | Kept::Begun | Kept::Quoted { .. } | Kept::Deleted(_) => {
@@ -240,7 +254,8 @@ impl<A: Allocator + Copy> Lists<A> {
     // Drops the oldest call, and returns what is to be known of it, what it destroyed of forms and blocks aside.
     fn drop_call(&mut self) -> Gone
         requires { (call : CallEntry) × ((calls : List CallEntry) × EndsWithCall call calls self.old.listed) }
-        ensures { (call : CallEntry) (calls : List CallEntry) → EndsWithCall call calls self.old.listed → IsGoneCall result call × (self.new.listed ≡ without_oldest call calls self.old.listed) }
+        ensures { (call : CallEntry) (calls : List CallEntry) → EndsWithCall call calls self.old.listed →
+            IsGoneCall result call × (self.new.listed ≡ without_oldest call calls self.old.listed) }
     {
         let Some(call) = self.calls.pop_front() else {
             unreachable!()
@@ -256,8 +271,10 @@ impl<A: Allocator + Copy> Lists<A> {
 
     // Drops what was destroyed first of forms and blocks, and returns what it weighs.
     fn drop_undone(&mut self) -> u64
-        requires { (first : rules.Undone) × ((newer : List rules.Undone) × ((self.old.listed.undone ≡ newer ++ first ∷ []) × (undone_weight first < 2 ^ 64))) }
-        ensures { (first : rules.Undone) (newer : List rules.Undone) → self.old.listed.undone ≡ newer ++ first ∷ [] → (result ≡ undone_weight first) × (self.new.listed ≡ record self.old.listed { undone = newer }) }
+        requires { (first : rules.Undone) × ((newer : List rules.Undone)
+            × ((self.old.listed.undone ≡ newer ++ first ∷ []) × (undone_weight first < 2 ^ 64))) }
+        ensures { (first : rules.Undone) (newer : List rules.Undone) → self.old.listed.undone ≡ newer ++ first ∷ [] →
+            (result ≡ undone_weight first) × (self.new.listed ≡ record self.old.listed { undone = newer }) }
     {
         let Some(undone) = self.undone.pop_front() else {
             unreachable!()
@@ -267,8 +284,11 @@ impl<A: Allocator + Copy> Lists<A> {
 
     // Drops what was emptied first, and returns what it weighs.
     fn drop_emptied(&mut self) -> u64
-        requires { (first : List ℕ × List Frame) × ((newer : List (List ℕ × List Frame)) × ((self.old.listed.emptied ≡ newer ++ first ∷ []) × (weight (Idle first.0 first.1) < 2 ^ 64))) }
-        ensures { (first : List ℕ × List Frame) (newer : List (List ℕ × List Frame)) → self.old.listed.emptied ≡ newer ++ first ∷ [] → (result ≡ weight (Idle first.0 first.1)) × (self.new.listed ≡ record self.old.listed { emptied = newer }) }
+        requires { (first : List ℕ × List Frame) × ((newer : List (List ℕ × List Frame))
+            × ((self.old.listed.emptied ≡ newer ++ first ∷ []) × (weight (Idle first.0 first.1) < 2 ^ 64))) }
+        ensures { (first : List ℕ × List Frame) (newer : List (List ℕ × List Frame)) →
+            self.old.listed.emptied ≡ newer ++ first ∷ [] →
+            (result ≡ weight (Idle first.0 first.1)) × (self.new.listed ≡ record self.old.listed { emptied = newer }) }
     {
         let Some(emptied) = self.emptied.pop_front() else {
             unreachable!()
@@ -276,8 +296,8 @@ impl<A: Allocator + Copy> Lists<A> {
         emptied.weight() as u64
     }
 
-    // How much the step printed of whose record an entry keeps this. Its call, where it has one, stands at this place, the
-    // oldest at 0.
+    // How much the step printed of whose record an entry keeps this. Its call, where it has one, stands
+    // at this place, the oldest at 0.
     pub(crate) fn printed_by(&self, kept: Kept, at: usize) -> usize
         ensures { result ≡ printed_in kept (drop at (reverse self.now.listed.calls)) }
     {
@@ -379,11 +399,12 @@ fn weigh_texts(call: CallEntry) -> u64
     }
 }
 
-// What an entry is to keep of a call that destroyed this of forms and blocks. Where the entry cannot hold it, it goes to the end
-// of the list of these, which has to have a place.
+// What an entry is to keep of a call that destroyed this of forms and blocks. Where the entry cannot hold it, it goes
+// to the end of the list of these, which has to have a place.
 fn keep_undone<A: Allocator + Copy>(undone: Undone<A>, list: &mut VecDeque<Undone<A>, A>) -> Kept
     requires { deque_len list.old < deque_capacity list.old }
-    ensures { IsKept result (undone_in undone) (map undone_in (reverse list.old.items)) (map undone_in (reverse list.new.items)) }
+    ensures { IsKept result (undone_in undone) (map undone_in (reverse list.old.items))
+        (map undone_in (reverse list.new.items)) }
 {
     match undone {
         Undone::Nothing => Kept::Call,

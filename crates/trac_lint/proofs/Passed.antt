@@ -57,3 +57,6 @@ spot_past_feed text i line column more is h =
 pub spot_past_byte : (text : List ℕ) (i line column : ℕ) → i < length text → (get_or text i 0 == LINE_FEED) ≡ false → IsSpot (take i text) line column → IsSpot (take (i + 1) text) line (column + 1)
 spot_past_byte text i line column more other h =
     subst (λ t. IsSpot t line (column + 1)) (sym (one_more text i more)) (spot_after_byte (take i text) (get_or text i 0) line column other h)
+
+-- what the goals of `spot_after` use
+pub ruleset for_spot_after = (spot_first, spot_past_feed, spot_past_byte)

@@ -1,4 +1,5 @@
-//! Doubts of a whole program: it is run to its end, and each doubt is told once for each place of its files.
+//! Doubts of a whole program: it is run to its end, and each doubt is told once for each place of its files. All
+//! of it is this project's profile.
 #![tactic(auto)]
 
 mod linting;

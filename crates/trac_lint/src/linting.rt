@@ -160,8 +160,8 @@ impl<'s, A: Allocator + Copy> Linter<'s, A> {
         }
     }
 
-    // Tells a doubt of the state at which it stands in these words, unless it was told, or counts it where no more are told.
-    // One of which no place is known has that of the text that was read last, which is said, and is not counted.
+    // Tells a doubt of the state at which it stands in these words, unless it was told, or counts it where no more are
+    // told. One of which no place is known has that of the text that was read last, which is said, and is not counted.
     fn tell(
         &mut self,
         doubt: Doubt,

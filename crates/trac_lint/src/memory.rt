@@ -5,18 +5,18 @@ use std::collections::BTreeSet;
 use std::hash::{FoldHasher, Hasher};
 use trac_rules::doubt::Doubt;
 
-// So many meetings are told apart; later ones are taken for some that were before (this project's profile).
+// So many meetings are told apart; later ones are taken for some that were before.
 const MEETING_LIMIT: usize = 1_000_000;
 
-// So many places are told apart; later ones are taken for some that were before (this project's profile).
+// So many places are told apart; later ones are taken for some that were before.
 const KEPT_LIMIT: usize = 1_000_000;
 
-// So many doubts in a row, while the same text is read, may be followed in vain: they were told, or have no place that is
-// known (this project's profile).
+// So many doubts in a row, while the same text is read, may be followed in vain: they were told, or
+// have no place that is known.
 const REPEAT_LIMIT: u32 = 64;
 
-/// Which doubt is met, and where scanning stands then: how much is read, begun and left to scan. A loop mostly meets its
-/// doubts where it met them before, and two doubts of a program seldom stand so.
+/// Which doubt is met, and where scanning stands then: how much is read, begun and left to scan. A loop mostly meets
+/// its doubts where it met them before, and two doubts of a program seldom stand so.
 #[derive(Clone, Copy, PartialEq, Eq, PartialOrd, Ord, Debug)]
 pub(crate) struct Meeting {
     pub(crate) read: u64,
@@ -88,8 +88,9 @@ impl<A: Allocator + Copy> Memory<A> {
         }
     }
 
-    /// Whether this doubt of the byte of this number is kept, or, where none is known, it was told in these words. Where no
-    /// more places can be kept, each is taken for one that is. If so, or where none is known, it was followed in vain.
+    /// Whether this doubt of the byte of this number is kept, or, where none is known, it was told in these
+    /// words. Where no more places can be kept, each is taken for one that is. If so, or where none is
+    /// known, it was followed in vain.
     pub(crate) fn is_kept(&mut self, doubt: Doubt, number: Option<u64>, words: &[u8]) -> bool {
         let is_kept = match number {
             Some(number) => {

@@ -10,7 +10,7 @@ use trac_rules::refusal::Refusal;
 use trac_streams::number_into;
 use trac_streams::writing::{flush, write_whole};
 
-/// So many places are told of a program at most (this project's profile).
+/// So many places are told of a program at most.
 pub const PLACE_LIMIT: usize = 1_000;
 
 /// Why a run ended in which doubts were looked for.
@@ -40,8 +40,8 @@ pub struct Found {
 }
 
 impl Found {
-    /// The exit status of the program (this project's profile): 2 where the program was not run, or was refused memory,
-    /// or its doubts were not written; else 1 where there are some, and 0 for none.
+    /// The exit status of the program: 2 where the program was not run, or was refused memory, or its doubts were not
+    /// written; else 1 where there are some, and 0 for none.
     pub fn status(&self) -> u8
         ensures { result ≡ status_of self.now }
     {

@@ -10,16 +10,17 @@ use trac_walk::{Unsaid, Walker, place_of};
 // Of a byte that a call made the call's name is followed, whose bytes may be made too: so often at most.
 const MADE_LIMIT: usize = 1_000;
 
-// So many steps are gone back over at most to find where doubts come from, all ways together (this project's profile).
+// So many steps are gone back over at most to find where doubts come from, all ways together.
 const WAYS_LIMIT: u64 = 20_000_000;
 
-// Until so many are gone back over, each doubt is followed, also where it was met before (this project's profile).
+// Until so many are gone back over, each doubt is followed, also where it was met before.
 const FREE_WAYS: u64 = 2_000_000;
 
-// After so many, doubts that are met in the same place are not told apart by their words (this project's profile).
+// After so many, doubts that are met in the same place are not told apart by their words.
 const WORD_WAYS: u64 = 10_000_000;
 
-/// Finds from which bytes of the files the bytes come that doubts are about, until it has gone back over 20,000,000 steps.
+/// Finds from which bytes of the files the bytes come that doubts are about, until it has gone back
+/// over 20,000,000 steps.
 #[derive(Clone, Copy)]
 pub struct Origins<'s> {
     pub(crate) sources: Sources<'s>,
@@ -56,9 +57,9 @@ impl<'s> Origins<'s> {
         self.ways == 0
     }
 
-    /// The number of the byte of the files from which that of a doubt of the next step comes, the first being number 0; none
-    /// where it is not known, or too many steps were gone back over. It goes back, and forward again; the refusal is of a
-    /// step on that way.
+    /// The number of the byte of the files from which that of a doubt of the next step comes, the first being number
+    /// 0; none where it is not known, or too many steps were gone back over. It goes back, and forward again; the
+    /// refusal is of a step on that way.
     pub fn number<A: Allocator + Copy>(
         &mut self,
         walker: &mut Walker<A>,

@@ -66,7 +66,7 @@ impl<'a> Sources<'a> {
 }
 
 // Where the byte stands before which a file has these.
-#[tactic(auto, using(crate::proofs::Passed::spot_first, crate::proofs::Passed::spot_past_feed, crate::proofs::Passed::spot_past_byte))]
+#[tactic(auto, using(crate::proofs::Passed::for_spot_after))]
 fn spot_after<'a>(name: &'a [u8], before: &[u8]) -> Spot<'a>
     requires { length before.now ≤ TAPE_LIMIT }
     ensures name { result.name.now ≡ name.now }

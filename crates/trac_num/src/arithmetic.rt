@@ -1,6 +1,6 @@
-//! Arithmetic on numbers of a width. `None` stands for a result that does not fit. Sums and differences are always calculated
-//! in 128 bits, which costs little more. Products and quotients of 128 bits take much longer: so these are calculated in 64
-//! bits where both numbers and the result fit these.
+//! Arithmetic on numbers of a width. `None` stands for a result that does not fit. Sums and differences are always
+//! calculated in 128 bits, which costs little more. Products and quotients of 128 bits take much longer: so these are
+//! calculated in 64 bits where both numbers and the result fit these.
 ghost use Rattle.std.specs.Prelude.{◌≡◌, MatchOption, Some, IfSome, false, true};
 ghost use Rattle.trac_rules.specs.Number.{difference_of, fits, if_fits, product_of, quotient_of, sum_of};
 ghost use Rattle.trac_rules.specs.declared.width.Width.TheVariants.{W64};
@@ -66,7 +66,7 @@ pub fn mul(a: i128, b: i128, width: Width) -> Option<i128>
     within(a.checked_mul(b)?, width)
 }
 
-/// `a` by `b`, cut toward zero (this project's profile). `None`: `b` is 0, or the quotient does not fit the width.
+/// `a` by `b`, cut toward zero. `None`: `b` is 0, or the quotient does not fit the width.
 pub fn div(a: i128, b: i128, width: Width) -> Option<i128>
     ensures { result ≡ quotient_of width a b }
 {

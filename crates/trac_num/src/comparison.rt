@@ -68,8 +68,8 @@ fn is_larger(a: &[u8], b: &[u8]) -> bool
     a.len() > b.len()
 }
 
-/// Whether the number of the first numeral is greater. They are compared exactly, whether they fit the range of numbers or
-/// not, and -0 is 0 (this project's profile). Nothing is copied.
+/// Whether the number of the first numeral is greater. They are compared exactly, whether they fit the range of numbers
+/// or not, and -0 is 0. Nothing is copied.
 pub fn greater(a: &[u8], b: &[u8]) -> bool
     requires a_form { IsNumeralOrNull a.now }
     requires b_form { IsNumeralOrNull b.now }

@@ -1,5 +1,6 @@
-//! Numbers and octal strings at the ends of texts: decimals are read, calculated within the range of a width, compared and
-//! printed, and the bits of octal strings are joined, turned over, moved and rotated.
+//! Numbers and octal strings at the ends of texts: decimals are read, calculated within the range of a width, compared
+//! and printed, and the bits of octal strings are joined, turned over, moved and rotated. How far numbers reach and
+//! what T-64 leaves open of them are this project's profile.
 #![tactic(auto)]
 
 pub mod arithmetic;

@@ -53,8 +53,8 @@ fn long_value(numeral: &[u8], width: Width) -> Option<i128>
     }
 }
 
-/// The number that a numeral writes, where it fits the width; an empty numeral writes 0. `None`: it does not fit. A numeral
-/// may be of any length, and it is read in a time that grows with its length alone.
+/// The number that a numeral writes, where it fits the width; an empty numeral writes 0. `None`: it does not fit. A
+/// numeral may be of any length, and it is read in a time that grows with its length alone.
 pub fn value(numeral: &[u8], width: Width) -> Option<i128>
     requires { IsNumeralOrNull numeral.now }
     ensures { result ≡ number_of width numeral.now }

@@ -1,6 +1,7 @@
 //! Octal texts moved and rotated by places of a bit. Texts hold octal digits alone, and each digit is three bits.
 ghost use Rattle.std.specs.Prelude.{◌≡◌, ◌<◌, ◌≤◌, ◌+◌, ◌-◌, ◌*◌, ◌/◌, ◌%◌, ◌++◌, length, take, drop, IfOk, IsTrue};
-ghost use Rattle.trac_rules.specs.Octal.{IsOctal, bits_of, digit_bits, is_octal_digit, rotate, shift, shifted_left, shifted_right};
+ghost use Rattle.trac_rules.specs.Octal.{IsOctal, bits_of, digit_bits, is_octal_digit, rotate, shift, shifted_left};
+ghost use Rattle.trac_rules.specs.Octal.{shifted_right};
 
 use crate::error::NumError;
 use std::alloc::Allocator;
@@ -23,7 +24,8 @@ fn slide<A: Allocator>(digits: &mut Vec<u8, A>, skipped: u8)
     requires octal { IsOctal digits.old.items }
     requires some { 0 < length digits.old.items }
     requires within { skipped ≤ 3 }
-    ensures bits { bits_of digits.new.items ≡ take (3 * (length digits.old.items - 1)) (drop skipped (bits_of digits.old.items)) }
+    ensures bits { bits_of digits.new.items
+        ≡ take (3 * (length digits.old.items - 1)) (drop skipped (bits_of digits.old.items)) }
     ensures still_octal { IsOctal digits.new.items }
 {
     let last = digits.len() - 1;
@@ -96,7 +98,8 @@ fn turned<A: Allocator + Copy>(
     requires octal { IsOctal a.now }
     requires inside { start < length a.now }
     requires within { skipped ≤ 3 }
-    ensures bits { IfOk result (λ v. let k = 3 * start + skipped in bits_of v.items ≡ drop k (bits_of a.now) ++ take k (bits_of a.now)) }
+    ensures bits { IfOk result
+        (λ v. let k = 3 * start + skipped in bits_of v.items ≡ drop k (bits_of a.now) ++ take k (bits_of a.now)) }
     ensures still_octal { IfOk result (λ v. IsOctal v.items) }
 {
     let mut digits = Vec::with_capacity(alloc, a.len() + 1)?;
@@ -106,7 +109,8 @@ fn turned<A: Allocator + Copy>(
     Ok(digits)
 }
 
-/// An octal text whose bits are moved by so many places, to the left where positive. The length stays, and zeros come in.
+/// An octal text whose bits are moved by so many places, to the left where positive. The length
+/// stays, and zeros come in.
 ///
 /// `NumError::Memory`: memory was refused.
 pub fn shift<A: Allocator + Copy>(alloc: A, by: i128, a: &[u8]) -> Result<Vec<u8, A>, NumError>

@@ -1,4 +1,5 @@
-//! What a person asks of a walk: a line, split into its words, and the order that these say.
+//! What a person asks of a walk: a line, split into its words, and the order that these say. All of
+//! it is this project's profile.
 #![tactic(auto)]
 
 mod order;

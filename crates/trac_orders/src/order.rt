@@ -1,6 +1,6 @@
 //! What the words of a line ask for.
 
-/// A count has at most so many digits (this project's profile).
+/// A count has at most so many digits.
 pub const DIGIT_LIMIT: usize = 12;
 
 /// How many calls are listed where no number is given.
@@ -128,8 +128,8 @@ pub enum Order<'a> {
     Quit,
 }
 
-/// What the words of a line ask for, the first being the command; `quoted` says whether the second stood in quotes. None
-/// where they are not understood. It takes no memory.
+/// What the words of a line ask for, the first being the command; `quoted` says whether the second stood in quotes.
+/// None where they are not understood. It takes no memory.
 pub fn order_of<'a>(words: &'a [&'a [u8]], quoted: bool) -> Option<Order<'a>> {
     let (command, rest) = words.split_first()?;
     if let Some(way) = move_of(command, rest, quoted) {

@@ -19,10 +19,10 @@ struct Found<A: Allocator + Copy> {
     len: usize,
 }
 
-/// The words of a line, which any blanks and tabs stand between. A word may stand in quotes, and in those `\n` is a line
-/// feed, `\xHH` the byte of that hexadecimal number, and `\"` and `\\` are the second of the two. After the word `i` the
-/// rest of the line is one word, unless it stands in quotes. None where quotes are not ended, or hold another `\`. The error
-/// is that memory was refused.
+/// The words of a line, which any blanks and tabs stand between. A word may stand in quotes, and in those `\n` is a
+/// line feed, `\xHH` the byte of that hexadecimal number, and `\"` and `\\` are the second of the two. After the word
+/// `i` the rest of the line is one word, unless it stands in quotes. None where quotes are not ended, or hold another
+/// `\`. The error is that memory was refused.
 pub fn words_of<A: Allocator + Copy>(
     alloc: A,
     line: &[u8],

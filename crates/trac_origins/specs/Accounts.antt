@@ -43,7 +43,8 @@ abbrev pub makes_idle : Front → Bool
 makes_idle Nothing = true
 makes_idle front = false
 
--- whether a step makes items like this one: a byte by the idle program, the line of the trace or a primitive; a gap by a primitive
+-- whether a step makes items like this one: a byte by the idle program, the line of the trace or a
+-- primitive; a gap by a primitive
 abbrev pub made_in : Item → State → Scanned → Bool
 made_in (Byte b) s (Moves t) = makes_idle (front_of s.active)
 made_in (Byte b) s (Calls call) = call.state.trace || makes_bytes (primitive_of (argument 0 call.arguments))
@@ -55,20 +56,21 @@ makes item s = made_in item s (scan s)
 
 -- ---- the law of a step
 
--- what is true of an item that stands in the state `t` after the step from `s`: where it is said to be carried from, it stood; where it
--- is said to be read, it is that byte of the tape, which was not read before and is read now; where it is said to be made, the step makes
--- such items
+-- what is true of an item that stands in the state `t` after the step from `s`: where it is said to be carried from, it
+-- stood; where it is said to be read, it is that byte of the tape, which was not read before and is read now; where it
+-- is said to be made, the step makes such items
 abbrev pub Accounts : Environment → State → State → Origin → Item → Type 0
 Accounts environment s t (Carried place) item = found_at s place ≡ Some item
-Accounts environment s t (Read n) item = (s.position ≤ n) × (n < t.position) × (byte_at n environment.tape.bytes ≡ Some item)
+Accounts environment s t (Read n) item =
+    (s.position ≤ n) × (n < t.position) × (byte_at n environment.tape.bytes ≡ Some item)
 Accounts environment s t Made item = makes item s ≡ true
 
 -- ---- the law of many steps
 
--- what is true of an item of the state `t` that was followed back over the steps from the states before it: it stood at that place of the
--- first state, or was read or made by the step before those that carried it
+-- what is true of an item of the state `t` that was followed back over the steps from the states before it: it stood at
+-- that place of the first state, or was read or made by the step before those that carried it
 abbrev pub IsSource : Environment → List State → State → ℕ → Origin → Item → Type 0
 IsSource environment earlier t carried (Carried place) item =
     (carried ≡ length earlier) × (found_at (state_back carried t earlier) place ≡ Some item)
-IsSource environment earlier t carried source item =
-    (carried < length earlier) × Accounts environment (state_back (suc carried) t earlier) (state_back carried t earlier) source item
+IsSource environment earlier t carried source item = (carried < length earlier)
+    × Accounts environment (state_back (suc carried) t earlier) (state_back carried t earlier) source item

@@ -1,5 +1,7 @@
--- Words for the law of origins by lengths: where the bytes that a step moves are told by numbers alone, whatever bytes they are.
-use Rattle.std.specs.Prelude.{◌≡◌, ℕ, ◌+◌, ◌-◌, ◌==◌, ◌&&◌, not, nat_lt, if◌then◌else◌, List, [], ◌∷◌, length, Bool, true, false, Option, None, Some, Ok}
+-- Words for the law of origins by lengths: where the bytes that a step moves are told by numbers
+-- alone, whatever bytes they are.
+use Rattle.std.specs.Prelude.{◌≡◌, ℕ, ◌+◌, ◌-◌, ◌==◌, ◌&&◌, not, nat_lt, if◌then◌else◌, List, [], ◌∷◌, length, Bool}
+use Rattle.std.specs.Prelude.{true, false, Option, None, Some, Ok}
 use Rattle.std.specs.Str.{bytes_eq}
 use Rattle.trac_rules.specs.declared.item.Item.{Item}
 use Rattle.trac_rules.specs.declared.item.Item.TheVariants.{Byte, Gap}
@@ -20,7 +22,8 @@ use Rattle.trac_rules.specs.Performing.{performed, primitive_of, trace_line}
 use Rattle.trac_rules.specs.Scanning.{Call, Calls, scan}
 use Rattle.trac_rules.specs.State.{Environment, Frame, State}
 use Rattle.trac_origins.specs.Following.{Followed}
-use Rattle.trac_origins.specs.Places.{Place, InActive, InBase, InArgument, InForm, InHeld, InOutput, Origin, Carried, Made}
+use Rattle.trac_origins.specs.Places.{Place, InActive, InBase, InArgument, InForm, InHeld, InOutput, Origin, Carried}
+use Rattle.trac_origins.specs.Places.{Made}
 
 -- the current text, and the place of its byte of a number; the first argument is the functions
 abbrev pub current_text : List Frame → State → List ℕ
@@ -75,7 +78,8 @@ may_put primitive given name = false
 abbrev pub past_in : List Frame → State → Place → Option ℕ
 past_in [] s (InBase i) = if nat_lt i (length s.base) then None else Some (i - length s.base)
 past_in (f ∷ fs) s (InArgument n k i) =
-    if (n == length fs) && (k == length f.arguments) && not (nat_lt i (length f.gathered)) then Some (i - length f.gathered) else None
+    if (n == length fs) && (k == length f.arguments) && not (nat_lt i (length f.gathered))
+    then Some (i - length f.gathered) else None
 past_in fs s place = None
 
 -- a byte of the active text, where there is one, else another place
@@ -95,13 +99,14 @@ after_carried n f = record { carried = n + f.carried; origin = f.origin }
 -- ---- what a call makes
 
 -- a state stands at a call of this primitive, and this is what it does, its line of the trace printed first
-pub record IsCallOf (environment : Environment) (s : State) (call : Call) (primitive : Primitive) (e : Effect) : Type 0 where
+pub record IsCallOf
+    (environment : Environment) (s : State) (call : Call) (primitive : Primitive) (e : Effect) : Type 0 where
   pub scans : scan s ≡ Calls call
   pub named : primitive_of (argument 0 call.arguments) ≡ primitive
   pub does : performed environment call ≡ Ok e
 
--- where the byte of this number of a value stands after the call: before what is left of the active text, where it is scanned, else after
--- the current text. The state is that without the function
+-- where the byte of this number of a value stands after the call: before what is left of the active text, where it is
+-- scanned, else after the current text. The state is that without the function
 abbrev pub value_at : Kind → Bool → State → ℕ → Place
 value_at Active forced s i = InActive i
 value_at Neutral true s i = InActive i
@@ -109,7 +114,8 @@ value_at Neutral false s i = in_current s.frames (length (current_text s.frames 
 
 -- and of what is printed by the primitive: after the output and the line of the trace
 abbrev pub printed_at : Call → ℕ → Place
-printed_at call i = InOutput (length call.state.output + (length (trace_line call.state.trace call.kind call.arguments) + i))
+printed_at call i =
+    InOutput (length call.state.output + (length (trace_line call.state.trace call.kind call.arguments) + i))
 
 -- carried from an argument of the call, and from the form that argument 1 names
 abbrev pub of_argument : Call → ℕ → ℕ → Origin
@@ -137,8 +143,8 @@ number_of_default ReadChar = 2
 number_of_default ReadCount = 3
 number_of_default ReadUntil = 3
 
--- an item of a form that was segmented, which stands where this item of the form from before stood, and how that one is carried: a gap
--- over a byte is made
+-- an item of a form that was segmented, which stands where this item of the form from before stood, and how that one is
+-- carried: a gap over a byte is made
 abbrev pub cut_from : Item → Item → Origin → Origin
 cut_from (Gap ordinal width) (Byte b) carried = Made
 cut_from item old carried = carried

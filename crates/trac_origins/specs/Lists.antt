@@ -1,10 +1,12 @@
--- Lists of origins that stand beside the texts and forms of a state: one origin for each byte, and one for each item of a form.
+-- Lists of origins that stand beside the texts and forms of a state: one origin for each byte, and
+-- one for each item of a form.
 use Rattle.std.specs.Prelude.{ℕ, suc, ◌+◌, List, [], ◌∷◌, ◌++◌, length, get_or}
 use Rattle.std.specs.FinMap as finite
 use Rattle.std.specs.Option.{option_map_or}
 use Rattle.trac_rules.specs.Blocks.{block_at}
 use Rattle.trac_rules.specs.State.{Frame, State}
-use Rattle.trac_origins.specs.Places.{Place, InActive, InBase, InArgument, InForm, InHeld, InOutput, Origin, Carried, Read, Made, held_form, items_of, numbered}
+use Rattle.trac_origins.specs.Places.{Place, InActive, InBase, InArgument, InForm, InHeld, InOutput, Origin, Carried}
+use Rattle.trac_origins.specs.Places.{Read, Made, held_form, items_of, numbered}
 
 -- of a begun function, as its arguments stand
 pub record FrameOrigins : Type 0 where
@@ -51,7 +53,10 @@ texts_kept place (text ∷ texts) = kept (place 0) text ∷ texts_kept (λ k. pl
 
 -- and of the function of this number
 abbrev pub frame_kept : ℕ → Frame → FrameOrigins
-frame_kept n f = record { arguments = texts_kept (InArgument n) f.arguments; gathered = kept (InArgument n (length f.arguments)) f.gathered }
+frame_kept n f = record {
+  arguments = texts_kept (InArgument n) f.arguments;
+  gathered = kept (InArgument n (length f.arguments)) f.gathered;
+}
 
 -- and of all functions
 abbrev pub frames_kept : List Frame → List FrameOrigins
@@ -79,7 +84,8 @@ lists_of f = f.arguments ++ f.gathered ∷ []
 abbrev pub origin_at : Origins → Place → Origin
 origin_at o (InActive i) = get_or o.active i Made
 origin_at o (InBase i) = get_or o.base i Made
-origin_at o (InArgument f k i) = option_map_or (λ frame. get_or (get_or (lists_of frame) k []) i Made) (numbered f o.frames) Made
+origin_at o (InArgument f k i) =
+    option_map_or (λ frame. get_or (get_or (lists_of frame) k []) i Made) (numbered f o.frames) Made
 origin_at o (InForm name i) = get_or (o.forms name) i Made
 origin_at o (InHeld number name i) = get_or (o.blocks number name) i Made
 origin_at o (InOutput i) = get_or o.output i Made

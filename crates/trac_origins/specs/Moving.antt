@@ -1,7 +1,9 @@
--- Where bytes come from when a rule of scanning moves on: the lists of origins are moved as the texts are. One line for each rule.
+-- Where bytes come from when a rule of scanning moves on: the lists of origins are moved as the
+-- texts are. One line for each rule.
 use Rattle.std.specs.Prelude.{ℕ, ◌+◌, List, [], ◌∷◌, ◌++◌, take, drop, Option, None, Some}
 use Rattle.trac_rules.specs.declared.scan.Front.{Front}
-use Rattle.trac_rules.specs.declared.scan.Front.TheVariants.{Nothing, Opening, Layout, Comma, ActiveCall, NeutralCall, Sharp, Closing, Plain}
+use Rattle.trac_rules.specs.declared.scan.Front.TheVariants.{Nothing, Opening, Layout, Comma, ActiveCall, NeutralCall}
+use Rattle.trac_rules.specs.declared.scan.Front.TheVariants.{Sharp, Closing, Plain}
 use Rattle.trac_rules.specs.Bytes.{idle_program}
 use Rattle.trac_rules.specs.Matching.{match_of}
 use Rattle.trac_rules.specs.State.{State}
@@ -26,8 +28,8 @@ abbrev pub comma_from : List FrameOrigins → Origins → Origins
 comma_from [] o = o
 comma_from (f ∷ fs) o = record o { frames = record { arguments = f.arguments ++ f.gathered ∷ []; gathered = [] } ∷ fs }
 
--- the text up to the place of the match went to the current text, and after the match the rest is left; without a match all went there.
--- The second argument is what stands after the protecting `(`
+-- the text up to the place of the match went to the current text, and after the match the rest is left; without a match
+-- all went there. The second argument is what stands after the protecting `(`
 abbrev pub protect_from : Option ℕ → List Origin → Origins → Origins
 protect_from None text o = gather_from o.frames text (record o { active = [] })
 protect_from (Some k) text o = gather_from o.frames (take k text) (record o { active = drop (k + 1) text })

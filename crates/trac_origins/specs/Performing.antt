@@ -1,6 +1,7 @@
--- Where bytes come from when a function is performed: its value, what is printed, and what is put into forms and blocks. One line for
--- each primitive.
-use Rattle.std.specs.Prelude.{ℕ, zero, suc, ◌==◌, min, List, [], ◌∷◌, ◌++◌, length, take, drop, get_or, if◌then◌else◌, Bool, true, false, Option, None, Some, is_some, codes, decimal}
+-- Where bytes come from when a function is performed: its value, what is printed, and what is put into forms and
+-- blocks. One line for each primitive.
+use Rattle.std.specs.Prelude.{ℕ, zero, suc, ◌==◌, min, List, [], ◌∷◌, ◌++◌, length, take, drop, get_or, if◌then◌else◌}
+use Rattle.std.specs.Prelude.{Bool, true, false, Option, None, Some, is_some, codes, decimal}
 use Rattle.std.specs.List.{flat_map}
 use Rattle.std.specs.Str.{bytes_eq}
 use Rattle.trac_rules.specs.declared.item.Item.{Item}
@@ -16,7 +17,8 @@ use Rattle.trac_rules.specs.declared.primitive.FormAction.TheVariants as action
 use Rattle.trac_rules.specs.declared.primitive.FormReading.{FormReading}
 use Rattle.trac_rules.specs.declared.primitive.FormReading.TheVariants.{ReadSegment, ReadChar, ReadCount, ReadUntil}
 use Rattle.trac_rules.specs.declared.primitive.Primitive.{Primitive}
-use Rattle.trac_rules.specs.declared.primitive.Primitive.TheVariants.{PrintString, ReadString, ReadByte, Compute, Handle, HandleBlock}
+use Rattle.trac_rules.specs.declared.primitive.Primitive.TheVariants.{PrintString, ReadString, ReadByte, Compute}
+use Rattle.trac_rules.specs.declared.primitive.Primitive.TheVariants.{Handle, HandleBlock}
 use Rattle.trac_rules.specs.Blocks.{block_at, named_block_number}
 use Rattle.trac_rules.specs.Cuts.{begins_with_gap}
 use Rattle.trac_rules.specs.Effect.{Effect, argument}
@@ -119,7 +121,8 @@ text_from d (suc k) = get_or (drop 2 d.from.arguments) k []
 abbrev pub called_from : Form → Performed → List Origin
 called_from form d = spread (text_from d) form.after (drop (length form.before) (items_from d))
 
--- `ss`: the items `new`, which were the items `old`. A gap that was not there is made, and took the place of as many bytes as it is wide
+-- `ss`: the items `new`, which were the items `old`. A gap that was not there is made, and took the place
+-- of as many bytes as it is wide
 abbrev pub recut : List Item → List Item → List Origin → List Origin
 recut [] old from = []
 recut (Byte b ∷ new) old from = take 1 from ++ recut new (drop 1 old) (drop 1 from)
@@ -142,8 +145,8 @@ default_from ReadUntil d = argument_from 3 d
 abbrev pub nothing_for : ℕ → List Origin
 nothing_for ordinal = []
 
--- `cs`, `cc`, `cn` and `in`: so many bytes as the value has, from the old or the new pointer on, whichever stands before the other;
--- gaps are passed. Where nothing is read, the second argument
+-- `cs`, `cc`, `cn` and `in`: so many bytes as the value has, from the old or the new pointer on, whichever stands
+-- before the other; gaps are passed. Where nothing is read, the second argument
 abbrev pub piece_from : Option Piece → List Origin → Form → List Origin → List Origin
 piece_from None other form from = other
 piece_from (Some piece) other form from =
@@ -151,8 +154,8 @@ piece_from (Some piece) other form from =
     take (length piece.value) (spread nothing_for (drop first (all_items form)) (drop first from))
 
 abbrev pub reading_from : FormReading → Form → Performed → List Origin
-reading_from reading form d =
-    piece_from (piece_read reading d.environment.width d.call.arguments form) (default_from reading d) form (items_from d)
+reading_from reading form d = piece_from (piece_read reading d.environment.width d.call.arguments form)
+    (default_from reading d) form (items_from d)
 
 -- `ln`: each name is made, and the text before it carried
 abbrev pub listed_from : Forms → Performed → List Origin
@@ -175,29 +178,31 @@ on_form_from (Some form) act d = act form
 -- `dd`, `da` and `cr` carry nothing
 abbrev pub handled_from : FormAction → Performed → EffectOrigins
 handled_from action.Define d = puts_from (argument_from 2 d) d
-handled_from action.Segment d = on_form_from (named_form d.call.arguments (storage_of d.call.state)) (λ form. puts_from (segmented_from form d) d) d
-handled_from action.Call d = on_form_from (named_form d.call.arguments (storage_of d.call.state)) (λ form. gives_from (called_from form d) d) d
-handled_from (action.Read reading) d =
-    on_form_from (named_form d.call.arguments (storage_of d.call.state)) (λ form. gives_from (reading_from reading form d) d) d
+handled_from action.Segment d =
+    on_form_from (named_form d.call.arguments (storage_of d.call.state)) (λ form. puts_from (segmented_from form d) d) d
+handled_from action.Call d =
+    on_form_from (named_form d.call.arguments (storage_of d.call.state)) (λ form. gives_from (called_from form d) d) d
+handled_from (action.Read reading) d = on_form_from (named_form d.call.arguments (storage_of d.call.state))
+    (λ form. gives_from (reading_from reading form d) d) d
 handled_from action.ListNames d = gives_from (listed_from d.call.state.forms d) d
-handled_from action.PrintForm d =
-    on_form_from (named_form d.call.arguments (storage_of d.call.state)) (λ form. prints_from (shown_from form (items_from d)) d) d
+handled_from action.PrintForm d = on_form_from (named_form d.call.arguments (storage_of d.call.state))
+    (λ form. prints_from (shown_from form (items_from d)) d) d
 handled_from action d = leaves_from d
 
 -- ---- blocks
 
 -- `sb`: the new block, which has the number after the last, holds forms as they were; the form of its address is made
 abbrev pub stored_from : Performed → EffectOrigins
-stored_from d =
-    let number = length d.call.state.blocks in
-    record (puts_from (all_made (decimal number)) d) { blocks = λ k. if k == number then d.from.others.forms else d.from.others.blocks k }
+stored_from d = let number = length d.call.state.blocks in record (puts_from (all_made (decimal number)) d) {
+  blocks = λ k. if k == number then d.from.others.forms else d.from.others.blocks k;
+}
 
 -- `fb`: copies of the forms of this block
 abbrev pub fetched_from : ℕ → Performed → EffectOrigins
-fetched_from number d =
-    record (leaves_from d) {
-      forms = λ name. if is_some (held_form name (block_at number d.call.state.blocks)) then d.from.others.blocks number name else d.from.others.forms name;
-    }
+fetched_from number d = record (leaves_from d) {
+  forms = λ name. if is_some (held_form name (block_at number d.call.state.blocks))
+      then d.from.others.blocks number name else d.from.others.forms name;
+}
 
 abbrev pub on_block_from : Option ℕ → (ℕ → EffectOrigins) → Performed → EffectOrigins
 on_block_from None act d = leaves_from d
@@ -205,7 +210,8 @@ on_block_from (Some number) act d = act number
 
 abbrev pub block_handled_from : BlockAction → Performed → EffectOrigins
 block_handled_from StoreBlock d = stored_from d
-block_handled_from FetchBlock d = on_block_from (named_block_number d.call.arguments (storage_of d.call.state)) (λ number. fetched_from number d) d
+block_handled_from FetchBlock d =
+    on_block_from (named_block_number d.call.arguments (storage_of d.call.state)) (λ number. fetched_from number d) d
 block_handled_from EraseBlock d = leaves_from d
 
 -- ---- a call
@@ -225,8 +231,8 @@ abbrev pub traced_from : List ℕ → EffectOrigins → EffectOrigins
 traced_from line e = record e { printed = all_made line ++ e.printed }
 
 abbrev pub performed_from : Performed → EffectOrigins
-performed_from d =
-    traced_from (trace_line d.call.state.trace d.call.kind d.call.arguments) (effect_from (primitive_of (text_given 0 d)) d)
+performed_from d = traced_from (trace_line d.call.state.trace d.call.kind d.call.arguments)
+    (effect_from (primitive_of (text_given 0 d)) d)
 
 -- where the value goes
 abbrev pub placed_from : Kind → Bool → List Origin → Origins → Origins
@@ -238,4 +244,5 @@ abbrev pub changed_from : EffectOrigins → Origins → Origins
 changed_from e o = record o { forms = e.forms; blocks = e.blocks; output = o.output ++ e.printed }
 
 abbrev pub after_call_from : Performed → Origins
-after_call_from d = placed_from d.call.kind d.effect.forced (performed_from d).value (changed_from (performed_from d) d.from.others)
+after_call_from d =
+    placed_from d.call.kind d.effect.forced (performed_from d).value (changed_from (performed_from d) d.from.others)

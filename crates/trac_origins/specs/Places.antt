@@ -1,5 +1,6 @@
 -- Places of a state at which a byte stands, or an item of a form, and where it comes from.
-use Rattle.std.specs.Prelude.{ℕ, ◌==◌, List, [], ◌∷◌, ◌++◌, length, if◌then◌else◌, Option, None, Some, option_map, option_and_then, slice_get}
+use Rattle.std.specs.Prelude.{ℕ, ◌==◌, List, [], ◌∷◌, ◌++◌, length, if◌then◌else◌, Option, None, Some, option_map}
+use Rattle.std.specs.Prelude.{option_and_then, slice_get}
 use Rattle.std.specs.FinMap as finite
 use Rattle.trac_rules.specs.declared.item.Item.{Item}
 use Rattle.trac_rules.specs.declared.item.Item.TheVariants.{Byte}
@@ -14,8 +15,8 @@ pub data Place : Type 0 where
   InActive : ℕ → Place
   -- a byte of the base text
   InBase : ℕ → Place
-  -- a begun function, the outermost having number 0; one of its arguments, its name having number 0, and the one being gathered being
-  -- the last; and a byte of that
+  -- a begun function, the outermost having number 0; one of its arguments, its name having number 0, and the one being
+  -- gathered being the last; and a byte of that
   InArgument : ℕ → ℕ → ℕ → Place
   -- the form of a name, and one of its items, those before its pointer first
   InForm : List ℕ → ℕ → Place
@@ -61,7 +62,8 @@ byte_at i text = option_map Byte (slice_get text i)
 abbrev pub found_at : State → Place → Option Item
 found_at s (InActive i) = byte_at i s.active
 found_at s (InBase i) = byte_at i s.base
-found_at s (InArgument f k i) = option_and_then (λ frame. byte_at i (argument k (arguments_of frame))) (numbered f s.frames)
+found_at s (InArgument f k i) =
+    option_and_then (λ frame. byte_at i (argument k (arguments_of frame))) (numbered f s.frames)
 found_at s (InForm name i) = slice_get (items_of (finite.get s.forms name)) i
 found_at s (InHeld number name i) = slice_get (items_of (held_form name (block_at number s.blocks))) i
 found_at s (InOutput i) = byte_at i s.output

@@ -20,9 +20,11 @@ on_tape bytes ended = over W128 (record { bytes = bytes; ended = ended })
 abbrev pub untaped : Environment
 untaped = over W128 no_tape
 
--- a state at the end of a function of this kind, with these finished arguments and one that is being gathered; after its `)` stands `z`
+-- a state at the end of a function of this kind, with these finished arguments and one that is being
+-- gathered; after its `)` stands `z`
 abbrev pub calling : Kind → List (List ℕ) → List ℕ → State → State
-calling kind earlier last s = record s { active = codes ")z"; frames = record { kind = kind; arguments = earlier; gathered = last } ∷ [] }
+calling kind earlier last s =
+    record s { active = codes ")z"; frames = record { kind = kind; arguments = earlier; gathered = last } ∷ [] }
 
 -- a byte of the active text, of an argument of the only function, and an item of the form `F`, carried from there
 abbrev pub active : ℕ → Origin

@@ -71,17 +71,20 @@ planned_on arguments storage e = record {
 
 -- ---- pieces that are too long
 
--- whether some state within the limits can hold the value and the printed text of an effect; what none can hold is not made
+-- whether some state within the limits can hold the value and the printed text of an effect; what
+-- none can hold is not made
 abbrev pub pieces_fit : Effect → Bool
 pieces_fit e = nat_le (length e.value) TEXT_LIMIT && nat_le (length e.printed) OUTPUT_LIMIT
 
--- why nothing is made where this is the outcome of the definitions: its refusal, `TooLong` too where no state can hold a piece, or
--- `Memory` where that may be
+-- why nothing is made where this is the outcome of the definitions: its refusal, `TooLong` too where no state can hold
+-- a piece, or `Memory` where that may be
 abbrev pub MayFail : Result Effect Refusal → Refusal → Type 0
 MayFail outcome refusal = OrMemory (MayLackMemory outcome) (λ said. limited pieces_fit outcome ≡ Err said) refusal
 
--- what is done with these arguments, this change among it, where this is the outcome of the definitions: its texts are added to those that
--- were made before
-abbrev pub IsDone : {A : Type 0} → List (List ℕ) → Storage → Result Effect Refusal → made.Made A → made.Made A → code.Change A → Result Deed Refusal → Type 0
-IsDone arguments storage outcome old new change (Ok d) = seen_as (added_to old) outcome ≡ Ok (done_on arguments storage new change d)
+-- what is done with these arguments, this change among it, where this is the outcome of the definitions: its texts are
+-- added to those that were made before
+abbrev pub IsDone : {A : Type 0} → List (List ℕ) → Storage → Result Effect Refusal → made.Made A → made.Made A →
+    code.Change A → Result Deed Refusal → Type 0
+IsDone arguments storage outcome old new change (Ok d) =
+    seen_as (added_to old) outcome ≡ Ok (done_on arguments storage new change d)
 IsDone arguments storage outcome old new change (Err refusal) = MayFail outcome refusal

@@ -3,7 +3,8 @@ use Rattle.std.specs.Prelude.{◌≡◌, ◌+◌, ◌≤◌, ℕ, List, length, 
 use Rattle.trac_forms.specs.Stored.{Stored, storage_in}
 use Rattle.trac_rules.specs.declared.kind.Kind.{Kind}
 use Rattle.trac_rules.specs.declared.primitive.FormAction.{FormAction}
-use Rattle.trac_rules.specs.declared.primitive.FormAction.TheVariants.{Call, Define, Delete, DeleteAll, ListNames, PrintForm, Read, Restore, Segment}
+use Rattle.trac_rules.specs.declared.primitive.FormAction.TheVariants.{Call, Define, Delete, DeleteAll, ListNames}
+use Rattle.trac_rules.specs.declared.primitive.FormAction.TheVariants.{PrintForm, Read, Restore, Segment}
 use Rattle.trac_rules.specs.declared.limit.TheConstants.{MARK_LIMIT, OUTPUT_LIMIT, TEXT_LIMIT}
 use Rattle.trac_rules.specs.Effect.{Effect}
 use Rattle.trac_rules.specs.Limits.{marks, text_bytes, texts_fit}
@@ -23,7 +24,8 @@ pub record IsNow (s : State) (stored : Stored) (now : Now) : Type 0 where
   pub marks_fit : marks s.frames ≤ MARK_LIMIT
 
 -- the call is the one that is planned
-pub record IsGiven (call : scanning.Call) (kind : Kind) (arguments : List (List ℕ)) (stored : Stored) (now : Now) : Type 0 where
+pub record IsGiven
+    (call : scanning.Call) (kind : Kind) (arguments : List (List ℕ)) (stored : Stored) (now : Now) : Type 0 where
   pub kind_is : call.kind ≡ kind
   pub arguments_are : call.arguments ≡ arguments
   pub state_is : IsNow call.state stored now

@@ -19,7 +19,8 @@ pub(crate) fn union_of<A: Allocator + Copy>(
     alloc: A,
     args: &Args<'_>,
 ) -> Result<Vec<u8, A>, Refusal>
-    ensures made { IfOk result (λ text. (width : Width) (storage : Storage) → computed Union width args.now storage ≡ gives text.items storage) }
+    ensures made { IfOk result (λ text.
+        (width : Width) (storage : Storage) → computed Union width args.now storage ≡ gives text.items storage) }
     ensures err { IsOkUnless result Refusal.Memory }
 {
     Ok(union(alloc, octal_at(args, 1), octal_at(args, 2))?)
@@ -27,7 +28,8 @@ pub(crate) fn union_of<A: Allocator + Copy>(
 
 // `bi`: the bitwise and of two octal strings.
 pub(crate) fn meet_of<A: Allocator + Copy>(alloc: A, args: &Args<'_>) -> Result<Vec<u8, A>, Refusal>
-    ensures made { IfOk result (λ text. (width : Width) (storage : Storage) → computed Meet width args.now storage ≡ gives text.items storage) }
+    ensures made { IfOk result (λ text.
+        (width : Width) (storage : Storage) → computed Meet width args.now storage ≡ gives text.items storage) }
     ensures err { IsOkUnless result Refusal.Memory }
 {
     Ok(meet(alloc, octal_at(args, 1), octal_at(args, 2))?)
@@ -38,19 +40,21 @@ pub(crate) fn complement_of<A: Allocator + Copy>(
     alloc: A,
     args: &Args<'_>,
 ) -> Result<Vec<u8, A>, Refusal>
-    ensures made { IfOk result (λ text. (width : Width) (storage : Storage) → computed Complement width args.now storage ≡ gives text.items storage) }
+    ensures made { IfOk result (λ text.
+        (width : Width) (storage : Storage) → computed Complement width args.now storage ≡ gives text.items storage) }
     ensures err { IsOkUnless result Refusal.Memory }
 {
     Ok(complement(alloc, octal_at(args, 1))?)
 }
 
-// `bs`: an octal string with its bits moved; empty where the number does not fit (this project's profile).
+// `bs`: an octal string with its bits moved; empty where the number does not fit.
 pub(crate) fn shift_of<A: Allocator + Copy>(
     alloc: A,
     args: &Args<'_>,
     width: Width,
 ) -> Result<Vec<u8, A>, Refusal>
-    ensures made { IfOk result (λ text. (storage : Storage) → computed Shift width args.now storage ≡ gives text.items storage) }
+    ensures made { IfOk result
+        (λ text. (storage : Storage) → computed Shift width args.now storage ≡ gives text.items storage) }
     ensures err { IsOkUnless result Refusal.Memory }
 {
     match number_at(args, 1, width) {
@@ -59,13 +63,14 @@ pub(crate) fn shift_of<A: Allocator + Copy>(
     }
 }
 
-// `br`: an octal string with its bits rotated; empty where the number does not fit (this project's profile).
+// `br`: an octal string with its bits rotated; empty where the number does not fit.
 pub(crate) fn rotation_of<A: Allocator + Copy>(
     alloc: A,
     args: &Args<'_>,
     width: Width,
 ) -> Result<Vec<u8, A>, Refusal>
-    ensures made { IfOk result (λ text. (storage : Storage) → computed Rotate width args.now storage ≡ gives text.items storage) }
+    ensures made { IfOk result
+        (λ text. (storage : Storage) → computed Rotate width args.now storage ≡ gives text.items storage) }
     ensures err { IsOkUnless result Refusal.Memory }
 {
     match number_at(args, 1, width) {

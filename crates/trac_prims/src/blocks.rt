@@ -1,5 +1,6 @@
 //! Calls that put forms aside in a block, bring copies of them back, or erase a block.
-ghost use Rattle.std.specs.Prelude.{◌≡◌, ◌<◌, ◌≤◌, ◌^◌, ◌++◌, ◌∷◌, [], bytes_eq, decimal, length, nat_le, option_map, option_to_list, List, ℕ, IfOk, IsOkUnless, OnOk};
+ghost use Rattle.std.specs.Prelude.{◌≡◌, ◌<◌, ◌≤◌, ◌^◌, ◌++◌, ◌∷◌, [], bytes_eq, decimal, length, nat_le, option_map};
+ghost use Rattle.std.specs.Prelude.{option_to_list, List, ℕ, IfOk, IsOkUnless, OnOk};
 ghost use Rattle.std.specs.List.{list_any};
 ghost use Rattle.std.specs.FinMap as finite;
 ghost use Rattle.trac_forms.specs.Stored.{AreApart, storage_in};
@@ -39,7 +40,8 @@ pub(crate) fn store_block<A: Allocator + Copy>(
     store: &Store<A>,
     change: &mut Change<A>,
 ) -> Result<Deed, Refusal>
-    ensures outcome { (texts : made.Made A) → IsDone args.now (storage_in store.now) (block_handled StoreBlock args.now (storage_in store.now)) texts texts change.new result }
+    ensures outcome { (texts : made.Made A) → IsDone args.now (storage_in store.now)
+        (block_handled StoreBlock args.now (storage_in store.now)) texts texts change.new result }
     ensures change { OnOk result (IsChangeOf (HandleBlock StoreBlock) args.now (storage_in store.now) change.new) }
 {
     let name = args.get(1);
@@ -69,7 +71,8 @@ pub(crate) fn fetch_block<A: Allocator + Copy>(
     change: &mut Change<A>,
 ) -> Result<Deed, Refusal>
     requires { change.old ≡ Keep }
-    ensures outcome { (texts : made.Made A) → IsDone args.now (storage_in store.now) (block_handled FetchBlock args.now (storage_in store.now)) texts texts change.new result }
+    ensures outcome { (texts : made.Made A) → IsDone args.now (storage_in store.now)
+        (block_handled FetchBlock args.now (storage_in store.now)) texts texts change.new result }
     ensures change { OnOk result (IsChangeOf (HandleBlock FetchBlock) args.now (storage_in store.now) change.new) }
 {
     let found = named_block(alloc, args, store)?;
@@ -92,7 +95,8 @@ pub(crate) fn erase_block<A: Allocator + Copy>(
     change: &mut Change<A>,
 ) -> Result<Deed, Refusal>
     requires { change.old ≡ Keep }
-    ensures outcome { (texts : made.Made A) → IsDone args.now (storage_in store.now) (block_handled EraseBlock args.now (storage_in store.now)) texts texts change.new result }
+    ensures outcome { (texts : made.Made A) → IsDone args.now (storage_in store.now)
+        (block_handled EraseBlock args.now (storage_in store.now)) texts texts change.new result }
     ensures change { OnOk result (IsChangeOf (HandleBlock EraseBlock) args.now (storage_in store.now) change.new) }
 {
     let found = named_block(alloc, args, store)?;
@@ -130,7 +134,8 @@ fn add_leaving<A: Allocator + Copy>(
     name: &[u8],
     held: &mut Vec<Vec<u8, A>, A>,
 ) -> Result<(), Refusal>
-    ensures added { OnOk result ((names : List (List ℕ)) → texts_of held.old.items ≡ names_in (moved_out names store.now.forms) →
+    ensures added { OnOk result
+        ((names : List (List ℕ)) → texts_of held.old.items ≡ names_in (moved_out names store.now.forms) →
         texts_of held.new.items ≡ names_in (moved_out (names ++ name.now ∷ []) store.now.forms)) }
     ensures err { IsOkUnless result Refusal.Memory }
 {
@@ -155,7 +160,8 @@ fn stands_among<A: Allocator + Copy>(names: &[Vec<u8, A>], name: &[u8]) -> bool
 // Whether the number of a block may be put under this name, once the forms of these names have left.
 fn may_stand<A: Allocator + Copy>(store: &Store<A>, name: &[u8], held: &[Vec<u8, A>]) -> bool
     requires { length held.now ≤ finite.len store.now.forms }
-    ensures { (names : List (List ℕ)) (number : ℕ) → number < 2 ^ 64 → texts_of held.now ≡ names_in (moved_out names store.now.forms) →
+    ensures { (names : List (List ℕ)) (number : ℕ) → number < 2 ^ 64 →
+        texts_of held.now ≡ names_in (moved_out names store.now.forms) →
         result ≡ may_be_put name.now (defined (decimal number)) (without names store.now.forms) }
 {
     if name.len() > NAME_LIMIT {
@@ -198,7 +204,8 @@ fn named_block<'a, A: Allocator + Copy>(
     args: &Args<'_>,
     store: &'a Store<A>,
 ) -> Result<Option<(usize, &'a Block<A>)>, Refusal>
-    ensures found { IfOk result (λ found. IsBlock (named_block_number args.now (storage_in store.now)) store.now.blocks (option_map (λ x. (x.0, x.1.now.held)) found)) }
+    ensures found { IfOk result (λ found. IsBlock (named_block_number args.now (storage_in store.now)) store.now.blocks
+        (option_map (λ x. (x.0, x.1.now.held)) found)) }
     ensures err { IsOkUnless result Refusal.Memory }
 {
     let Some(form) = store.get(args.get(1)) else {
@@ -238,7 +245,8 @@ fn addressed<'a, A: Allocator + Copy>(
     text: &[u8],
     store: &'a Store<A>,
 ) -> Result<Option<(usize, &'a Block<A>)>, Refusal>
-    ensures found { (form : Divided) → bytes_in (all_items form) ≡ text.now → IfOk result (λ found. IsBlock (number_addressed form store.now.blocks) store.now.blocks (option_map (λ x. (x.0, x.1.now.held)) found)) }
+    ensures found { (form : Divided) → bytes_in (all_items form) ≡ text.now → IfOk result (λ found. IsBlock
+        (number_addressed form store.now.blocks) store.now.blocks (option_map (λ x. (x.0, x.1.now.held)) found)) }
     ensures err { IsOkUnless result Refusal.Memory }
 {
     let _count = store.block_count();

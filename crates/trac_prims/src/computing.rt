@@ -25,7 +25,8 @@ pub(crate) fn compute<A: Allocator + Copy>(
     width: Width,
     made: &mut Made<A>,
 ) -> Result<Deed, Refusal>
-    ensures { (storage : Storage) → IsDone args.now storage (Ok (computed computation width args.now storage)) made.old made.new Keep result }
+    ensures { (storage : Storage) →
+        IsDone args.now storage (Ok (computed computation width args.now storage)) made.old made.new Keep result }
 {
     match computation {
         Computation::Equal => give(choose(args.get(1) == args.get(2), args), made),
@@ -41,14 +42,15 @@ pub(crate) fn compute<A: Allocator + Copy>(
 
 // Gives a text as the value.
 fn give<A: Allocator + Copy>(text: &[u8], made: &mut Made<A>) -> Result<Deed, Refusal>
-    ensures { (arguments : List (List ℕ)) (storage : Storage) → IsDone arguments storage (Ok (gives text.now storage)) made.old made.new Keep result }
+    ensures { (arguments : List (List ℕ)) (storage : Storage) →
+        IsDone arguments storage (Ok (gives text.now storage)) made.old made.new Keep result }
 {
     made.value.extend_from_slice(text)?;
     Ok(Deed::nothing())
 }
 
-/// The number of the argument of this place, the name being at 0: its numeral, the prefix dropped; `None` where it does not fit
-/// the width. A text without a numeral has the number 0, as has an argument that is not given.
+/// The number of the argument of this place, the name being at 0: its numeral, the prefix dropped; `None` where it does
+/// not fit the width. A text without a numeral has the number 0, as has an argument that is not given.
 pub fn number_at(args: &Args<'_>, k: usize, width: Width) -> Option<i128>
     ensures { result ≡ number_argument width k args.now }
 {
@@ -84,7 +86,8 @@ fn calculate<A: Allocator + Copy>(
     width: Width,
     made: &mut Made<A>,
 ) -> Result<Deed, Refusal>
-    ensures { (storage : Storage) → IsDone args.now storage (Ok (computed (Calculate operation) width args.now storage)) made.old made.new Keep result }
+    ensures { (storage : Storage) → IsDone args.now storage (Ok (computed (Calculate operation) width args.now storage))
+        made.old made.new Keep result }
 {
     let Some(n) = result_on(operation, args, width) else {
         made.value.extend_from_slice(args.get(3))?;
@@ -98,10 +101,11 @@ fn calculate<A: Allocator + Copy>(
     Ok(Deed::nothing())
 }
 
-/// The result of `ad`, `su`, `ml` or `dv` on the numbers of the two arguments after the name; `None` where one of them or the
-/// result does not fit the width, or the divisor is 0.
+/// The result of `ad`, `su`, `ml` or `dv` on the numbers of the two arguments after the name; `None` where one of them
+/// or the result does not fit the width, or the divisor is 0.
 pub fn result_on(operation: Operation, args: &Args<'_>, width: Width) -> Option<i128>
-    ensures { result ≡ on_both (result_of operation width) (number_argument width 1 args.now) (number_argument width 2 args.now) }
+    ensures { result
+        ≡ on_both (result_of operation width) (number_argument width 1 args.now) (number_argument width 2 args.now) }
 {
     operate(
         operation,

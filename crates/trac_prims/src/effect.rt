@@ -55,7 +55,8 @@ pub struct Now {
     pub position: usize,
     /// How many bytes of output are kept.
     pub output: usize,
-    /// How many bytes the active text and the neutral text hold without the call: its arguments and the `)` that ends it.
+    /// How many bytes the active text and the neutral text hold without the call: its arguments and
+    /// the `)` that ends it.
     pub text: usize,
     /// The byte that ends a text of the input.
     pub meta: u8,
@@ -99,7 +100,8 @@ impl Deed {
         now: Now,
     ) -> Effect<A>
         requires { now.position + self.read < 2 ^ 64 }
-        ensures effect { (arguments : List (List ℕ)) (storage : Storage) → planned_on arguments storage result ≡ planned_from now (done_on arguments storage made change self) }
+        ensures effect { (arguments : List (List ℕ)) (storage : Storage) →
+            planned_on arguments storage result ≡ planned_from now (done_on arguments storage made change self) }
         ensures value { result.value ≡ made.value }
         ensures print { result.print ≡ made.print }
         ensures position { result.position ≡ now.position + self.read }

@@ -1,5 +1,6 @@
 //! Calls that look at the forms or change them.
-ghost use Rattle.std.specs.Prelude.{◌≡◌, ◌<◌, ◌≤◌, ◌++◌, length, drop, flat_map, IfOk, IsOkUnless, MatchOption, OnOk, SomeIff};
+ghost use Rattle.std.specs.Prelude.{◌≡◌, ◌<◌, ◌≤◌, ◌++◌, length, drop, flat_map, IfOk, IsOkUnless, MatchOption, OnOk};
+ghost use Rattle.std.specs.Prelude.{SomeIff};
 ghost use Rattle.trac_forms.specs.Layout.{IsSound};
 ghost use Rattle.trac_forms.specs.Stored.{storage_in};
 ghost use Rattle.trac_rules.specs.Filling.{called};
@@ -7,7 +8,8 @@ ghost use Rattle.trac_rules.specs.Form.{Form as Divided};
 ghost use Rattle.trac_rules.specs.Handling.{handled};
 ghost use Rattle.trac_rules.specs.Limits.{may_be_put};
 ghost use Rattle.trac_rules.specs.State.{Storage};
-ghost use Rattle.trac_rules.specs.declared.primitive.FormAction.TheVariants.{Define, Delete, ListNames, PrintForm, Restore, Segment, Call as CallForm};
+ghost use Rattle.trac_rules.specs.declared.primitive.FormAction.TheVariants.{Define, Delete, ListNames, PrintForm};
+ghost use Rattle.trac_rules.specs.declared.primitive.FormAction.TheVariants.{Restore, Segment, Call as CallForm};
 ghost use Rattle.trac_rules.specs.declared.primitive.Primitive.TheVariants.{Handle};
 ghost use Rattle.trac_change.specs.declared.change.Change.TheVariants.{Keep};
 ghost use Rattle.trac_change.specs.Changes.{IsChangeOf};
@@ -31,7 +33,8 @@ pub(crate) fn define<A: Allocator + Copy>(
     store: &Store<A>,
     change: &mut Change<A>,
 ) -> Result<Deed, Refusal>
-    ensures outcome { (width : Width) (texts : made.Made A) → IsDone args.now (storage_in store.now) (handled Define width args.now (storage_in store.now)) texts texts change.new result }
+    ensures outcome { (width : Width) (texts : made.Made A) → IsDone args.now (storage_in store.now)
+        (handled Define width args.now (storage_in store.now)) texts texts change.new result }
     ensures change { OnOk result (IsChangeOf (Handle Define) args.now (storage_in store.now) change.new) }
 {
     let name = args.get(1);
@@ -50,7 +53,8 @@ pub(crate) fn delete<A: Allocator + Copy>(
     args: &Args<'_>,
     change: &mut Change<A>,
 ) -> Result<Deed, Refusal>
-    ensures outcome { (storage : Storage) (width : Width) (texts : made.Made A) → IsDone args.now storage (handled Delete width args.now storage) texts texts change.new result }
+    ensures outcome { (storage : Storage) (width : Width) (texts : made.Made A) →
+        IsDone args.now storage (handled Delete width args.now storage) texts texts change.new result }
     ensures change { (storage : Storage) → OnOk result (IsChangeOf (Handle Delete) args.now storage change.new) }
 {
     let names = copies(alloc, &after(args, 1))?;
@@ -67,7 +71,8 @@ pub(crate) fn segment<A: Allocator + Copy>(
 ) -> Result<Deed, Refusal>
     requires keeps { change.old ≡ Keep }
     requires count { length args.now ≤ MARK_LIMIT }
-    ensures outcome { (width : Width) (texts : made.Made A) → IsDone args.now (storage_in store.now) (handled Segment width args.now (storage_in store.now)) texts texts change.new result }
+    ensures outcome { (width : Width) (texts : made.Made A) → IsDone args.now (storage_in store.now)
+        (handled Segment width args.now (storage_in store.now)) texts texts change.new result }
     ensures change { OnOk result (IsChangeOf (Handle Segment) args.now (storage_in store.now) change.new) }
 {
     let name = args.get(1);
@@ -91,7 +96,8 @@ pub(crate) fn restore<A: Allocator + Copy>(
     change: &mut Change<A>,
 ) -> Result<Deed, Refusal>
     requires { change.old ≡ Keep }
-    ensures outcome { (width : Width) (texts : made.Made A) → IsDone args.now (storage_in store.now) (handled Restore width args.now (storage_in store.now)) texts texts change.new result }
+    ensures outcome { (width : Width) (texts : made.Made A) → IsDone args.now (storage_in store.now)
+        (handled Restore width args.now (storage_in store.now)) texts texts change.new result }
     ensures change { OnOk result (IsChangeOf (Handle Restore) args.now (storage_in store.now) change.new) }
 {
     let name = args.get(1);
@@ -109,7 +115,8 @@ pub(crate) fn call<A: Allocator + Copy>(
     store: &Store<A>,
     made: &mut Made<A>,
 ) -> Result<Deed, Refusal>
-    ensures { (width : Width) → IsDone args.now (storage_in store.now) (handled CallForm width args.now (storage_in store.now)) made.old made.new Keep result }
+    ensures { (width : Width) → IsDone args.now (storage_in store.now)
+        (handled CallForm width args.now (storage_in store.now)) made.old made.new Keep result }
 {
     let Some(form) = store.get(args.get(1)) else {
         return Ok(Deed::nothing());
@@ -129,7 +136,8 @@ pub(crate) fn list_names<A: Allocator + Copy>(
     store: &Store<A>,
     made: &mut Made<A>,
 ) -> Result<Deed, Refusal>
-    ensures { (width : Width) → IsDone args.now (storage_in store.now) (handled ListNames width args.now (storage_in store.now)) made.old made.new Keep result }
+    ensures { (width : Width) → IsDone args.now (storage_in store.now)
+        (handled ListNames width args.now (storage_in store.now)) made.old made.new Keep result }
 {
     let text = args.get(1);
     let names = store.names()?;
@@ -147,7 +155,8 @@ pub(crate) fn print_form<A: Allocator + Copy>(
     store: &Store<A>,
     made: &mut Made<A>,
 ) -> Result<Deed, Refusal>
-    ensures { (width : Width) → IsDone args.now (storage_in store.now) (handled PrintForm width args.now (storage_in store.now)) made.old made.new Keep result }
+    ensures { (width : Width) → IsDone args.now (storage_in store.now)
+        (handled PrintForm width args.now (storage_in store.now)) made.old made.new Keep result }
 {
     let Some(form) = store.get(args.get(1)) else {
         return Ok(Deed::nothing());
@@ -162,10 +171,11 @@ pub(crate) fn print_form<A: Allocator + Copy>(
 
 // ---- pieces
 
-// For how many bytes the value of this call is given room before it is made; `None` where it is longer than a text may be. Its
-// length is found first only where it may be that long: an item gives one byte, or one of the texts.
+// For how many bytes the value of this call is given room before it is made; `None` where it is longer than a text may
+// be. Its length is found first only where it may be that long: an item gives one byte, or one of the texts.
 fn room_of<A: Allocator + Copy>(form: &Form<A>, args: &Args<'_>) -> Option<usize>
-    ensures { MatchOption result (TEXT_LIMIT < length (called (drop 2 args.now) form.now)) (λ _. length (called (drop 2 args.now) form.now) ≤ TEXT_LIMIT) }
+    ensures { MatchOption result (TEXT_LIMIT < length (called (drop 2 args.now) form.now))
+        (λ _. length (called (drop 2 args.now) form.now) ≤ TEXT_LIMIT) }
 {
     let items = form.len() - form.pointer();
     if items.saturating_mul(args.joined().len() + 1) <= TEXT_LIMIT {
@@ -208,7 +218,8 @@ fn copies<A: Allocator + Copy>(
 
 // How many bytes the names take, each with a text before it, where that is no more than a text may have.
 fn list_len(text: &[u8], names: &[&[u8]]) -> Option<usize>
-    ensures { SomeIff result (length (flat_map (λ name. text.now ++ name.now) names.now) ≤ TEXT_LIMIT) (length (flat_map (λ name. text.now ++ name.now) names.now)) }
+    ensures { SomeIff result (length (flat_map (λ name. text.now ++ name.now) names.now) ≤ TEXT_LIMIT)
+        (length (flat_map (λ name. text.now ++ name.now) names.now)) }
 {
     let mut total = 0;
     for name in names {

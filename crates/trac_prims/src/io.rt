@@ -18,7 +18,8 @@ pub(crate) fn print_string<A: Allocator + Copy>(
     args: &Args<'_>,
     made: &mut Made<A>,
 ) -> Result<Deed, Refusal>
-    ensures { (storage : Storage) → IsDone args.now storage (Ok (prints (argument 1 args.now) storage)) made.old made.new Keep result }
+    ensures { (storage : Storage) →
+        IsDone args.now storage (Ok (prints (argument 1 args.now) storage)) made.old made.new Keep result }
 {
     made.print.extend_from_slice(args.get(1))?;
     Ok(Deed::nothing())
@@ -32,7 +33,8 @@ pub(crate) fn read_string<A: Allocator + Copy>(
     made: &mut Made<A>,
 ) -> Result<Deed, Refusal>
     requires { place ≤ length tape.bytes.now }
-    ensures outcome { (arguments : List (List ℕ)) (storage : Storage) → IsDone arguments storage (string_read (drop place tape.entry.bytes.now) tape.entry.ended meta storage) made.old made.new Keep result }
+    ensures outcome { (arguments : List (List ℕ)) (storage : Storage) → IsDone arguments storage
+        (string_read (drop place tape.entry.bytes.now) tape.entry.ended meta storage) made.old made.new Keep result }
     ensures within { IfOk result (λ d. place + d.read ≤ length tape.entry.bytes.now) }
 {
     let unread = tape.bytes.split_at(place).1;
@@ -55,7 +57,8 @@ pub(crate) fn read_byte<A: Allocator + Copy>(
     made: &mut Made<A>,
 ) -> Result<Deed, Refusal>
     requires { place ≤ length tape.bytes.now }
-    ensures outcome { (arguments : List (List ℕ)) (storage : Storage) → IsDone arguments storage (byte_read (drop place tape.entry.bytes.now) tape.entry.ended storage) made.old made.new Keep result }
+    ensures outcome { (arguments : List (List ℕ)) (storage : Storage) → IsDone arguments storage
+        (byte_read (drop place tape.entry.bytes.now) tape.entry.ended storage) made.old made.new Keep result }
     ensures within { IfOk result (λ d. place + d.read ≤ length tape.entry.bytes.now) }
 {
     let unread = tape.bytes.split_at(place).1;
@@ -71,7 +74,8 @@ pub(crate) fn read_byte<A: Allocator + Copy>(
 
 // Gives a text as the value, for which so many bytes of the input are read.
 fn take<A: Allocator + Copy>(text: &[u8], read: usize, made: &mut Made<A>) -> Result<Deed, Refusal>
-    ensures outcome { (arguments : List (List ℕ)) (storage : Storage) → IsDone arguments storage (Ok (reads text.now read storage)) made.old made.new Keep result }
+    ensures outcome { (arguments : List (List ℕ)) (storage : Storage) →
+        IsDone arguments storage (Ok (reads text.now read storage)) made.old made.new Keep result }
     ensures read { IfOk result (λ d. d.read ≡ read) }
 {
     made.value.extend_from_slice(text)?;

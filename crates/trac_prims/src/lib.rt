@@ -1,4 +1,5 @@
-//! What the primitives do: each call is planned, its pieces already made, before anything changes.
+//! What the primitives do: each call is planned, its pieces already made, before anything changes. Limits, refusals,
+//! what takes memory and what else T-64 does not name are this project's profile.
 #![tactic(auto)]
 
 mod bits;

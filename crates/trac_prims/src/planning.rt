@@ -39,11 +39,11 @@ use trac_text::Args;
 /// What the call of these arguments by a function of this kind will do, the first of them being the name: everything,
 /// its pieces already made. The primitives are those of T-64, with this project's profile.
 ///
-/// Refused with `NeedInput` or `Ended` where it reads input that is not there; with `TooLong` where the state after the
-/// call would pass a limit, its forms included; and with `Memory` where the allocator refuses. The value of a form, a
-/// printed form and a list of names are not built where they are longer than any state may hold. The tape has to hold at
-/// least as many bytes as are read, there may be at most 1,048,576 arguments, and text and output have to be within
-/// their limits.
+/// Refused with `NeedInput` or `Ended` where it reads input that is not there; with `TooLong` where the state after
+/// the call would pass a limit, its forms included; and with `Memory` where the allocator refuses. The value of a
+/// form, a printed form and a list of names are not built where they are longer than any state may hold. The tape
+/// has to hold at least as many bytes as are read, there may be at most 1,048,576 arguments, and text and output
+/// have to be within their limits.
 pub fn plan<A: Allocator + Copy>(
     alloc: A,
     args: &Args<'_>,
@@ -57,10 +57,12 @@ pub fn plan<A: Allocator + Copy>(
     requires text { now.text ≤ TEXT_LIMIT }
     requires output { now.output ≤ OUTPUT_LIMIT }
     ensures outcome { (call : Call) → IsGiven call kind args.now store.now now →
-        MayAnswer (planned_on args.now (storage_of call.state)) (seen_as (planned_from now) (limited (fits_after call) (performed (environment_of now.width tape.entry) call))) result }
+        MayAnswer (planned_on args.now (storage_of call.state)) (seen_as (planned_from now)
+        (limited (fits_after call) (performed (environment_of now.width tape.entry) call))) result }
     ensures within { IfOk result (λ e. e.position ≤ length tape.entry.bytes.now) }
     ensures place { IfOk result (λ e. HasPlace now e.value.items e.print.items) }
-    ensures change { IfOk result (λ e. IsChangeOf (primitive_of (argument 0 args.now)) args.now (storage_in store.now) e.change) }
+    ensures change { IfOk result
+        (λ e. IsChangeOf (primitive_of (argument 0 args.now)) args.now (storage_in store.now) e.change) }
 {
     let mut made = Made::new(alloc);
     let mut change = Change::Keep;
@@ -68,9 +70,9 @@ pub fn plan<A: Allocator + Copy>(
     Ok(deed.complete(made, change, now))
 }
 
-/// What `plan` says, its value and what it prints being made in buffers: what they held before is gone, and they take more
-/// memory only where they have too little. The change of forms and blocks is put in place of one that keeps all. After a refusal
-/// the buffers hold any texts, and the change may be any; nothing else has changed.
+/// What `plan` says, its value and what it prints being made in buffers: what they held before is gone, and they take
+/// more memory only where they have too little. The change of forms and blocks is put in place of one that keeps all.
+/// After a refusal the buffers hold any texts, and the change may be any; nothing else has changed.
 pub fn plan_into<A: Allocator + Copy>(
     alloc: A,
     args: &Args<'_>,
@@ -87,10 +89,12 @@ pub fn plan_into<A: Allocator + Copy>(
     requires text { now.text ≤ TEXT_LIMIT }
     requires output { now.output ≤ OUTPUT_LIMIT }
     ensures outcome { (call : Call) → IsGiven call kind args.now store.now now →
-        MayAnswer (done_on args.now (storage_of call.state) made.new change.new) (limited (fits_after call) (performed (environment_of now.width tape.entry) call)) result }
+        MayAnswer (done_on args.now (storage_of call.state) made.new change.new)
+        (limited (fits_after call) (performed (environment_of now.width tape.entry) call)) result }
     ensures within { IfOk result (λ d. now.position + d.read ≤ length tape.entry.bytes.now) }
     ensures place { IfOk result (λ d. HasPlace now made.new.value.items made.new.print.items) }
-    ensures change { OnOk result (IsChangeOf (primitive_of (argument 0 args.now)) args.now (storage_in store.now) change.new) }
+    ensures change { OnOk result
+        (IsChangeOf (primitive_of (argument 0 args.now)) args.now (storage_in store.now) change.new) }
 {
     made.value.clear();
     made.print.clear();
@@ -136,7 +140,8 @@ fn perform<A: Allocator + Copy>(
     requires keeps { change.old ≡ Keep }
     requires position { now.position ≤ length tape.bytes.now }
     requires count { length args.now ≤ MARK_LIMIT }
-    ensures outcome { (s : State) → IsNow s store.now now → IsDone args.now (storage_of s) (effect_of primitive (environment_of now.width tape.entry) args.now s) made.old made.new change.new result }
+    ensures outcome { (s : State) → IsNow s store.now now → IsDone args.now (storage_of s)
+        (effect_of primitive (environment_of now.width tape.entry) args.now s) made.old made.new change.new result }
     ensures within { IfOk result (λ d. now.position + d.read ≤ length tape.entry.bytes.now) }
     ensures change { OnOk result (IsChangeOf primitive args.now (storage_in store.now) change.new) }
 {
@@ -160,8 +165,8 @@ fn perform<A: Allocator + Copy>(
     }
 }
 
-// What a primitive does with forms. A function clears room for all changes that it may plan where it begins: so this and the two
-// after it are compiled apart, and a call that plans none does not pay.
+// What a primitive does with forms. A function clears room for all changes that it may plan where it begins: so this
+// and the two after it are compiled apart, and a call that plans none does not pay.
 #[inline(never)]
 fn handle<A: Allocator + Copy>(
     alloc: A,
@@ -174,7 +179,8 @@ fn handle<A: Allocator + Copy>(
 ) -> Result<Deed, Refusal>
     requires keeps { change.old ≡ Keep }
     requires count { length args.now ≤ MARK_LIMIT }
-    ensures outcome { IsDone args.now (storage_in store.now) (handled action width args.now (storage_in store.now)) made.old made.new change.new result }
+    ensures outcome { IsDone args.now (storage_in store.now) (handled action width args.now (storage_in store.now))
+        made.old made.new change.new result }
     ensures change { OnOk result (IsChangeOf (primitive.Handle action) args.now (storage_in store.now) change.new) }
 {
     match action {
@@ -202,7 +208,8 @@ fn plan_form_change<A: Allocator + Copy>(
     requires only { only_changes_forms action ≡ true }
     requires keeps { change.old ≡ Keep }
     requires count { length args.now ≤ MARK_LIMIT }
-    ensures outcome { (width : Width) (texts : made.Made A) → IsDone args.now (storage_in store.now) (handled action width args.now (storage_in store.now)) texts texts change.new result }
+    ensures outcome { (width : Width) (texts : made.Made A) → IsDone args.now (storage_in store.now)
+        (handled action width args.now (storage_in store.now)) texts texts change.new result }
     ensures change { OnOk result (IsChangeOf (primitive.Handle action) args.now (storage_in store.now) change.new) }
 {
     match action {
@@ -229,8 +236,10 @@ fn plan_block_change<A: Allocator + Copy>(
     change: &mut Change<A>,
 ) -> Result<Deed, Refusal>
     requires { change.old ≡ Keep }
-    ensures outcome { (texts : made.Made A) → IsDone args.now (storage_in store.now) (block_handled action args.now (storage_in store.now)) texts texts change.new result }
-    ensures change { OnOk result (IsChangeOf (primitive.HandleBlock action) args.now (storage_in store.now) change.new) }
+    ensures outcome { (texts : made.Made A) → IsDone args.now (storage_in store.now)
+        (block_handled action args.now (storage_in store.now)) texts texts change.new result }
+    ensures change { OnOk result
+        (IsChangeOf (primitive.HandleBlock action) args.now (storage_in store.now) change.new) }
 {
     match action {
         BlockAction::StoreBlock => store_block(alloc, args, store, change),

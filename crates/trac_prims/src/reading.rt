@@ -23,8 +23,8 @@ use trac_rules::refusal::Refusal;
 use trac_rules::width::Width;
 use trac_text::Args;
 
-// `cs`, `cc`, `cn` and `in`: what is read of a form at its pointer, and the pointer where it stands then; where there is
-// nothing to read the default argument, which is forced, and the pointer where it stands already.
+// `cs`, `cc`, `cn` and `in`: what is read of a form at its pointer, and the pointer where it stands then; where there
+// is nothing to read the default argument, which is forced, and the pointer where it stands already.
 pub(crate) fn read<A: Allocator + Copy>(
     alloc: A,
     reading: FormReading,
@@ -35,7 +35,8 @@ pub(crate) fn read<A: Allocator + Copy>(
     change: &mut Change<A>,
 ) -> Result<Deed, Refusal>
     requires { change.old ≡ Keep }
-    ensures outcome { IsDone args.now (storage_in store.now) (handled (Read reading) width args.now (storage_in store.now)) made.old made.new change.new result }
+    ensures outcome { IsDone args.now (storage_in store.now)
+        (handled (Read reading) width args.now (storage_in store.now)) made.old made.new change.new result }
     ensures change { OnOk result (IsChangeOf (Handle (Read reading)) args.now (storage_in store.now) change.new) }
 {
     let name = args.get(1);
@@ -62,7 +63,8 @@ fn piece_of<A: Allocator + Copy>(
     form: &Form<A>,
     width: Width,
 ) -> Result<Option<Piece>, Refusal>
-    ensures read { IfOk result (λ found. option_map (λ piece. taken piece form.now) found ≡ piece_read reading width args.now form.now) }
+    ensures read { IfOk result
+        (λ found. option_map (λ piece. taken piece form.now) found ≡ piece_read reading width args.now form.now) }
     ensures there { IfOk result (λ found. IfSome found (IsThere form.now)) }
     ensures err { IsOkUnless result Refusal.Memory }
 {
@@ -94,9 +96,12 @@ fn give_piece<A: Allocator + Copy>(
     change: &mut Change<A>,
 ) -> Result<Deed, Refusal>
     requires { IsThere form.now piece.now }
-    ensures outcome { (other : List ℕ) (arguments : List (List ℕ)) (storage : Storage) → finite.get storage.forms name.now ≡ Some form.now →
-        IsDone arguments storage (Ok (gives_piece (Some (taken piece.now form.now)) other name.now form.now storage)) made.old made.new change.new result }
-    ensures change { (reading : FormReading) (arguments : List (List ℕ)) (storage : Storage) → name.now ≡ argument 1 arguments →
+    ensures outcome { (other : List ℕ) (arguments : List (List ℕ)) (storage : Storage) →
+        finite.get storage.forms name.now ≡ Some form.now →
+        IsDone arguments storage (Ok (gives_piece (Some (taken piece.now form.now)) other name.now form.now storage))
+        made.old made.new change.new result }
+    ensures change { (reading : FormReading) (arguments : List (List ℕ)) (storage : Storage) →
+        name.now ≡ argument 1 arguments →
         OnOk result (IsChangeOf (Handle (Read reading)) arguments storage change.new) }
 {
     made.value.reserve(piece.len)?;
@@ -115,9 +120,11 @@ fn force<A: Allocator + Copy>(
     made: &mut Made<A>,
     change: &mut Change<A>,
 ) -> Result<Deed, Refusal>
-    ensures outcome { (arguments : List (List ℕ)) (storage : Storage) → finite.get storage.forms name.now ≡ Some form.now →
+    ensures outcome { (arguments : List (List ℕ)) (storage : Storage) →
+        finite.get storage.forms name.now ≡ Some form.now →
         IsDone arguments storage (Ok (forces text.now storage)) made.old made.new change.new result }
-    ensures change { (reading : FormReading) (arguments : List (List ℕ)) (storage : Storage) → name.now ≡ argument 1 arguments →
+    ensures change { (reading : FormReading) (arguments : List (List ℕ)) (storage : Storage) →
+        name.now ≡ argument 1 arguments →
         OnOk result (IsChangeOf (Handle (Read reading)) arguments storage change.new) }
 {
     made.value.extend_from_slice(text)?;

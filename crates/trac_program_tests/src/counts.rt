@@ -16,8 +16,9 @@ const USUAL: u64 = 1_000_000_000;
 // A read that fails, once all bytes are given.
 const READ_FAULT: Failing = (Fault::ReadAtEnd, ErrorKind::Other);
 
-// What a run does over this input, at most so many bytes a read, with this budget: how it ends, and how many steps it takes
-// and reads it makes. A new session takes seven steps up to its first `rs`, and twelve for a round of the idle program.
+// What a run does over this input, at most so many bytes a read, with this budget: how it ends, and how
+// many steps it takes and reads it makes. A new session takes seven steps up to its first `rs`, and twelve
+// for a round of the idle program.
 const RUNS: &[(&[u8], usize, Failing, u64, (Ending, u64, u128))] = &[
     (b"", 4096, NO_FAULT, USUAL, (Ending::Ended, 7, 1)),
     (b"", 4096, NO_FAULT, 7, (Ending::Budget, 7, 0)),
@@ -31,7 +32,8 @@ const RUNS: &[(&[u8], usize, Failing, u64, (Ending, u64, u128))] = &[
     (b"a)b,c'", 4096, NO_FAULT, USUAL, (Ending::Ended, 22, 2)),
 ];
 
-// What the debugger does with these commands over `AB'`: how it ends, and how many lines it is done with and reads it makes.
+// What the debugger does with these commands over `AB'`: how it ends, and how many lines it is done
+// with and reads it makes.
 const SESSIONS: &[(&[u8], usize, (Ending, u64, u64))] = &[
     (b"", 4096, (Ending::Ended, 0, 1)),
     (

@@ -1,5 +1,5 @@
-//! Each read, write and flush fails in turn, in runs, in sessions of the debugger and in walks: what is written by then, and
-//! how it ends. And input that comes in pieces of any size.
+//! Each read, write and flush fails in turn, in runs, in sessions of the debugger and in walks: what is written by
+//! then, and how it ends. And input that comes in pieces of any size.
 use crate::faulty::{Failing, Fault, KINDS, NO_FAULT};
 use crate::programs::{DEBUG, Program, RUN, WALK, outcome};
 use std::alloc::Global;
@@ -10,8 +10,8 @@ use trac_run::Ending;
 // A fault, what is written by then, and the ending.
 type Row = (Fault, &'static [u8], Ending);
 
-// Prints `AB` in two parts, read one byte a call: `A` before the ninth read, and `B` before the eleventh, which finds the
-// end. Output is written and flushed before each read, and before the end.
+// Prints `AB` in two parts, read one byte a call: `A` before the ninth read, and `B` before the eleventh, which finds
+// the end. Output is written and flushed before each read, and before the end.
 pub(crate) const INPUT: &[u8; 10] = b"#(ps,A)'B'";
 
 const IN_A_RUN: &[Row] = &[
@@ -55,7 +55,8 @@ const IN_A_RUN: &[Row] = &[
 // character before, and the last has no end but that of the input.
 const LINES: &[u8; 33] = b"#(cm,+)'#(ps,<##(rc)>)+'it's+tail";
 
-// With three bytes a read the second line ends in the eighth, which has the byte after it too, and the third in the tenth.
+// With three bytes a read the second line ends in the eighth, which has the byte after it too, and
+// the third in the tenth.
 const IN_LINES: &[Row] = &[
     (Fault::Read(2), b"", Ending::Read),
     (Fault::Read(8), b"", Ending::Read),
@@ -81,8 +82,8 @@ const AFTER_A_TEXT: &[Row] = &[
     (Fault::TakeOne(3), b"AB", Ending::Ended),
 ];
 
-// Two lines, the second of which has no line feed, one byte a read: the first reply is written before the fifth read, and
-// the second after the eighth, which finds the end.
+// Two lines, the second of which has no line feed, one byte a read: the first reply is written before the fifth read,
+// and the second after the eighth, which finds the end.
 const COMMANDS: &[u8; 7] = b"s 3\nb 1";
 
 const IN_A_SESSION: &[Row] = &[

@@ -18,8 +18,8 @@ pub(crate) enum Fault {
     Flush(u64),
 }
 
-/// The kinds of errors that a call fails with. By the rule of std a call that was interrupted may be tried again; what is
-/// tested here tries no call again, and ends for any error.
+/// The kinds of errors that a call fails with. By the rule of std a call that was interrupted may be tried again; what
+/// is tested here tries no call again, and ends for any error.
 pub(crate) const KINDS: &[ErrorKind] = &[ErrorKind::Other, ErrorKind::Interrupted];
 
 /// What fails, and with which kind of error.

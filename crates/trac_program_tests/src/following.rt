@@ -1,5 +1,5 @@
-//! Following bytes back: one by a way that was worked out by hand, from call to call and in one trace, and those of an output with
-//! no request for memory.
+//! Following bytes back: one by a way that was worked out by hand, from call to call and in one trace, and those of an
+//! output with no request for memory.
 use std::alloc::{AllocError, Global};
 use std::process::Abort;
 use trac_faults::Refusing;
@@ -74,13 +74,13 @@ fn follow_each(rt: &impl Abort, memory: Memory<'_>, session: &mut Session<Memory
     }
 }
 
-// Byte 7 is the `x`. It becomes the form A, goes with it into a block, comes back, and is called and printed. The `ps` of the
-// idle program is function 0 all the while, and each call of the program function 1.
+// Byte 7 is the `x`. It becomes the form A, goes with it into a block, comes back, and is called and printed. The `ps`
+// of the idle program is function 0 all the while, and each call of the program function 1.
 const PROGRAM: &[u8] = b"#(ds,A,x)#(sb,B,A)#(fb,B)#(ps,##(cl,A))'";
 
-// The way of the byte that it prints, the latest first: how many steps were gone back over, and what was found. There are 50
-// steps before the input ends: 8 that read the program, then 8, 8 and 6 up to `ds`, `sb` and `fb` and with these, 10 with `cl`,
-// 1 that prints, and 9 up to the next `rs`.
+// The way of the byte that it prints, the latest first: how many steps were gone back over, and what was found. There
+// are 50 steps before the input ends: 8 that read the program, then 8, 8 and 6 up to `ds`, `sb` and `fb` and with
+// these, 10 with `cl`, 1 that prints, and 9 up to the next `rs`.
 const WAY: &[(u64, Source<'static>)] = &[
     (
         10,
@@ -193,8 +193,8 @@ fn trace_untold(rt: &impl Abort, session: &mut Session<Memory<'_>>) {
     assert!(rt; told.steps == [0, 0, 0, 0, 0, 10, 11, 21]);
 }
 
-// The same way in one trace: the steps of the calls on it are the sums of those above. With no memory it is found, and none is
-// asked for.
+// The same way in one trace: the steps of the calls on it are the sums of those above. With no memory it
+// is found, and none is asked for.
 fn trace_without_memory<'a>(
     rt: &impl Abort,
     memory: Memory<'a>,
@@ -224,7 +224,8 @@ fn feed_form(session: &mut Session<Memory<'_>>, name: &[u8]) -> Result<(), Refus
     feed(session, b"))'")
 }
 
-// The byte that such a program prints is that of this number of the input, which is found with no memory, and none is asked for.
+// The byte that such a program prints is that of this number of the input, which is found with no
+// memory, and none is asked for.
 fn expect_read<'a>(
     rt: &impl Abort,
     memory: Memory<'a>,

@@ -1,5 +1,5 @@
-//! When something is written: the calls of a reader and a writer that share a log. What is pending is written and flushed
-//! before more is read.
+//! When something is written: the calls of a reader and a writer that share a log. What is pending is written
+//! and flushed before more is read.
 use crate::faults::INPUT;
 use crate::programs::{debug_over, run_over, walk_over};
 use std::process::Abort;
@@ -7,8 +7,8 @@ use trac_faults::{CallLog, FaultyReader, FaultyWriter, Logged, LoggedCall};
 use trac_rules::width::Width;
 use trac_run::Ending;
 
-// The calls of a run over `INPUT`, one byte a read: the first line is whole with its eighth byte, and the second with the
-// tenth.
+// The calls of a run over `INPUT`, one byte a read: the first line is whole with its eighth byte,
+// and the second with the tenth.
 const IN_A_RUN: &[LoggedCall] = &[
     LoggedCall::Flush,
     LoggedCall::Read(1),
@@ -66,8 +66,8 @@ const IN_A_WALK: &[LoggedCall] = &[
     LoggedCall::Read(0),
 ];
 
-// The programs and their inputs are constants here: the borrow checker does not follow a call that is lent them beside two
-// readers and writers that share a log.
+// The programs and their inputs are constants here: the borrow checker does not follow a call that is lent them beside
+// two readers and writers that share a log.
 fn noted_in_a_run(rt: &(impl Abort + AllocGlobal)) -> Option<Vec<LoggedCall>> {
     let log = CallLog::new(rt.alloc());
     let mut reader = Logged::new(FaultyReader::new(INPUT).at_most(1), &log);

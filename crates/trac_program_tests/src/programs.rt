@@ -105,9 +105,9 @@ fn ended<R: Read, W: Write, A: Allocator + Copy>(
     }
 }
 
-/// How a program ends over this input, of which at most so many bytes come at a time and a call fails, and what it has
-/// written. The readers and writers that fail are named here: a proof shows anew, at each call with certain ones, that they
-/// read and write.
+/// How a program ends over this input, of which at most so many bytes come at a time and a call fails, and what it
+/// has written. The readers and writers that fail are named here: a proof shows anew, at each call with certain
+/// ones, that they read and write.
 pub(crate) fn outcome<A: Allocator + Copy>(
     rt: &impl Abort,
     plain: Global,

@@ -11,18 +11,19 @@ use trac_session_tests::programs::EACH_PRIMITIVE;
 const TAPE: &[u8] = b"#(ds,A,(x,y))'#(ss,A,x)'#(ps,##(cl,A,1))'";
 
 const ORDERS: &[u8] =
-    b"s 90\np\nb 3\nn\nN\nO\no\nu ps\nr\nw #1\nw \"1\"\nw A\ng 60\nf\nf A\nt 3\np all\ns 9\nl\ny #1\ns 90\ny A 1\ny\ng 60\ni \"a'\"\n\nh\nx\nm\nb start\ne\n";
+    b"s 90\np\nb 3\nn\nN\nO\no\nu ps\nr\nw #1\nw \"1\"\nw A\ng 60\nf\nf A\nt 3\np all\ns 9\nl\ny #1\ns 90\ny A 1\ny\n\
+      g 60\ni \"a'\"\n\nh\nx\nm\nb start\ne\n";
 
-// A program, its input with its output, and the text of a line that says that memory was refused, where the program goes on
-// then. There the output is left open: it is whole lines.
+// A program, its input with its output, and the text of a line that says that memory was refused, where the program
+// goes on then. There the output is left open: it is whole lines.
 type Row = (
     Program<'static>,
     (&'static [u8], &'static [u8]),
     Option<&'static [u8]>,
 );
 
-// Runs with each width of numbers, with a journal that fills and with the one of a run where nothing else is said; a session
-// with each kind of command, and a walk with each kind of line.
+// Runs with each width of numbers, with a journal that fills and with the one of a run where nothing else is said; a
+// session with each kind of command, and a walk with each kind of line.
 const ROWS: &[Row] = &[
     (RUN, (INPUT, b"AB"), None),
     (Program::Run(65_536, Width::W128), (INPUT, b"AB"), None),

@@ -1,4 +1,5 @@
-//! The program that is debugged, as it is read: whole, or not at all. One that is too long is tried by `tests/sessions`.
+//! The program that is debugged, as it is read: whole, or not at all. One that is too long is tried
+//! by `tests/sessions`.
 use crate::faulty::{Failing, Fault, KINDS, NO_FAULT, reader_of};
 use std::alloc::Allocator;
 use std::io::Read;

@@ -67,9 +67,9 @@ abbrev pub text_code : Coded (List ℕ)
 text_code = coded_list coded_ℕ
 
 abbrev pub frame_code : Coded Frame
-frame_code =
-    code_by (Kind × (List (List ℕ) × List ℕ)) (coded× kind_code (coded× (coded_list text_code) text_code))
-    (λ f. (f.kind, (f.arguments, f.gathered))) (λ p. record { kind = p.0; arguments = p.1.0; gathered = p.1.1 }) (λ _. refl)
+frame_code = code_by (Kind × (List (List ℕ) × List ℕ)) (coded× kind_code (coded× (coded_list text_code) text_code))
+    (λ f. (f.kind, (f.arguments, f.gathered)))
+    (λ p. record { kind = p.0; arguments = p.1.0; gathered = p.1.1 }) (λ _. refl)
 
 abbrev pub forms_code : Coded Forms
 forms_code = map.code text_code form_code
@@ -78,11 +78,9 @@ abbrev pub block_code : Coded Block
 block_code = coded_option (coded_list (coded× text_code form_code))
 
 abbrev pub state_code : Coded State
-state_code =
-    code_by
-    (List ℕ × (List ℕ × (List Frame × (Forms × (List Block × (ℕ × (Bool × (ℕ × List ℕ))))))))
-    (coded× text_code (coded× text_code (coded× (coded_list frame_code) (coded× forms_code (coded× (coded_list block_code)
-    (coded× coded_ℕ (coded× coded_bool (coded× coded_ℕ text_code))))))))
+state_code = code_by (List ℕ × (List ℕ × (List Frame × (Forms × (List Block × (ℕ × (Bool × (ℕ × List ℕ))))))))
+    (coded× text_code (coded× text_code (coded× (coded_list frame_code) (coded× forms_code
+    (coded× (coded_list block_code) (coded× coded_ℕ (coded× coded_bool (coded× coded_ℕ text_code))))))))
     (λ s. (s.active, (s.base, (s.frames, (s.forms, (s.blocks, (s.meta, (s.trace, (s.position, s.output)))))))))
     (λ p. record {
       active = p.0;
@@ -94,8 +92,8 @@ state_code =
       trace = p.1.1.1.1.1.1.0;
       position = p.1.1.1.1.1.1.1.0;
       output = p.1.1.1.1.1.1.1.1;
-    })
-    (λ _. refl)
+    }) (λ _. refl)
 
 abbrev pub tape_code : Coded Tape
-tape_code = code_by (List ℕ × Bool) (coded× text_code coded_bool) (λ t. (t.bytes, t.ended)) (λ p. record { bytes = p.0; ended = p.1 }) (λ _. refl)
+tape_code = code_by (List ℕ × Bool) (coded× text_code coded_bool) (λ t. (t.bytes, t.ended))
+    (λ p. record { bytes = p.0; ended = p.1 }) (λ _. refl)

@@ -2,13 +2,15 @@
 use Rattle.std.specs.Prelude.{ℕ, ℤ, List, [], Bool, true, false, Option, None, Some}
 use Rattle.std.specs.Str.{bytes_eq}
 use Rattle.trac_rules.specs.declared.primitive.Computation.{Computation}
-use Rattle.trac_rules.specs.declared.primitive.Computation.TheVariants.{Equal, Greater, Calculate, Union, Meet, Complement, Shift, Rotate}
+use Rattle.trac_rules.specs.declared.primitive.Computation.TheVariants.{Equal, Greater, Calculate, Union, Meet}
+use Rattle.trac_rules.specs.declared.primitive.Computation.TheVariants.{Complement, Shift, Rotate}
 use Rattle.trac_rules.specs.declared.primitive.Operation.{Operation}
 use Rattle.trac_rules.specs.declared.primitive.Operation.TheVariants.{Add, Subtract, Multiply, Divide}
 use Rattle.trac_rules.specs.declared.width.Width.{Width}
 use Rattle.trac_rules.specs.State.{Storage}
 use Rattle.trac_rules.specs.Effect.{Effect, argument, gives, gives_or_forces}
-use Rattle.trac_rules.specs.Number.{calculated, difference_of, is_greater, number_of, numeral_of, product_of, quotient_of, sum_of}
+use Rattle.trac_rules.specs.Number.{calculated, difference_of, is_greater, number_of, numeral_of, product_of}
+use Rattle.trac_rules.specs.Number.{quotient_of, sum_of}
 use Rattle.trac_rules.specs.Octal.{bits_of, complement, meet, octal_tail, rotate, shift, text_of, union}
 
 -- a decision gives the argument after the two that it looks at, or the one after that
@@ -39,9 +41,11 @@ number_argument width k arguments = number_of width (numeral_of (argument k argu
 -- the value of a computation of these arguments, on numbers of this width; nothing else changes
 abbrev pub computed : Computation → Width → List (List ℕ) → Storage → Effect
 computed Equal width arguments = gives (chosen (bytes_eq (argument 1 arguments) (argument 2 arguments)) arguments)
-computed Greater width arguments = gives (chosen (is_greater (numeral_of (argument 1 arguments)) (numeral_of (argument 2 arguments))) arguments)
+computed Greater width arguments =
+    gives (chosen (is_greater (numeral_of (argument 1 arguments)) (numeral_of (argument 2 arguments))) arguments)
 computed (Calculate operation) width arguments =
-    gives_or_forces (calculated (result_of operation) width (argument 1 arguments) (argument 2 arguments)) (argument 3 arguments)
+    gives_or_forces (calculated (result_of operation) width (argument 1 arguments) (argument 2 arguments))
+    (argument 3 arguments)
 computed Union width arguments = gives (text_of (union (octal_argument 1 arguments) (octal_argument 2 arguments)))
 computed Meet width arguments = gives (text_of (meet (octal_argument 1 arguments) (octal_argument 2 arguments)))
 computed Complement width arguments = gives (text_of (complement (octal_argument 1 arguments)))

@@ -1,6 +1,7 @@
--- Cuts: which gaps segmenting makes, and how they are filled again with the texts that were cut out. A gap that was there before is
--- none of them, whatever its ordinal and its width.
-use Rattle.std.specs.Prelude.{ℕ, ◌+◌, ◌==◌, ◌&&◌, nat_le, List, [], ◌∷◌, ◌++◌, length, drop, Bool, true, false, if◌then◌else◌, Option, None, Some, option_map, option_and_then}
+-- Cuts: which gaps segmenting makes, and how they are filled again with the texts that were cut out. A gap that was
+-- there before is none of them, whatever its ordinal and its width.
+use Rattle.std.specs.Prelude.{ℕ, ◌+◌, ◌==◌, ◌&&◌, nat_le, List, [], ◌∷◌, ◌++◌, length, drop, Bool, true, false}
+use Rattle.std.specs.Prelude.{if◌then◌else◌, Option, None, Some, option_map, option_and_then}
 use Rattle.std.specs.Bool.{then_some}
 use Rattle.trac_rules.specs.declared.item.CutGap.{CutGap}
 use Rattle.trac_rules.specs.declared.item.Item.{Item}
@@ -17,9 +18,9 @@ begins_with_gap [] = false
 begins_with_gap (Byte b ∷ items) = false
 begins_with_gap (Gap ordinal width ∷ items) = true
 
--- the gaps that the items `new` have where the items `old` have bytes, with their places; the first of `new` has the place that is
--- given. Both are walked side by side: a byte takes one old item, an earlier gap takes itself, and a gap that was made takes as many
--- old items as it is wide
+-- the gaps that the items `new` have where the items `old` have bytes, with their places; the first of `new` has the
+-- place that is given. Both are walked side by side: a byte takes one old item, an earlier gap takes itself, and a gap
+-- that was made takes as many old items as it is wide
 abbrev pub cut_between : ℕ → List Item → List Item → List CutGap
 cut_between place old [] = []
 cut_between place old (Byte b ∷ new) = cut_between (place + 1) (drop 1 old) new
@@ -38,16 +39,17 @@ cut_of texts form = cut_between 0 (all_items form) (all_items (segmented texts f
 abbrev pub fitting : List (List ℕ) → ℕ → Item → Option (List ℕ)
 fitting texts number (Byte b) = None
 fitting texts number (Gap ordinal width) =
-    then_some (ordinal == number && (width == length (text_numbered number texts) && nat_le 1 width)) (text_numbered number texts)
+    then_some (ordinal == number && (width == length (text_numbered number texts) && nat_le 1 width))
+    (text_numbered number texts)
 
--- items with the gaps of a cut filled with their texts, the first item having the place that is given; none where a gap of the cut
--- does not stand at its place as wide as its text, or where places do not rise
+-- items with the gaps of a cut filled with their texts, the first item having the place that is given; none where a gap
+-- of the cut does not stand at its place as wide as its text, or where places do not rise
 abbrev pub joined_from : List (List ℕ) → ℕ → List CutGap → List Item → Option (List Item)
 joined_from texts place [] items = Some items
 joined_from texts place (gap ∷ cut) [] = None
-joined_from texts place (gap ∷ cut) (item ∷ items) =
-    if place == gap.place
-    then option_and_then (λ text. option_map (λ rest. as_items text ++ rest) (joined_from texts (place + 1) cut items)) (fitting texts gap.ordinal item)
+joined_from texts place (gap ∷ cut) (item ∷ items) = if place == gap.place
+    then option_and_then (λ text. option_map (λ rest. as_items text ++ rest) (joined_from texts (place + 1) cut items))
+    (fitting texts gap.ordinal item)
     else option_map (λ rest. item ∷ rest) (joined_from texts (place + 1) (gap ∷ cut) items)
 
 -- items with the gaps of a cut filled again with their texts, where they are there

@@ -1,19 +1,25 @@
--- Doubts: what the next step would do that a person is unlikely to have meant. All that is said here is this project's profile, and changes
--- nothing of the language: a doubtful step is a step like any other.
-use Rattle.std.specs.Prelude.{ℕ, ◌+◌, ◌==◌, ◌&&◌, ◌||◌, not, nat_lt, nat_le, max, is_some, List, [], ◌∷◌, ◌++◌, length, map, drop, Bool, true, false, Option, None, Some, option_map}
+-- Doubts: what the next step would do that a person is unlikely to have meant. All that is said here is this project's
+-- profile, and changes nothing of the language: a doubtful step is a step like any other.
+use Rattle.std.specs.Prelude.{ℕ, ◌+◌, ◌==◌, ◌&&◌, ◌||◌, not, nat_lt, nat_le, max, is_some, List, [], ◌∷◌, ◌++◌, length}
+use Rattle.std.specs.Prelude.{map, drop, Bool, true, false, Option, None, Some, option_map}
 use Rattle.std.specs.FinMap as map
 use Rattle.std.specs.List.{filter, list_any}
 use Rattle.std.specs.Option.{is_none}
 use Rattle.trac_rules.specs.declared.doubt.Doubt.{Doubt}
-use Rattle.trac_rules.specs.declared.doubt.Doubt.TheVariants.{NoPrimitive, FormUncalled, NoForm, NoBlock, Unused, NoNumber, NoResult, Nowhere, Unended, Unclosed, EndsNothing}
+use Rattle.trac_rules.specs.declared.doubt.Doubt.TheVariants.{NoPrimitive, FormUncalled, NoForm, NoBlock, Unused}
+use Rattle.trac_rules.specs.declared.doubt.Doubt.TheVariants.{NoNumber, NoResult, Nowhere, Unended, Unclosed}
+use Rattle.trac_rules.specs.declared.doubt.Doubt.TheVariants.{EndsNothing}
 use Rattle.trac_rules.specs.declared.item.Item.{Item}
 use Rattle.trac_rules.specs.declared.item.Item.TheVariants.{Byte, Gap}
 use Rattle.trac_rules.specs.declared.primitive.BlockAction.TheVariants.{StoreBlock, FetchBlock, EraseBlock}
-use Rattle.trac_rules.specs.declared.primitive.Computation.TheVariants.{Equal, Greater, Calculate, Union, Meet, Complement, Shift, Rotate}
-use Rattle.trac_rules.specs.declared.primitive.FormAction.TheVariants.{Define, Delete, DeleteAll, Segment, Restore, Call, Read, ListNames, PrintForm}
+use Rattle.trac_rules.specs.declared.primitive.Computation.TheVariants.{Equal, Greater, Calculate, Union, Meet}
+use Rattle.trac_rules.specs.declared.primitive.Computation.TheVariants.{Complement, Shift, Rotate}
+use Rattle.trac_rules.specs.declared.primitive.FormAction.TheVariants.{Define, Delete, DeleteAll, Segment, Restore}
+use Rattle.trac_rules.specs.declared.primitive.FormAction.TheVariants.{Call, Read, ListNames, PrintForm}
 use Rattle.trac_rules.specs.declared.primitive.FormReading.TheVariants.{ReadSegment, ReadChar, ReadCount, ReadUntil}
 use Rattle.trac_rules.specs.declared.primitive.Primitive.{Primitive}
-use Rattle.trac_rules.specs.declared.primitive.Primitive.TheVariants.{PrintString, ReadString, ReadByte, Halt, SetMeta, SetTrace, Compute, Handle, HandleBlock, Unknown}
+use Rattle.trac_rules.specs.declared.primitive.Primitive.TheVariants.{PrintString, ReadString, ReadByte, Halt, SetMeta}
+use Rattle.trac_rules.specs.declared.primitive.Primitive.TheVariants.{SetTrace, Compute, Handle, HandleBlock, Unknown}
 use Rattle.trac_rules.specs.declared.scan.Front.{Front}
 use Rattle.trac_rules.specs.declared.scan.Front.TheVariants.{Nothing, Opening, Closing}
 use Rattle.trac_rules.specs.declared.width.Width.{Width}
@@ -87,7 +93,8 @@ abbrev pub highest_ordinal : List Item → ℕ
 highest_ordinal [] = 0
 highest_ordinal (item ∷ items) = max (ordinal_of item) (highest_ordinal items)
 
--- how many arguments after its name a primitive uses at most, by the form that argument 1 names; none: all that there are
+-- how many arguments after its name a primitive uses at most, by the form that argument 1 names;
+-- none: all that there are
 abbrev pub arguments_used : Primitive → Option Form → Option ℕ
 arguments_used PrintString form = Some 1
 arguments_used ReadString form = Some 0
@@ -142,12 +149,14 @@ abbrev pub has_no_number : List ℕ → Bool
 has_no_number text = not (is_null text) && is_null (numeral_of text)
 
 abbrev pub number_doubts : Primitive → List (List ℕ) → List Doubt
-number_doubts primitive arguments = map NoNumber (filter (λ k. has_no_number (argument k arguments)) (numbers_read primitive))
+number_doubts primitive arguments =
+    map NoNumber (filter (λ k. has_no_number (argument k arguments)) (numbers_read primitive))
 
 -- whether these arguments of an operation give no result, and none in its place
 abbrev pub lacks_result : Primitive → Width → List (List ℕ) → Bool
 lacks_result (Compute (Calculate operation)) width arguments =
-    is_none (calculated (result_of operation) width (argument 1 arguments) (argument 2 arguments)) && nat_le (length arguments) 3
+    is_none (calculated (result_of operation) width (argument 1 arguments) (argument 2 arguments))
+    && nat_le (length arguments) 3
 lacks_result primitive width arguments = false
 
 abbrev pub result_doubts : Primitive → Width → List (List ℕ) → List Doubt
@@ -157,12 +166,14 @@ result_doubts primitive width arguments = said (lacks_result primitive width arg
 
 -- whether a text stands in one of these runs
 abbrev pub stands_in : List ℕ → Runs → Bool
-stands_in text runs = is_some (leftmost text runs.first) || list_any (λ piece. is_some (leftmost text piece.1)) runs.others
+stands_in text runs =
+    is_some (leftmost text runs.first) || list_any (λ piece. is_some (leftmost text piece.1)) runs.others
 
 -- of these texts, the first of them being argument k, those that are not null and stand in none of the runs
 abbrev pub nowhere_from : ℕ → List (List ℕ) → Runs → List Doubt
 nowhere_from k [] runs = []
-nowhere_from k (text ∷ texts) runs = said (not (is_null text) && not (stands_in text runs)) (Nowhere k) ++ nowhere_from (k + 1) texts runs
+nowhere_from k (text ∷ texts) runs =
+    said (not (is_null text) && not (stands_in text runs)) (Nowhere k) ++ nowhere_from (k + 1) texts runs
 
 -- the form is as it is before the cut
 abbrev pub nowhere_doubts : Primitive → List (List ℕ) → Option Form → List Doubt
@@ -171,7 +182,8 @@ nowhere_doubts primitive arguments form = []
 
 -- ---- all of them
 
--- what a call finds among forms and blocks: the form of its own name, the one that argument 1 names, and the number of that form's block
+-- what a call finds among forms and blocks: the form of its own name, the one that argument 1 names, and
+-- the number of that form's block
 pub record Found : Type 0 where
   pub own : Option Form
   pub named : Option Form

@@ -23,7 +23,8 @@ pub record Effect : Type 0 where
 
 -- an empty value, and nothing else but this storage
 abbrev pub leaves : Storage → Effect
-leaves storage = record { value = []; forced = false; printed = []; read = 0; meta = None; trace = None; storage = storage }
+leaves storage =
+    record { value = []; forced = false; printed = []; read = 0; meta = None; trace = None; storage = storage }
 
 -- a value, which is not forced
 abbrev pub gives : List ℕ → Storage → Effect

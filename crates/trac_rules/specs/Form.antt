@@ -3,7 +3,8 @@ use Rattle.std.specs.Prelude.{ℕ, ◌+◌, ◌≤◌, List, [], ◌∷◌, ◌+
 use Rattle.trac_rules.specs.declared.item.Item.{Item}
 use Rattle.trac_rules.specs.declared.item.Item.TheVariants.{Byte, Gap}
 
--- a form: the items before its pointer, and those after it. In a proper state each gap is at least one byte wide (`IsProperForm`)
+-- a form: the items before its pointer, and those after it. In a proper state each gap is at least
+-- one byte wide (`IsProperForm`)
 pub record Form : Type 0 where
   pub before : List Item
   pub after : List Item

@@ -1,5 +1,6 @@
 -- What walks look for: goals, which are met at some states and not at others.
-use Rattle.std.specs.Prelude.{◌≡◌, ℕ, ◌==◌, ◌&&◌, ◌||◌, not, nat_lt, nat_le, is_some, List, [], ◌∷◌, ◌++◌, length, reverse, slice_get, Bool, true, false, Option, None, Some, codes}
+use Rattle.std.specs.Prelude.{◌≡◌, ℕ, ◌==◌, ◌&&◌, ◌||◌, not, nat_lt, nat_le, is_some, List, [], ◌∷◌, ◌++◌, length}
+use Rattle.std.specs.Prelude.{reverse, slice_get, Bool, true, false, Option, None, Some, codes}
 use Rattle.std.specs.Cmp.Lexicographic.{pointwise}
 use Rattle.std.specs.FinMap as finite
 use Rattle.std.specs.List.{starts_with}
@@ -53,15 +54,17 @@ is_begun_with wanted (Some f) = is_active f.kind && starts_with bytes_eq (f.argu
 abbrev pub frame_at : ℕ → State → Option Frame
 frame_at number s = slice_get (reverse s.frames) number
 
--- the next step would perform the `rs` of the idle program `#(ps,#(rs))`: it alone is begun, with its `ps`, which has gathered nothing,
--- and what is left to scan is the end of both. So too where a program's own `rs` stands last in a text that leaves nothing before it
+-- the next step would perform the `rs` of the idle program `#(ps,#(rs))`: it alone is begun, with its `ps`, which has
+-- gathered nothing, and what is left to scan is the end of both. So too where a program's own `rs` stands last in a
+-- text that leaves nothing before it
 abbrev pub is_idle_reading : Goal
-is_idle_reading s =
-    bytes_eq s.active (codes "))") && (length s.frames == 2) && is_begun_with (codes "ps" ∷ [] ∷ []) (frame_at 0 s) && is_begun_with (codes "rs" ∷ []) (frame_at 1 s)
+is_idle_reading s = bytes_eq s.active (codes "))") && (length s.frames == 2)
+    && is_begun_with (codes "ps" ∷ [] ∷ []) (frame_at 0 s) && is_begun_with (codes "rs" ∷ []) (frame_at 1 s)
 
 -- the next step would perform its `ps`, which alone is begun, and what is left to scan is its end
 abbrev pub is_idle_printing : Goal
-is_idle_printing s = bytes_eq s.active (codes ")") && (length s.frames == 1) && is_begun_with (codes "ps" ∷ []) (frame_at 0 s)
+is_idle_printing s =
+    bytes_eq s.active (codes ")") && (length s.frames == 1) && is_begun_with (codes "ps" ∷ []) (frame_at 0 s)
 
 -- the next step would perform a call, but not one of the idle program's own
 abbrev pub is_own_call : Goal
@@ -98,11 +101,12 @@ is_form_as None None = true
 is_form_as (Some a) (Some b) = is_same_form a b
 is_form_as a b = false
 
--- the next step would perform a call, and the form of this name is another one than this, or is there where this is none, or is not where
--- this is one. Nothing but a call changes a form, so on the way back this is the call that did
+-- the next step would perform a call, and the form of this name is another one than this, or is there where this is
+-- none, or is not where this is one. Nothing but a call changes a form, so on the way back this is the call that did
 abbrev pub has_other_form : List ℕ → Option Form → Goal
 has_other_form name form s = is_some (next_call s) && not (is_form_as (finite.get s.forms name) form)
 
--- at most so many bytes of the output are not released yet: so byte number `count` of it, the first being number 0, is not printed yet
+-- at most so many bytes of the output are not released yet: so byte number `count` of it, the first
+-- being number 0, is not printed yet
 abbrev pub is_unprinted : ℕ → Goal
 is_unprinted count s = nat_le (length s.output) count

@@ -1,5 +1,6 @@
 -- Which `)` matches a protecting `(`. Every `(` and `)` is counted, and nothing else.
-use Rattle.std.specs.Prelude.{◌≡◌, ℕ, ◌+◌, ◌≤◌, ◌==◌, ◌&&◌, List, [], length, take, drop, slice_index, Bool, Option, None, Some}
+use Rattle.std.specs.Prelude.{◌≡◌, ℕ, ◌+◌, ◌≤◌, ◌==◌, ◌&&◌, List, [], length, take, drop, slice_index, Bool, Option}
+use Rattle.std.specs.Prelude.{None, Some}
 use Rattle.trac_rules.specs.declared.byte.TheConstants.{OPENING, CLOSING}
 use Rattle.trac_rules.specs.Bytes.{count_of, first_place}
 

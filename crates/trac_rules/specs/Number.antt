@@ -1,5 +1,8 @@
--- Numbers: the numeral at the end of a text, the whole number that it writes, and arithmetic within the range of numbers.
-use Rattle.std.specs.Prelude.{◌≡◌, ◌⊎◌, ◌<◌, ◌≤◌, ℕ, ◌-◌, ◌^◌, ℤ, pos, neg_ℤ, ◌+ℤ◌, ◌-ℤ◌, ◌*ℤ◌, int_lt, int_le, int_div, unsigned_abs, List, [], ◌++◌, length, take, nat_lt, if◌then◌else◌, Bool, true, ◌&&◌, Option, None, Some}
+-- Numbers: the numeral at the end of a text, the whole number that it writes, and arithmetic within
+-- the range of numbers.
+use Rattle.std.specs.Prelude.{◌≡◌, ◌⊎◌, ◌<◌, ◌≤◌, ℕ, ◌-◌, ◌^◌, ℤ, pos, neg_ℤ, ◌+ℤ◌, ◌-ℤ◌, ◌*ℤ◌, int_lt, int_le, int_div}
+use Rattle.std.specs.Prelude.{unsigned_abs, List, [], ◌++◌, length, take, nat_lt, if◌then◌else◌, Bool, true, ◌&&◌}
+use Rattle.std.specs.Prelude.{Option, None, Some}
 use Rattle.std.specs.Fmt.{signed_decimal}
 use Rattle.std.specs.Ordering.{int_eq}
 use Rattle.std.specs.Str.{all_ascii_digits}
@@ -64,7 +67,8 @@ product_of width a b = if_fits width (a *ℤ b)
 unfoldable pub quotient_of : Width → ℤ → ℤ → Option ℤ
 quotient_of width a b = if int_eq b (pos 0) then None else if_fits width (int_div a b)
 
--- q is a by b, cut toward zero, as a law says it of `quotient_of`: what remains of a is smaller in size than b, and q times b goes no further from zero than a
+-- q is a by b, cut toward zero, as a law says it of `quotient_of`: what remains of a is smaller in size than b, and q
+-- times b goes no further from zero than a
 pub record IsCutQuotient (a b q : ℤ) : Type 0 where
   pub remainder : ℤ
   pub whole : a ≡ q *ℤ b +ℤ remainder
@@ -92,8 +96,8 @@ abbrev pub after_prefix : List ℕ → Option ℤ → Option (List ℕ)
 after_prefix prefix (Some n) = Some (prefix ++ number_text n)
 after_prefix prefix None = None
 
--- the prefix of the first text, and then the result of an operation on the numbers of both, all three of one width; none where a number
--- does not fit, or there is no result
+-- the prefix of the first text, and then the result of an operation on the numbers of both, all three of one width;
+-- none where a number does not fit, or there is no result
 unfoldable pub calculated : (Width → ℤ → ℤ → Option ℤ) → Width → List ℕ → List ℕ → Option (List ℕ)
-calculated operation width first second =
-    after_prefix (prefix_of first) (on_both (operation width) (number_of width (numeral_of first)) (number_of width (numeral_of second)))
+calculated operation width first second = after_prefix (prefix_of first)
+    (on_both (operation width) (number_of width (numeral_of first)) (number_of width (numeral_of second)))

@@ -1,5 +1,7 @@
 -- Octal strings: texts of the digits `0` to `7`, which stand for lists of bits.
-use Rattle.std.specs.Prelude.{ℕ, suc, ◌+◌, ◌-◌, ◌/◌, ◌%◌, ◌==◌, ◌&&◌, ◌||◌, not, nat_le, min, max, ℤ, pos, negsuc, Bool, false, List, [], ◌∷◌, ◌++◌, length, take, drop, replicate, map, zip, flat_map, IsTrue, if◌then◌else◌}
+use Rattle.std.specs.Prelude.{ℕ, suc, ◌+◌, ◌-◌, ◌/◌, ◌%◌, ◌==◌, ◌&&◌, ◌||◌, not, nat_le, min, max, ℤ, pos, negsuc, Bool}
+use Rattle.std.specs.Prelude.{false, List, [], ◌∷◌, ◌++◌, length, take, drop, replicate, map, zip, flat_map, IsTrue}
+use Rattle.std.specs.Prelude.{if◌then◌else◌}
 use Rattle.std.specs.List.{list_all}
 use Rattle.trac_rules.specs.Bytes.{longest_tail}
 use Rattle.trac_rules.specs.declared.octals.TheConstants.{ZERO, SEVEN}

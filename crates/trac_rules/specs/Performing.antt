@@ -1,5 +1,6 @@
 -- What the primitives do, and where their values go.
-use Rattle.std.specs.Prelude.{ℕ, ◌+◌, List, [], ◌∷◌, ◌++◌, find, Bool, true, false, Option, None, Some, Result, Ok, Err, codes}
+use Rattle.std.specs.Prelude.{ℕ, ◌+◌, List, [], ◌∷◌, ◌++◌, find, Bool, true, false, Option, None, Some, Result, Ok, Err}
+use Rattle.std.specs.Prelude.{codes}
 use Rattle.std.specs.List.{join_with_byte}
 use Rattle.std.specs.Option.{unwrap_or}
 use Rattle.std.specs.Str.{str_eq_ignore_ascii_case}
@@ -7,7 +8,8 @@ use Rattle.trac_rules.specs.declared.byte.TheConstants.{STAR, CLOSING, LINE_FEED
 use Rattle.trac_rules.specs.declared.kind.Kind.{Kind}
 use Rattle.trac_rules.specs.declared.kind.Kind.TheVariants.{Active, Neutral}
 use Rattle.trac_rules.specs.declared.primitive.Primitive.{Primitive}
-use Rattle.trac_rules.specs.declared.primitive.Primitive.TheVariants.{PrintString, ReadString, ReadByte, Halt, SetMeta, SetTrace, Compute, Handle, HandleBlock, Unknown}
+use Rattle.trac_rules.specs.declared.primitive.Primitive.TheVariants.{PrintString, ReadString, ReadByte, Halt, SetMeta}
+use Rattle.trac_rules.specs.declared.primitive.Primitive.TheVariants.{SetTrace, Compute, Handle, HandleBlock, Unknown}
 use Rattle.trac_rules.specs.declared.primitive.NamedPrimitive.{NamedPrimitive}
 use Rattle.trac_rules.specs.declared.primitive.TheConstants.{NAMES}
 use Rattle.trac_rules.specs.declared.refusal.Refusal.{Refusal}
@@ -43,17 +45,19 @@ abbrev pub meta_set : List ℕ → Storage → Effect
 meta_set [] storage = leaves storage
 meta_set (b ∷ bytes) storage = sets_meta b storage
 
--- what a primitive does with these arguments, its name being the first, in this state: of it a primitive uses the meta character, the
--- position and the storage alone
+-- what a primitive does with these arguments, its name being the first, in this state: of it a primitive uses the meta
+-- character, the position and the storage alone
 abbrev pub effect_of : Primitive → Environment → List (List ℕ) → State → Result Effect Refusal
 effect_of PrintString environment arguments s = Ok (prints (argument 1 arguments) (storage_of s))
-effect_of ReadString environment arguments s = string_read (unread environment.tape s) environment.tape.ended s.meta (storage_of s)
+effect_of ReadString environment arguments s =
+    string_read (unread environment.tape s) environment.tape.ended s.meta (storage_of s)
 effect_of ReadByte environment arguments s = byte_read (unread environment.tape s) environment.tape.ended (storage_of s)
 -- the processor halts, whatever the tape (this project's profile)
 effect_of Halt environment arguments s = Err Ended
 effect_of SetMeta environment arguments s = Ok (meta_set (argument 1 arguments) (storage_of s))
 effect_of (SetTrace trace) environment arguments s = Ok (sets_trace trace (storage_of s))
-effect_of (Compute computation) environment arguments s = Ok (computed computation environment.width arguments (storage_of s))
+effect_of (Compute computation) environment arguments s =
+    Ok (computed computation environment.width arguments (storage_of s))
 effect_of (Handle action) environment arguments s = handled action environment.width arguments (storage_of s)
 effect_of (HandleBlock action) environment arguments s = block_handled action arguments (storage_of s)
 effect_of Unknown environment arguments s = Ok (leaves (storage_of s))
@@ -65,8 +69,8 @@ abbrev pub beginning_of : Kind → List ℕ
 beginning_of Active = codes "#("
 beginning_of Neutral = codes "##("
 
--- the line of the trace, where the trace is on: the function's beginning, all its arguments with `*` between them, its end,
--- and a line feed (this project's profile)
+-- the line of the trace, where the trace is on: the function's beginning, all its arguments with `*` between them, its
+-- end, and a line feed (this project's profile)
 abbrev pub trace_line : Bool → Kind → List (List ℕ) → List ℕ
 trace_line false kind arguments = []
 trace_line true kind arguments = beginning_of kind ++ join_with_byte STAR arguments ++ CLOSING ∷ LINE_FEED ∷ []
@@ -82,8 +86,8 @@ performed environment call =
     seen_as (printed_after (trace_line call.state.trace call.kind call.arguments))
     (effect_of (primitive_of (argument 0 call.arguments)) environment call.arguments call.state)
 
--- where the value goes: that of an active function and every forced one before the active text, and any other to the current text;
--- that a neutral function's value may be forced is this project's profile
+-- where the value goes: that of an active function and every forced one before the active text, and any other to the
+-- current text; that a neutral function's value may be forced is this project's profile
 abbrev pub placed : Kind → Bool → List ℕ → State → State
 placed Active forced value s = record s { active = value ++ s.active }
 placed Neutral true value s = record s { active = value ++ s.active }

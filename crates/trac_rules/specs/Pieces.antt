@@ -1,6 +1,7 @@
--- Reading a form at its pointer: what is given, and where the pointer stands afterwards. The items of the form never change. A pointer
--- before a gap and one after it are two places.
-use Rattle.std.specs.Prelude.{ℕ, zero, suc, ◌+◌, ◌==◌, ◌&&◌, min, ℤ, pos, negsuc, List, [], ◌∷◌, length, take, drop, position, Bool, true, false, Option, None, Some, option_map}
+-- Reading a form at its pointer: what is given, and where the pointer stands afterwards. The items of the form never
+-- change. A pointer before a gap and one after it are two places.
+use Rattle.std.specs.Prelude.{ℕ, zero, suc, ◌+◌, ◌==◌, ◌&&◌, min, ℤ, pos, negsuc, List, [], ◌∷◌, length, take, drop}
+use Rattle.std.specs.Prelude.{position, Bool, true, false, Option, None, Some, option_map}
 use Rattle.std.specs.List.{flat_map}
 use Rattle.trac_rules.specs.declared.item.Item.{Item}
 use Rattle.trac_rules.specs.declared.item.Item.TheVariants.{Byte, Gap}
@@ -44,12 +45,14 @@ abbrev pub is_gap : Item → Bool
 is_gap (Byte b) = false
 is_gap (Gap ordinal width) = true
 
--- how many items a segment takes, by the place of the first gap: that gap with what stands before it; without a gap all items
+-- how many items a segment takes, by the place of the first gap: that gap with what stands before
+-- it; without a gap all items
 abbrev pub segment_items : Option ℕ → List Item → ℕ
 segment_items (Some k) items = k + 1
 segment_items None items = length items
 
--- the bytes up to the next gap, the pointer after that gap; so empty right before a gap. None where nothing stands after the pointer
+-- the bytes up to the next gap, the pointer after that gap; so empty right before a gap. None where
+-- nothing stands after the pointer
 abbrev pub segment_read : Form → Option Piece
 segment_read form = where_any form.after (Some (read_on (segment_items (position is_gap form.after) form.after) form))
 
@@ -67,23 +70,24 @@ place_before n items = last_place (λ k. length (bytes_in (drop k items)) == n) 
 abbrev pub at_most_all : ℕ → List Item → ℕ
 at_most_all n items = min n (length (bytes_in items))
 
--- the next n bytes, or as many as there are, the pointer right after the last of them. None where no byte stands after the pointer
+-- the next n bytes, or as many as there are, the pointer right after the last of them. None where
+-- no byte stands after the pointer
 abbrev pub next_bytes : ℕ → Form → Option Piece
-next_bytes n form =
-    where_any (bytes_in form.after) (option_map (λ k. read_on k form) (place_after (at_most_all n form.after) form.after))
+next_bytes n form = where_any (bytes_in form.after)
+    (option_map (λ k. read_on k form) (place_after (at_most_all n form.after) form.after))
 
--- the last n bytes before the pointer, or as many as there are, in the order of the text, the pointer right before the first of them.
--- None where no byte stands before the pointer
+-- the last n bytes before the pointer, or as many as there are, in the order of the text, the pointer right before the
+-- first of them. None where no byte stands before the pointer
 abbrev pub last_bytes : ℕ → Form → Option Piece
-last_bytes n form =
-    where_any (bytes_in form.before) (option_map (λ k. read_back k form) (place_before (at_most_all n form.before) form.before))
+last_bytes n form = where_any (bytes_in form.before)
+    (option_map (λ k. read_back k form) (place_before (at_most_all n form.before) form.before))
 
 -- `cc`: the next byte
 abbrev pub char_read : Form → Option Piece
 char_read form = next_bytes 1 form
 
--- `cn`: for a number above zero so many bytes after the pointer, for one below zero so many before it; for zero empty, the pointer
--- unmoved, whatever stands on its sides (this project's profile)
+-- `cn`: for a number above zero so many bytes after the pointer, for one below zero so many before it; for zero empty,
+-- the pointer unmoved, whatever stands on its sides (this project's profile)
 abbrev pub count_read : ℤ → Form → Option Piece
 count_read (pos zero) form = Some (nothing_read form)
 count_read (pos (suc n)) form = next_bytes (suc n) form
@@ -103,12 +107,13 @@ begin_with (b ∷ text) [] = false
 begin_with (b ∷ text) (Byte c ∷ items) = b == c && begin_with text items
 begin_with (b ∷ text) (Gap ordinal width ∷ items) = false
 
--- the first place among items at which a text occurs; no occurrence crosses a gap, and an empty text occurs at once, also at the end
--- (both this project's profile)
+-- the first place among items at which a text occurs; no occurrence crosses a gap, and an empty text occurs at once,
+-- also at the end (both this project's profile)
 abbrev pub place_of_text : List ℕ → List Item → Option ℕ
 place_of_text text items = first_place (λ k. begin_with text (drop k items)) (length items + 1)
 
--- the bytes before the first occurrence of a text after the pointer, the pointer right after that occurrence. None where it does not occur
+-- the bytes before the first occurrence of a text after the pointer, the pointer right after that
+-- occurrence. None where it does not occur
 abbrev pub until_read : List ℕ → Form → Option Piece
-until_read text form =
-    option_map (λ k. record (read_on k form) { place = length form.before + k + length text }) (place_of_text text form.after)
+until_read text form = option_map (λ k. record (read_on k form) { place = length form.before + k + length text })
+    (place_of_text text form.after)

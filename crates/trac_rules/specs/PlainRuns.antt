@@ -1,5 +1,6 @@
 -- Runs of plain bytes: as many steps as bytes, each of which moves one byte to the current text.
-use Rattle.std.specs.Prelude.{◌≡◌, ℕ, zero, suc, ◌<◌, ◌≤◌, ◌==◌, ◌&&◌, not, List, [], ◌∷◌, length, take, get_or, Bool, true}
+use Rattle.std.specs.Prelude.{◌≡◌, ℕ, zero, suc, ◌<◌, ◌≤◌, ◌==◌, ◌&&◌, not, List, [], ◌∷◌, length, take, get_or, Bool}
+use Rattle.std.specs.Prelude.{true}
 use Rattle.trac_rules.specs.declared.byte.TheConstants.{OPENING, CLOSING, COMMA, SHARP}
 use Rattle.trac_rules.specs.Scanning.{deleted, gather, is_layout}
 use Rattle.trac_rules.specs.State.{State}

@@ -58,18 +58,19 @@ are_distinct (name ∷ names) = not (list_any (bytes_eq name) names) && are_dist
 
 -- whether there are not too many forms, and each is proper
 abbrev pub are_proper_forms : Forms → Bool
-are_proper_forms forms = nat_le (finite.len forms) FORM_COUNT_LIMIT && list_all (λ entry. is_proper_form entry.0 entry.1) (finite.entries forms)
+are_proper_forms forms = nat_le (finite.len forms) FORM_COUNT_LIMIT
+    && list_all (λ entry. is_proper_form entry.0 entry.1) (finite.entries forms)
 
 -- whether the forms that a block holds are proper
 abbrev pub is_proper_block : Block → Bool
 is_proper_block None = true
-is_proper_block (Some held) =
-    nat_le (length held) FORM_COUNT_LIMIT && list_all (λ entry. is_proper_form entry.0 entry.1) held && are_distinct (map (λ entry. entry.0) held)
+is_proper_block (Some held) = nat_le (length held) FORM_COUNT_LIMIT
+    && list_all (λ entry. is_proper_form entry.0 entry.1) held && are_distinct (map (λ entry. entry.0) held)
 
 -- whether forms and blocks are proper
 abbrev pub is_proper_storage : Storage → Bool
-is_proper_storage storage =
-    are_proper_forms storage.forms && nat_le (length storage.blocks) BLOCK_LIMIT && list_all is_proper_block storage.blocks
+is_proper_storage storage = are_proper_forms storage.forms && nat_le (length storage.blocks) BLOCK_LIMIT
+    && list_all is_proper_block storage.blocks
 
 -- whether a state is proper
 unfoldable pub is_proper : State → Bool

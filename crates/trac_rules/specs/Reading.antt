@@ -1,5 +1,6 @@
 -- Reading the input.
-use Rattle.std.specs.Prelude.{ℕ, ◌+◌, ◌==◌, List, [], ◌∷◌, length, take, drop, Bool, true, false, Option, None, Some, Result, Ok, Err, position}
+use Rattle.std.specs.Prelude.{ℕ, ◌+◌, ◌==◌, List, [], ◌∷◌, length, take, drop, Bool, true, false, Option, None, Some}
+use Rattle.std.specs.Prelude.{Result, Ok, Err, position}
 use Rattle.trac_rules.specs.declared.refusal.Refusal.{Refusal}
 use Rattle.trac_rules.specs.declared.refusal.Refusal.TheVariants.{NeedInput, Ended}
 use Rattle.trac_rules.specs.State.{State, Storage, Tape}
@@ -9,14 +10,15 @@ use Rattle.trac_rules.specs.Effect.{Effect, reads}
 abbrev pub unread : Tape → State → List ℕ
 unread tape s = drop s.position tape.bytes
 
--- the rest of the input, in which no meta character stands: more is needed where the input has not ended; where it has, the whole
--- rest is given (this project's profile), and where nothing is left, it is the end
+-- the rest of the input, in which no meta character stands: more is needed where the input has not ended; where it has,
+-- the whole rest is given (this project's profile), and where nothing is left, it is the end
 abbrev pub rest_read : List ℕ → Bool → Storage → Result Effect Refusal
 rest_read rest false storage = Err NeedInput
 rest_read [] true storage = Err Ended
 rest_read (b ∷ rest) true storage = Ok (reads (b ∷ rest) (length (b ∷ rest)) storage)
 
--- unread input up to the place of its first meta character, which is read and not given; without a place there is none in it
+-- unread input up to the place of its first meta character, which is read and not given; without a
+-- place there is none in it
 abbrev pub read_up_to : Option ℕ → List ℕ → Bool → Storage → Result Effect Refusal
 read_up_to (Some k) text ended storage = Ok (reads (take k text) (k + 1) storage)
 read_up_to None text ended storage = rest_read text ended storage

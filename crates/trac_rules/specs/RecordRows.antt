@@ -43,8 +43,8 @@ abbrev pub weights_of : List Record → ℕ
 weights_of [] = 0
 weights_of (r ∷ records) = weight r + weights_of records
 
--- the record of a call of an active function with an empty value that prints nothing, reads nothing and sets no meta character, while the
--- trace is off
+-- the record of a call of an active function with an empty value that prints nothing, reads nothing and sets no meta
+-- character, while the trace is off
 abbrev pub silent_call : List (List ℕ) → Undone → CallRecord
 silent_call arguments undone = record {
   kind = Active;
@@ -64,11 +64,13 @@ stored forms blocks = record { forms = finite.from_entries forms; blocks = block
 
 -- a call of these arguments destroys this where there are these forms and blocks
 abbrev pub Destroys : List (List ℕ) → Named → List Block → Undone → Type 0
-Destroys arguments forms blocks undone = undone_by (primitive_of (argument 0 arguments)) arguments (stored forms blocks) ≡ undone
+Destroys arguments forms blocks undone =
+    undone_by (primitive_of (argument 0 arguments)) arguments (stored forms blocks) ≡ undone
 
 -- where a call of these arguments destroyed this and left these forms and blocks, those were there before
 abbrev pub GivesBack : List (List ℕ) → Undone → Named → List Block → Named → List Block → Type 0
-GivesBack arguments undone forms blocks before blocks_before = storage_before arguments undone (stored forms blocks) ≡ Some (stored before blocks_before)
+GivesBack arguments undone forms blocks before blocks_before =
+    storage_before arguments undone (stored forms blocks) ≡ Some (stored before blocks_before)
 
 -- no call of these arguments that left these forms and blocks destroyed this
 abbrev pub GivesNothingBack : List (List ℕ) → Undone → Named → List Block → Type 0

@@ -1,8 +1,10 @@
--- Records: what a step destroys, and how the state before it is got back from that and the state after it. What a rule of scanning only
--- moves is not kept: a record says how much it was, counted from the end of the text to which it went. So it says of a call's value, of
--- what was printed and of what was read how much that was, counted from the ends that grew: no record has a place of the tape or of the
--- output.
-use Rattle.std.specs.Prelude.{ℕ, ◌+◌, ◌-◌, ◌==◌, ◌&&◌, nat_le, List, [], ◌∷◌, ◌++◌, length, take, drop, reverse, get_or, if◌then◌else◌, Bool, true, false, Option, None, Some, is_some, option_map, option_and_then, codes}
+-- Records: what a step destroys, and how the state before it is got back from that and the state after it. What a rule
+-- of scanning only moves is not kept: a record says how much it was, counted from the end of the text to which it went.
+-- So it says of a call's value, of what was printed and of what was read how much that was, counted from the ends that
+-- grew: no record has a place of the tape or of the output.
+use Rattle.std.specs.Prelude.{ℕ, ◌+◌, ◌-◌, ◌==◌, ◌&&◌, nat_le, List, [], ◌∷◌, ◌++◌, length, take, drop, reverse, get_or}
+use Rattle.std.specs.Prelude.{if◌then◌else◌, Bool, true, false, Option, None, Some, is_some, option_map}
+use Rattle.std.specs.Prelude.{option_and_then, codes}
 use Rattle.std.specs.Bool.{then_some}
 use Rattle.std.specs.List.{flat_map}
 use Rattle.std.specs.Option.{option_to_list, unwrap_or}
@@ -68,7 +70,8 @@ abbrev pub comma_recorded : List Frame → State → Record
 comma_recorded [] s = deletion s
 comma_recorded (f ∷ fs) s = Comma
 
--- by what is at the front; a `)` is deleted, outside any function, and inside one it is no rule that moves on but a call
+-- by what is at the front; a `)` is deleted, outside any function, and inside one it is no rule
+-- that moves on but a call
 abbrev pub recorded_at : Front → State → Record
 recorded_at front.Nothing s = Idle s.base s.frames
 recorded_at front.Opening s = Quoted (length (protected (drop 1 s.active)).inner) (is_some (match_of (drop 1 s.active)))
@@ -91,7 +94,8 @@ abbrev pub is_scanned : Kind → Bool → Bool
 is_scanned Active forced = true
 is_scanned Neutral forced = forced
 
--- what a call with this effect destroys; the effect's printed text begins with the line of the trace, where there is one
+-- what a call with this effect destroys; the effect's printed text begins with the line of the
+-- trace, where there is one
 abbrev pub call_recorded : Call → Effect → CallRecord
 call_recorded call e = record {
   kind = call.kind;
@@ -141,12 +145,13 @@ all_before_last n text = take (length text - n) text
 abbrev pub put_before : List ℕ → State → State
 put_before text s = record s { active = text ++ s.active }
 
--- the last n bytes of the current text go back before the active text; none where it has fewer. The first argument is the state's frames
+-- the last n bytes of the current text go back before the active text; none where it has fewer. The first
+-- argument is the state's frames
 abbrev pub moved_back_in : List Frame → ℕ → State → Option State
-moved_back_in [] n s = then_some (nat_le n (length s.base)) (put_before (last_of n s.base) (record s { base = all_before_last n s.base }))
-moved_back_in (f ∷ fs) n s =
-    then_some (nat_le n (length f.gathered))
-    (put_before (last_of n f.gathered) (record s { frames = record f { gathered = all_before_last n f.gathered } ∷ fs }))
+moved_back_in [] n s =
+    then_some (nat_le n (length s.base)) (put_before (last_of n s.base) (record s { base = all_before_last n s.base }))
+moved_back_in (f ∷ fs) n s = then_some (nat_le n (length f.gathered)) (put_before (last_of n f.gathered)
+    (record s { frames = record f { gathered = all_before_last n f.gathered } ∷ fs }))
 
 abbrev pub moved_back : ℕ → State → Option State
 moved_back n s = moved_back_in s.frames n s
@@ -160,8 +165,8 @@ frame_backward kind (text ∷ earlier) = Some (record { kind = kind; arguments =
 abbrev pub frame_of : Kind → List (List ℕ) → Option Frame
 frame_of kind arguments = frame_backward kind (reverse arguments)
 
--- the argument that was finished last is gathered again, and its `,` is back; none outside any function, where no argument is finished,
--- and where the one after it is not empty. The first argument is the state's frames
+-- the argument that was finished last is gathered again, and its `,` is back; none outside any function, where no
+-- argument is finished, and where the one after it is not empty. The first argument is the state's frames
 abbrev pub gathered_again_in : List Frame → State → Option State
 gathered_again_in [] s = None
 gathered_again_in (f ∷ fs) s =
@@ -169,12 +174,12 @@ gathered_again_in (f ∷ fs) s =
     then option_map (λ g. put_before (codes ",") (record s { frames = g ∷ fs })) (frame_of f.kind f.arguments)
     else None
 
--- the innermost function is gone, and its beginning is back; none outside any function, and where the function is more than begun. The
--- first argument is the state's frames
+-- the innermost function is gone, and its beginning is back; none outside any function, and where the function is more
+-- than begun. The first argument is the state's frames
 abbrev pub not_begun_in : List Frame → State → Option State
 not_begun_in [] s = None
-not_begun_in (f ∷ fs) s =
-    then_some (length f.arguments == 0 && length f.gathered == 0) (put_before (beginning_of f.kind) (record s { frames = fs }))
+not_begun_in (f ∷ fs) s = then_some (length f.arguments == 0 && length f.gathered == 0)
+    (put_before (beginning_of f.kind) (record s { frames = fs }))
 
 -- the end of a protected text: the match, where it had one
 abbrev pub ending_of : Bool → List ℕ
@@ -185,7 +190,8 @@ ending_of false = []
 abbrev pub is_idle : State → Bool
 is_idle s = bytes_eq s.active idle_program && length s.base == 0 && length s.frames == 0
 
--- ---- the state before a call, in three parts: each is got back from its part of the state after, whatever the others are
+-- ---- the state before a call, in three parts: each is got back from its part of the state after,
+-- whatever the others are
 
 -- texts and begun functions, the innermost first
 pub record Texts : Type 0 where
@@ -199,12 +205,13 @@ texts_in s = record { active = s.active; base = s.base; frames = s.frames }
 
 -- the last n bytes are off the current text; none where it has fewer. The first argument is the frames
 abbrev pub end_taken_in : List Frame → ℕ → Texts → Option Texts
-end_taken_in [] n texts = then_some (nat_le n (length texts.base)) (record texts { base = all_before_last n texts.base })
-end_taken_in (f ∷ fs) n texts =
-    then_some (nat_le n (length f.gathered)) (record texts { frames = record f { gathered = all_before_last n f.gathered } ∷ fs })
+end_taken_in [] n texts =
+    then_some (nat_le n (length texts.base)) (record texts { base = all_before_last n texts.base })
+end_taken_in (f ∷ fs) n texts = then_some (nat_le n (length f.gathered))
+    (record texts { frames = record f { gathered = all_before_last n f.gathered } ∷ fs })
 
--- a value of n bytes is taken off again, from where it went: from the front of the active text, where it was to be scanned, or else from
--- the end of the current text
+-- a value of n bytes is taken off again, from where it went: from the front of the active text, where it was to be
+-- scanned, or else from the end of the current text
 abbrev pub value_taken : Bool → ℕ → Texts → Option Texts
 value_taken true n texts = then_some (nat_le n (length texts.active)) (record texts { active = drop n texts.active })
 value_taken false n texts = end_taken_in texts.frames n texts
@@ -212,11 +219,13 @@ value_taken false n texts = end_taken_in texts.frames n texts
 -- a function with these arguments is begun again, and its `)` is back; none where there is no argument
 abbrev pub begun_again : Kind → List (List ℕ) → Texts → Option Texts
 begun_again kind arguments texts =
-    option_map (λ f. record texts { active = codes ")" ++ texts.active; frames = f ∷ texts.frames }) (frame_of kind arguments)
+    option_map (λ f. record texts { active = codes ")" ++ texts.active; frames = f ∷ texts.frames })
+    (frame_of kind arguments)
 
 -- texts and begun functions before a call, from those after it
 abbrev pub texts_before : CallRecord → Texts → Option Texts
-texts_before call texts = option_and_then (begun_again call.kind call.arguments) (value_taken call.scanned call.value texts)
+texts_before call texts =
+    option_and_then (begun_again call.kind call.arguments) (value_taken call.scanned call.value texts)
 
 -- all else but forms and blocks
 pub record Rest : Type 0 where
@@ -229,8 +238,8 @@ pub record Rest : Type 0 where
 abbrev pub rest_of : State → Rest
 rest_of s = record { meta = s.meta; trace = s.trace; position = s.position; output = s.output }
 
--- all else before a call, from that after it: the old meta character where one was set, and the old flag; what was read is to be read
--- again, and what was printed is off the output. None where less is read or printed
+-- all else before a call, from that after it: the old meta character where one was set, and the old flag; what was read
+-- is to be read again, and what was printed is off the output. None where less is read or printed
 abbrev pub rest_before : CallRecord → Rest → Option Rest
 rest_before call rest =
     then_some (nat_le call.read rest.position && nat_le call.printed (length rest.output))
@@ -262,18 +271,20 @@ put_together texts storage rest = None
 
 -- the state before a call
 abbrev pub restored_call : CallRecord → State → Option State
-restored_call call t =
-    put_together (texts_before call (texts_in t)) (storage_before call.arguments call.undone (storage_of t)) (rest_before call (rest_of t))
+restored_call call t = put_together (texts_before call (texts_in t))
+    (storage_before call.arguments call.undone (storage_of t)) (rest_before call (rest_of t))
 
 -- ---- the state before a step
 
--- the state before, from a record and the state after, before the limits are looked at; none where the state after does not show what
--- the record names. Of a protected text without a match it is not asked that the active text after it is empty
+-- the state before, from a record and the state after, before the limits are looked at; none where the
+-- state after does not show what the record names. Of a protected text without a match it is not asked that
+-- the active text after it is empty
 abbrev pub restored : Record → State → Option State
 restored Moved t = moved_back 1 t
 restored Comma t = gathered_again_in t.frames t
 restored Begun t = not_begun_in t.frames t
-restored (Quoted inner closed) t = option_map (put_before (codes "(")) (moved_back inner (put_before (ending_of closed) t))
+restored (Quoted inner closed) t =
+    option_map (put_before (codes "(")) (moved_back inner (put_before (ending_of closed) t))
 restored (Deleted b) t = Some (put_before (b ∷ []) t)
 restored (Idle base frames) t = then_some (is_idle t) (record t { active = []; base = base; frames = frames })
 restored (Called call) t = restored_call call t

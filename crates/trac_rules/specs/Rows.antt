@@ -1,4 +1,5 @@
--- Words for the worked rows: what a session is, and has replied, after a list of commands, and what a call does with forms.
+-- Words for the worked rows: what a session is, and has replied, after a list of commands, and what
+-- a call does with forms.
 use Rattle.std.specs.Prelude.{◌≡◌, ℕ, ◌==◌, List, [], ◌∷◌, ◌++◌, replicate, Ok, codes}
 use Rattle.std.specs.FinMap as map
 use Rattle.std.specs.List.{slice_split}
@@ -52,8 +53,8 @@ with_storage forms blocks s = record (with_forms forms s) { blocks = blocks }
 abbrev pub texts_of : List ℕ → List (List ℕ)
 texts_of text = slice_split (λ b. b == COMMA) text
 
--- what a call does in every state with the forms `before`, where numbers are of a width: its value, which is not forced, what it prints,
--- and the forms after it; nothing else changes
+-- what a call does in every state with the forms `before`, where numbers are of a width: its value, which is not
+-- forced, what it prints, and the forms after it; nothing else changes
 abbrev pub DoesIn : Width → List (List ℕ) → Named → List ℕ → List ℕ → Named → Type 0
 DoesIn width arguments before value printed after =
     (tape : Tape) → (s : State) →
@@ -78,9 +79,9 @@ Prints arguments forms text = Does arguments forms [] text forms
 
 -- a call gives this value, which is forced, and changes nothing, where numbers are of a width
 abbrev pub ForcesIn : Width → List (List ℕ) → Named → List ℕ → Type 0
-ForcesIn width arguments forms value =
-    (tape : Tape) → (s : State) →
-    effect_of (primitive_of (argument 0 arguments)) (over width tape) arguments (with_forms forms s) ≡ Ok (forces value (storage_of (with_forms forms s)))
+ForcesIn width arguments forms value = (tape : Tape) → (s : State) →
+    effect_of (primitive_of (argument 0 arguments)) (over width tape) arguments (with_forms forms s)
+    ≡ Ok (forces value (storage_of (with_forms forms s)))
 
 -- the same, whatever the width
 abbrev pub Forces : List (List ℕ) → Named → List ℕ → Type 0

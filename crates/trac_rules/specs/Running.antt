@@ -38,4 +38,5 @@ output_from (suc n) environment s = going_on (step environment (silent s)) (λ t
 
 -- a run over the whole input with numbers of a width, within a budget of steps
 abbrev pub output_of : Width → List ℕ → ℕ → Output
-output_of width input budget = output_from budget (record { tape = record { bytes = input; ended = true }; width = width }) initial
+output_of width input budget =
+    output_from budget (record { tape = record { bytes = input; ended = true }; width = width }) initial

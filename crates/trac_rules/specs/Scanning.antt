@@ -5,7 +5,8 @@ use Rattle.trac_rules.specs.declared.byte.TheConstants.{OPENING, CLOSING, COMMA,
 use Rattle.trac_rules.specs.declared.kind.Kind.{Kind}
 use Rattle.trac_rules.specs.declared.kind.Kind.TheVariants.{Active, Neutral}
 use Rattle.trac_rules.specs.declared.scan.Front.{Front}
-use Rattle.trac_rules.specs.declared.scan.Front.TheVariants.{Nothing, Opening, Layout, Comma, ActiveCall, NeutralCall, Sharp, Closing, Plain}
+use Rattle.trac_rules.specs.declared.scan.Front.TheVariants.{Nothing, Opening, Layout, Comma, ActiveCall, NeutralCall}
+use Rattle.trac_rules.specs.declared.scan.Front.TheVariants.{Sharp, Closing, Plain}
 use Rattle.trac_rules.specs.Bytes.{idle_program}
 use Rattle.trac_rules.specs.State.{Frame, State}
 use Rattle.trac_rules.specs.Matching.{Protected, protected}
@@ -75,13 +76,15 @@ abbrev pub comma_in : List Frame → State → State
 comma_in [] s = s
 comma_in (f ∷ fs) s = record s { frames = with_next_argument f ∷ fs }
 
--- after a deleted `)`, the first argument being the state's frames: the innermost function is ended, or, outside any function,
--- nothing more happens (this project's profile)
+-- after a deleted `)`, the first argument being the state's frames: the innermost function is ended, or, outside any
+-- function, nothing more happens (this project's profile)
 abbrev pub closing_in : List Frame → State → Scanned
 closing_in [] s = Moves s
-closing_in (f ∷ fs) s = Calls (record { kind = f.kind; arguments = f.arguments ++ f.gathered ∷ []; state = record s { frames = fs } })
+closing_in (f ∷ fs) s =
+    Calls (record { kind = f.kind; arguments = f.arguments ++ f.gathered ∷ []; state = record s { frames = fs } })
 
--- a `(` with what it protects: both it and its match are deleted, and what is between goes to the current text unchanged
+-- a `(` with what it protects: both it and its match are deleted, and what is between goes to the
+-- current text unchanged
 abbrev pub protect : Protected → State → State
 protect p s = gather p.inner (record s { active = p.rest })
 

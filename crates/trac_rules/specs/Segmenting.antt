@@ -1,5 +1,5 @@
--- Segmenting: how texts are cut out of a form, the leftmost occurrences that do not overlap each leaving a gap. That occurrences are
--- the leftmost, what empty texts do and that none crosses a gap is this project's profile.
+-- Segmenting: how texts are cut out of a form, the leftmost occurrences that do not overlap each leaving a gap. That
+-- occurrences are the leftmost, what empty texts do and that none crosses a gap is this project's profile.
 use Rattle.std.specs.Prelude.{ℕ, zero, suc, ◌+◌, List, [], ◌∷◌, ◌++◌, length, take, drop, Bool, Option, None, Some}
 use Rattle.std.specs.List.{flat_map}
 use Rattle.std.specs.Str.{bytes_eq}
@@ -21,15 +21,17 @@ leftmost text run = first_place (stands_at text run) (length run + 1)
 -- a run with the text of number k cut out at this place, if there is one, and what is after it as `cut` leaves it
 abbrev pub cut_at : Option ℕ → ℕ → List ℕ → List ℕ → (List ℕ → List Item) → List Item
 cut_at None k text run cut = as_items run
-cut_at (Some place) k text run cut = as_items (take place run) ++ Gap k (length text) ∷ cut (drop (place + length text) run)
+cut_at (Some place) k text run cut =
+    as_items (take place run) ++ Gap k (length text) ∷ cut (drop (place + length text) run)
 
 -- a run with the text of number k cut out at most n times, from the left
 abbrev pub cut_up_to : ℕ → ℕ → List ℕ → List ℕ → List Item
 cut_up_to zero k text run = as_items run
 cut_up_to (suc n) k text run = cut_at (leftmost text run) k text run (cut_up_to n k text)
 
--- a run with the leftmost occurrences of the text of number k that do not overlap cut out, of an empty text none: a run has no more
--- of them than bytes, so one round for each byte is enough, and the law `leftmost_is_cut_first` says the same without rounds
+-- a run with the leftmost occurrences of the text of number k that do not overlap cut out, of an empty text
+-- none: a run has no more of them than bytes, so one round for each byte is enough, and the law
+-- `leftmost_is_cut_first` says the same without rounds
 unfoldable pub part : ℕ → List ℕ → List ℕ → List Item
 part k [] run = as_items run
 part k (b ∷ text) run = cut_up_to (length run) k (b ∷ text) run
@@ -65,8 +67,8 @@ cut_out k text items = replaced (part k text) (runs_of items)
 
 -- ---- all texts
 
--- items with these texts cut out in turn, the first of them having the number k: each text is searched in what those before it left,
--- and an empty text uses up its number
+-- items with these texts cut out in turn, the first of them having the number k: each text is searched in what those
+-- before it left, and an empty text uses up its number
 abbrev pub segmented_from : ℕ → List (List ℕ) → List Item → List Item
 segmented_from k [] items = items
 segmented_from k (text ∷ texts) items = segmented_from (k + 1) texts (cut_out k text items)

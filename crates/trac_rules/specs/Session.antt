@@ -1,5 +1,7 @@
 -- The plain session: a limit, the width of numbers, a tape, and a list of states that is never empty.
-use Rattle.std.specs.Prelude.{◌≡◌, ◌⊎◌, ℕ, zero, suc, ◌+◌, ◌-◌, ◌<◌, ◌≤◌, nat_lt, nat_le, List, [], ◌∷◌, ◌++◌, length, map, take, drop, if◌then◌else◌, Bool, true, false, Option, None, Some, Result, Ok, Err, MatchOption, option_and_then}
+use Rattle.std.specs.Prelude.{◌≡◌, ◌⊎◌, ℕ, zero, suc, ◌+◌, ◌-◌, ◌<◌, ◌≤◌, nat_lt, nat_le, List, [], ◌∷◌, ◌++◌, length}
+use Rattle.std.specs.Prelude.{map, take, drop, if◌then◌else◌, Bool, true, false, Option, None, Some, Result, Ok, Err}
+use Rattle.std.specs.Prelude.{MatchOption, option_and_then}
 use Rattle.trac_rules.specs.declared.limit.TheConstants.{TAPE_LIMIT}
 use Rattle.trac_rules.specs.declared.refusal.Refusal.{Refusal}
 use Rattle.trac_rules.specs.declared.refusal.Refusal.TheVariants.{TooLong, JournalFull, AtStart, Closed}
@@ -21,7 +23,8 @@ pub record PlainSession : Type 0 where
   pub last : State
 
 abbrev pub new_session : ℕ → Width → PlainSession
-new_session limit width = record { limit = limit; width = width; tape = record { bytes = []; ended = false }; earlier = []; last = initial }
+new_session limit width =
+    record { limit = limit; width = width; tape = record { bytes = []; ended = false }; earlier = []; last = initial }
 
 pub data Command : Type 0 where
   Feed : List ℕ → Command
@@ -45,10 +48,8 @@ abbrev pub refused : Refusal → PlainSession → Answer
 refused refusal p = record { reply = Refused refusal; session = p }
 
 abbrev pub fed : List ℕ → PlainSession → Answer
-fed bytes p =
-    if p.tape.ended then refused Closed p else
-    if nat_le (length p.tape.bytes + length bytes) TAPE_LIMIT then done (record p { tape = record p.tape { bytes = p.tape.bytes ++ bytes } }) else
-    refused TooLong p
+fed bytes p = if p.tape.ended then refused Closed p else if nat_le (length p.tape.bytes + length bytes) TAPE_LIMIT
+    then done (record p { tape = record p.tape { bytes = p.tape.bytes ++ bytes } }) else refused TooLong p
 
 -- the next state is added to the list
 abbrev pub stepped_to : Result State Refusal → PlainSession → Answer
@@ -85,8 +86,9 @@ first_kept keep p = first_of p.last (take keep p.earlier)
 abbrev pub released_by : State → State → State
 released_by first s = released (length first.output) first.position s
 
--- the last state stays, and so many before it, or all where there are fewer. The output of the first of these is released: each of them
--- loses it from the front of its own output. The tape loses what the first one has read, and each position falls by as much
+-- the last state stays, and so many before it, or all where there are fewer. The output of the first of these is
+-- released: each of them loses it from the front of its own output. The tape loses what the first one has read, and
+-- each position falls by as much
 abbrev pub committed : ℕ → PlainSession → PlainSession
 committed keep p = record p {
   tape = record p.tape { bytes = drop (first_kept keep p).position p.tape.bytes };
@@ -97,7 +99,8 @@ committed keep p = record p {
 unfoldable pub answer : Command → PlainSession → Answer
 answer (Feed bytes) p = fed bytes p
 answer End p = done (record p { tape = record p.tape { ended = true } })
-answer Step p = if nat_lt (length p.earlier) p.limit then stepped_to (step (over p.width p.tape) p.last) p else refused JournalFull p
+answer Step p = if nat_lt (length p.earlier) p.limit then stepped_to (step (over p.width p.tape) p.last) p
+    else refused JournalFull p
 answer Back p = backed_to p.earlier p
 answer (Commit keep) p = done (committed keep p)
 
@@ -113,8 +116,8 @@ MayRunOut command reply = ⊥
 -- from the session `old` the command may be answered so, and leave the session `new`
 abbrev pub Answers : Command → PlainSession → Reply → PlainSession → Type 0
 Answers command old Done new = answer command old ≡ done new
-Answers command old (Refused refusal) new =
-    OrMemory (MayRunOut command (answer command old).reply × (new ≡ old)) (λ said. answer command old ≡ refused said new) refusal
+Answers command old (Refused refusal) new = OrMemory (MayRunOut command (answer command old).reply × (new ≡ old))
+    (λ said. answer command old ≡ refused said new) refusal
 
 -- ---- walks
 
@@ -143,10 +146,11 @@ no_goal s = false
 abbrev pub HasEnded : Goal → ℕ → ℕ → PlainSession → Type 0
 HasEnded goal n steps new = (steps ≡ n) ⊎ ((0 < steps) × (goal new.last ≡ true))
 
--- a walk from one session to another of at most n steps forward or back, to a goal: `steps` of them were accepted, the goal was not
--- met before the last of them, and where the walk is not over then, a refusal ended it. That a goal was not met after all its steps
--- is no refusal of the walk; who set the goal may say so
-pub record IsWalk (command : Command) (goal : Goal) (n : ℕ) (old : PlainSession) (steps : ℕ) (why : Option Refusal) (new : PlainSession) : Type 0 where
+-- a walk from one session to another of at most n steps forward or back, to a goal: `steps` of them were accepted, the
+-- goal was not met before the last of them, and where the walk is not over then, a refusal ended it. That a goal was
+-- not met after all its steps is no refusal of the walk; who set the goal may say so
+pub record IsWalk (command : Command) (goal : Goal) (n : ℕ) (old : PlainSession) (steps : ℕ) (why : Option Refusal)
+    (new : PlainSession) : Type 0 where
   pub within : steps ≤ n
   pub walked : repeated command steps old ≡ Some new
   pub unmet : (k : ℕ) → (p : PlainSession) → 0 < k → k < steps → repeated command k old ≡ Some p → goal p.last ≡ false
@@ -158,6 +162,7 @@ pub record IsWalk (command : Command) (goal : Goal) (n : ℕ) (old : PlainSessio
 -- these may be the replies to these commands, one after another, from the session `old` to the session `new`
 abbrev pub Run : List Command → List Reply → PlainSession → PlainSession → Type 0
 Run [] [] old new = new ≡ old
-Run (command ∷ commands) (reply ∷ replies) old new = (middle : PlainSession) × (Answers command old reply middle) × Run commands replies middle new
+Run (command ∷ commands) (reply ∷ replies) old new =
+    (middle : PlainSession) × (Answers command old reply middle) × Run commands replies middle new
 Run [] (reply ∷ replies) old new = ⊥
 Run (command ∷ commands) [] old new = ⊥

@@ -13,8 +13,9 @@ abbrev pub carried_out : Environment → Scanned → Result State Refusal
 carried_out environment (Moves t) = Ok t
 carried_out environment (Calls call) = seen_as (after_call call) (performed environment call)
 
--- the state after a step, or why it is refused: only the state after the step is judged. Its forms and blocks were judged
--- where the call put one: where the state before is proper, that is the same as judging all of the state after it
+-- the state after a step, or why it is refused: only the state after the step is judged. Its forms and
+-- blocks were judged where the call put one: where the state before is proper, that is the same as
+-- judging all of the state after it
 unfoldable pub step : Environment → State → Result State Refusal
 step environment s = limited texts_fit (carried_out environment (scan s))
 

@@ -1,7 +1,8 @@
--- What a call destroys of forms and blocks, and how they are got back from that and what stands there afterwards. Nothing is kept that
--- still stands there: of a form whose pointer moved the old pointer is kept, of one that was segmented which of its gaps are new, and of
--- forms that went into a block nothing.
-use Rattle.std.specs.Prelude.{ℕ, ◌-◌, ◌&&◌, not, nat_le, nat_lt, List, length, map, take, drop, slice_set, Bool, Option, None, Some, is_some, option_and_then}
+-- What a call destroys of forms and blocks, and how they are got back from that and what stands there afterwards.
+-- Nothing is kept that still stands there: of a form whose pointer moved the old pointer is kept, of one that was
+-- segmented which of its gaps are new, and of forms that went into a block nothing.
+use Rattle.std.specs.Prelude.{ℕ, ◌-◌, ◌&&◌, not, nat_le, nat_lt, List, length, map, take, drop, slice_set, Bool, Option}
+use Rattle.std.specs.Prelude.{None, Some, is_some, option_and_then}
 use Rattle.std.specs.Bool.{then_some}
 use Rattle.std.specs.FinMap as finite
 use Rattle.std.specs.List.{list_all}
@@ -32,7 +33,8 @@ pub data Undone : Type 0 where
   Swap : Option Form → Undone
   -- these forms were deleted
   Restore : Held → Undone
-  -- forms went into a new block, and its number became a form in place of this one, if there was one that did not go there
+  -- forms went into a new block, and its number became a form in place of this one, if there was
+  -- one that did not go there
   MoveOut : Option Form → Undone
   -- copies of the forms of the block of this number were put among the forms, in place of these
   Unbring : ℕ → Held → Undone
@@ -51,7 +53,8 @@ abbrev pub bytes_lost : List (List ℕ) → Option Form → Undone
 bytes_lost texts None = Nothing
 bytes_lost texts (Some form) = Join (cut_of texts form) (length form.before)
 
--- the replaced form, the deleted ones, or the old pointer, whether it moves or not; calling, listing and printing destroy nothing
+-- the replaced form, the deleted ones, or the old pointer, whether it moves or not; calling,
+-- listing and printing destroy nothing
 abbrev pub handling_lost : FormAction → List (List ℕ) → Storage → Undone
 handling_lost action.Define arguments storage = Swap (named_form arguments storage)
 handling_lost action.Delete arguments storage = Restore (moved_out (drop 1 arguments) storage.forms)
@@ -68,16 +71,19 @@ names_in held = map (λ entry. entry.0) held
 -- the forms that copies of those of the block of this number replace, where there is such a block
 abbrev pub replaced_lost : Option ℕ → Storage → Undone
 replaced_lost None storage = Nothing
-replaced_lost (Some number) storage = Unbring number (moved_out (names_in (forms_in (block_at number storage.blocks))) storage.forms)
+replaced_lost (Some number) storage =
+    Unbring number (moved_out (names_in (forms_in (block_at number storage.blocks))) storage.forms)
 
 -- what the block of this number holds, and the form that is its address, where there is such a block
 abbrev pub block_lost : Option ℕ → Option Form → List Block → Undone
 block_lost (Some number) (Some address) blocks = Unerase number (forms_in (block_at number blocks)) address
 block_lost number address blocks = Nothing
 
--- the form that the address of a new block replaces, unless it goes into that block itself; or what the block's copies replace; or the block
+-- the form that the address of a new block replaces, unless it goes into that block itself; or what the
+-- block's copies replace; or the block
 abbrev pub block_handling_lost : BlockAction → List (List ℕ) → Storage → Undone
-block_handling_lost StoreBlock arguments storage = MoveOut (finite.get (without (drop 2 arguments) storage.forms) (argument 1 arguments))
+block_handling_lost StoreBlock arguments storage =
+    MoveOut (finite.get (without (drop 2 arguments) storage.forms) (argument 1 arguments))
 block_handling_lost FetchBlock arguments storage = replaced_lost (named_block_number arguments storage) storage
 block_handling_lost EraseBlock arguments storage =
     block_lost (named_block_number arguments storage) (named_form arguments storage) storage.blocks
@@ -98,8 +104,8 @@ is_free name forms = not (is_some (finite.get forms name))
 abbrev pub are_free : List (List ℕ) → Forms → Bool
 are_free names forms = list_all (λ name. is_free name forms) names
 
--- whether no form stands that a call of this primitive with these arguments deletes: none at all, where it deletes all forms, or else none
--- under the names that it is given
+-- whether no form stands that a call of this primitive with these arguments deletes: none at all, where it deletes all
+-- forms, or else none under the names that it is given
 abbrev pub are_deleted : Primitive → List (List ℕ) → Forms → Bool
 are_deleted (Handle action.DeleteAll) arguments forms = nat_le (finite.len forms) 0
 are_deleted primitive arguments forms = are_free (drop 1 arguments) forms
@@ -117,8 +123,8 @@ swapped_back name (Some form) forms = finite.insert forms name form
 
 -- under a name the form of these items with its pointer at a place; none where it has fewer items
 abbrev pub pointed_back : List ℕ → ℕ → List Item → Storage → Option Storage
-pointed_back name place items storage =
-    then_some (nat_le place (length items)) (keeping (finite.insert storage.forms name (pointed_at place items)) storage)
+pointed_back name place items storage = then_some (nat_le place (length items))
+    (keeping (finite.insert storage.forms name (pointed_at place items)) storage)
 
 -- the pointer of a form, where there is one, at a place
 abbrev pub pointer_back : List ℕ → ℕ → Option Form → Storage → Option Storage
@@ -126,67 +132,66 @@ pointer_back name place found storage = option_and_then (λ form. pointed_back n
 
 -- the gaps of a cut filled with their texts in a form, where there is one, and its pointer at a place
 abbrev pub joined_back : List (List ℕ) → List CutGap → List ℕ → ℕ → Option Form → Storage → Option Storage
-joined_back texts cut name place found storage =
-    option_and_then (λ form. option_and_then (λ items. pointed_back name place items storage) (joined texts cut (all_items form))) found
+joined_back texts cut name place found storage = option_and_then
+    (λ form. option_and_then (λ items. pointed_back name place items storage) (joined texts cut (all_items form))) found
 
 -- the form under a name is gone again, or this one is there in its place; none where no form stands under that name
 abbrev pub undefined : List ℕ → Option Form → Storage → Option Storage
 undefined name old storage =
     then_some (is_some (finite.get storage.forms name)) (keeping (swapped_back name old storage.forms) storage)
 
--- these forms are put among the others, after a call of these arguments deleted them; none where a form stands that such a call deletes, or
--- one under the name of one of these forms
+-- these forms are put among the others, after a call of these arguments deleted them; none where a form stands that
+-- such a call deletes, or one under the name of one of these forms
 abbrev pub undeleted : List (List ℕ) → Held → Storage → Option Storage
-undeleted arguments held storage =
-    then_some (are_deleted (primitive_of (argument 0 arguments)) arguments storage.forms && are_free (names_in held) storage.forms)
-    (keeping (with_all held storage.forms) storage)
+undeleted arguments held storage = then_some (are_deleted (primitive_of (argument 0 arguments)) arguments storage.forms
+    && are_free (names_in held) storage.forms) (keeping (with_all held storage.forms) storage)
 
 -- the last block; where there are none it is as if erased
 abbrev pub last_block : List Block → Block
 last_block blocks = block_at (length blocks - 1) blocks
 
--- the last block is off the list, the form under a name is gone or an old one is there in its place, and then what the block held is put
--- among the forms, after these names were given for the block. None where the last block is erased, where no form stands under that name,
--- and where a form stands already under one of those names, or under the name of one that the block held
+-- the last block is off the list, the form under a name is gone or an old one is there in its place, and then what
+-- the block held is put among the forms, after these names were given for the block. None where the last block is
+-- erased, where no form stands under that name, and where a form stands already under one of those names, or under
+-- the name of one that the block held
 abbrev pub moved_out_again : List ℕ → List (List ℕ) → Option Form → Storage → Option Storage
-moved_out_again name names old storage =
-    let left : Forms = swapped_back name old storage.forms in
-    option_and_then
-    (λ held. then_some (is_some (finite.get storage.forms name) && (are_free names left && are_free (names_in held) left)) (record {
+moved_out_again name names old storage = let left : Forms = swapped_back name old storage.forms in
+    option_and_then (λ held. then_some
+    (is_some (finite.get storage.forms name) && (are_free names left && are_free (names_in held) left)) (record {
       forms = with_all held left;
       blocks = take (length storage.blocks - 1) storage.blocks;
     })) (last_block storage.blocks)
 
--- the forms of the names in the block of this number are gone, and these ones put among the forms, in whose places they were; none where
--- that block is erased, where no form stands under the name of one that it holds or of one of these, and where a form stands under such a
--- name that the block does not hold
+-- the forms of the names in the block of this number are gone, and these ones put among the forms, in whose places they
+-- were; none where that block is erased, where no form stands under the name of one that it holds or of one of these,
+-- and where a form stands under such a name that the block does not hold
 abbrev pub unbrought : ℕ → Held → Storage → Option Storage
-unbrought number replaced storage =
-    option_and_then
-    (λ held.
-    let left : Forms = without (names_in held) storage.forms in
-    then_some (are_there (names_in held) storage.forms && (are_there (names_in replaced) storage.forms && are_free (names_in replaced) left))
-    (keeping (with_all replaced left) storage)) (block_at number storage.blocks)
+unbrought number replaced storage = option_and_then (λ held. let left : Forms = without (names_in held) storage.forms in
+    then_some (are_there (names_in held) storage.forms && (are_there (names_in replaced) storage.forms
+    && are_free (names_in replaced) left)) (keeping (with_all replaced left) storage)) (block_at number storage.blocks)
 
 -- whether there was a block of this number and it is erased
 abbrev pub is_erased : ℕ → List Block → Bool
 is_erased number blocks = nat_lt number (length blocks) && not (is_some (block_at number blocks))
 
--- the erased block of this number holds these forms again, and this form is under a name; none where the block is not an erased one, and
--- where a form stands under that name
+-- the erased block of this number holds these forms again, and this form is under a name; none where the block is not
+-- an erased one, and where a form stands under that name
 abbrev pub unerased : ℕ → Held → List ℕ → Form → Storage → Option Storage
 unerased number held name address storage =
     then_some (is_erased number storage.blocks && is_free name storage.forms)
     (record { forms = finite.insert storage.forms name address; blocks = slice_set storage.blocks number (Some held) })
 
--- forms and blocks before a call of these arguments, from what it destroyed and those after it; none where these do not show what is named
+-- forms and blocks before a call of these arguments, from what it destroyed and those after it; none where
+-- these do not show what is named
 abbrev pub storage_before : List (List ℕ) → Undone → Storage → Option Storage
 storage_before arguments Nothing storage = Some storage
-storage_before arguments (Point place) storage = pointer_back (argument 1 arguments) place (named_form arguments storage) storage
+storage_before arguments (Point place) storage =
+    pointer_back (argument 1 arguments) place (named_form arguments storage) storage
 storage_before arguments (Join cut place) storage =
     joined_back (drop 2 arguments) cut (argument 1 arguments) place (named_form arguments storage) storage
 storage_before arguments (Swap old) storage = undefined (argument 1 arguments) old storage
 storage_before arguments (Restore held) storage = undeleted arguments held storage
 storage_before arguments (MoveOut old) storage = moved_out_again (argument 1 arguments) (drop 2 arguments) old storage
 storage_before arguments (Unbring number replaced) storage = unbrought number replaced storage
-storage_before arguments (Unerase number held address) storage = unerased number held (argument 1 arguments) address storage
+storage_before arguments (Unerase number held address) storage =
+    unerased number held (argument 1 arguments) address storage

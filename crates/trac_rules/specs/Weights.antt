@@ -1,5 +1,6 @@
--- What a record weighs, by what it keeps, and what a step may cost the journal, by the state before it: bytes of texts and names, items of
--- forms, and one for each gap that was made, comma, frame and name. Lengths, flags, old pointers and numbers of blocks are not weighed.
+-- What a record weighs, by what it keeps, and what a step may cost the journal, by the state before it: bytes of texts
+-- and names, items of forms, and one for each gap that was made, comma, frame and name. Lengths, flags, old pointers
+-- and numbers of blocks are not weighed.
 use Rattle.std.specs.Prelude.{ℕ, ◌+◌, ◌-◌, List, [], ◌∷◌, ◌++◌, length, take, drop, Option, None, Some}
 use Rattle.std.specs.FinMap as finite
 use Rattle.std.specs.Option.{option_map_or}
@@ -23,7 +24,8 @@ use Rattle.trac_rules.specs.Records.{CallRecord, Record, Moved, Comma, Begun, Qu
 use Rattle.trac_rules.specs.Scanning.{Scanned, Moves, Calls, front_of, scan}
 use Rattle.trac_rules.specs.Segmenting.{segmented}
 use Rattle.trac_rules.specs.State.{Forms, Frame, Held, State, Storage, storage_of}
-use Rattle.trac_rules.specs.Undone.{Undone, Nothing, Point, Join, Swap, Restore, MoveOut, Unbring, Unerase, names_in, undone_by}
+use Rattle.trac_rules.specs.Undone.{Undone, Nothing, Point, Join, Swap, Restore, MoveOut, Unbring, Unerase, names_in}
+use Rattle.trac_rules.specs.Undone.{undone_by}
 
 -- ---- what is kept
 
@@ -57,7 +59,8 @@ abbrev pub meta_weight : Option ℕ → ℕ
 meta_weight None = 0
 meta_weight (Some byte) = 1
 
--- what a call destroyed: its arguments with one for each comma between them, one for a meta character, and what is kept of forms and blocks
+-- what a call destroyed: its arguments with one for each comma between them, one for a meta character, and
+-- what is kept of forms and blocks
 abbrev pub call_weight : CallRecord → ℕ
 call_weight call =
     total_length call.arguments + (length call.arguments - 1) + meta_weight call.meta + undone_weight call.undone
@@ -79,8 +82,8 @@ abbrev pub meta_kept : Primitive → List (List ℕ) → ℕ
 meta_kept SetMeta arguments = length (take 1 (argument 1 arguments))
 meta_kept primitive arguments = 0
 
--- of a call of these arguments: their bytes, one for each comma between them, one for a meta character that is set, and what is destroyed
--- of forms and blocks
+-- of a call of these arguments: their bytes, one for each comma between them, one for a meta character that is set, and
+-- what is destroyed of forms and blocks
 abbrev pub kept_weight : List (List ℕ) → Storage → ℕ
 kept_weight arguments storage =
     total_length arguments + (length arguments - 1) + meta_kept (primitive_of (argument 0 arguments)) arguments
@@ -136,13 +139,15 @@ handled_loss DeleteAll arguments storage = all_loss (finite.entries storage.form
 handled_loss Segment arguments storage = option_map_or (gaps_made (drop 2 arguments)) (named_form arguments storage) 0
 handled_loss action arguments storage = 0
 
--- the replaced form, where it was not put aside; the forms that copies replace; the forms of the block, and the form that was its address
+-- the replaced form, where it was not put aside; the forms that copies replace; the forms of the block,
+-- and the form that was its address
 abbrev pub block_loss : BlockAction → List (List ℕ) → Storage → ℕ
 block_loss StoreBlock arguments storage = named_loss (argument 1 arguments) (without (drop 2 arguments) storage.forms)
 block_loss FetchBlock arguments storage =
-    option_map_or (λ number. taken_loss (names_in (forms_in (block_at number storage.blocks))) storage.forms) (named_block_number arguments storage) 0
-block_loss EraseBlock arguments storage =
-    option_map_or (λ number. all_loss (forms_in (block_at number storage.blocks)) + named_loss (argument 1 arguments) storage.forms)
+    option_map_or (λ number. taken_loss (names_in (forms_in (block_at number storage.blocks))) storage.forms)
+    (named_block_number arguments storage) 0
+block_loss EraseBlock arguments storage = option_map_or
+    (λ number. all_loss (forms_in (block_at number storage.blocks)) + named_loss (argument 1 arguments) storage.forms)
     (named_block_number arguments storage) 0
 
 -- one for a meta character that is set, or what is lost of forms and blocks
@@ -156,15 +161,16 @@ primitive_loss primitive arguments storage = 0
 
 -- a call of these arguments: their bytes, one for each comma between them, and what its primitive may lose
 abbrev pub call_loss : List (List ℕ) → Storage → ℕ
-call_loss arguments storage =
-    total_length arguments + (length arguments - 1) + primitive_loss (primitive_of (argument 0 arguments)) arguments storage
+call_loss arguments storage = total_length arguments + (length arguments - 1)
+    + primitive_loss (primitive_of (argument 0 arguments)) arguments storage
 
 -- of a `,`, the argument being the state's frames: outside any function the byte is lost
 abbrev pub comma_loss : List Frame → ℕ
 comma_loss [] = 1
 comma_loss (f ∷ fs) = 0
 
--- of a `)`, the first argument being the state's frames: outside any function the byte is lost, and else a function is performed
+-- of a `)`, the first argument being the state's frames: outside any function the byte is lost, and
+-- else a function is performed
 abbrev pub closing_loss : List Frame → State → ℕ
 closing_loss [] s = 1
 closing_loss (f ∷ fs) s = call_loss (f.arguments ++ f.gathered ∷ []) (storage_of s)

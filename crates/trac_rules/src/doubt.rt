@@ -1,7 +1,7 @@
 //! Doubts: what a step does that a person is unlikely to have meant.
 
-/// What the next step would do that a person is unlikely to have meant. It changes nothing of the language: a doubtful step
-/// is a step like any other (this project's profile). Arguments are counted from the name of a call, which is argument 0.
+/// What the next step would do that a person is unlikely to have meant. It changes nothing of the language: a doubtful
+/// step is a step like any other. Arguments are counted from the name of a call, which is argument 0.
 #[derive(Clone, Copy, Debug, PartialEq, Eq)]
 pub enum Doubt {
     /// It performs a name that is no primitive's, and no form's.

@@ -5,7 +5,9 @@ ghost use Rattle.trac_rules.specs.Doubts.{doubts, is_doubtful};
 ghost use Rattle.trac_rules.specs.Form.{defined, pointed_at};
 ghost use Rattle.trac_rules.specs.Rows.{state_after, texts_of};
 ghost use Rattle.trac_rules.specs.Session.{Feed, Step, new_session};
-ghost use Rattle.trac_rules.specs.declared.doubt.Doubt.TheVariants.{EndsNothing, FormUncalled, NoBlock, NoForm, NoNumber, NoPrimitive, NoResult, Nowhere, Unclosed, Unended, Unused};
+ghost use Rattle.trac_rules.specs.declared.doubt.Doubt.TheVariants.{EndsNothing, FormUncalled, NoBlock, NoForm};
+ghost use Rattle.trac_rules.specs.declared.doubt.Doubt.TheVariants.{NoNumber, NoPrimitive, NoResult, Nowhere, Unclosed};
+ghost use Rattle.trac_rules.specs.declared.doubt.Doubt.TheVariants.{Unended, Unused};
 ghost use Rattle.trac_rules.specs.declared.item.Item.TheVariants.{Byte, Gap};
 ghost use Rattle.trac_rules.specs.declared.kind.Kind.TheVariants.{Active, Neutral};
 ghost use Rattle.trac_rules.specs.declared.width.Width.TheVariants.{W128, W64};
@@ -14,7 +16,8 @@ ghost use Rattle.trac_rules.specs.declared.width.Width.TheVariants.{W128, W64};
 pub fn worked_name_doubts()
     // A name is no primitive's; where a form has it, that is said.
     ensures misspelt { Raises (texts_of (codes "pr,x")) [] [] (NoPrimitive ∷ []) }
-    ensures form_of_the_name { Raises (texts_of (codes "greeting")) ((codes "greeting", defined (codes "hi")) ∷ []) [] (FormUncalled ∷ []) }
+    ensures form_of_the_name { Raises (texts_of (codes "greeting")) ((codes "greeting", defined (codes "hi")) ∷ []) []
+        (FormUncalled ∷ []) }
     ensures form_of_a_primitive { Raises (texts_of (codes "ps,x")) ((codes "ps", defined (codes "hi")) ∷ []) [] [] }
     ensures null_name { Raises ([] ∷ []) [] [] (NoPrimitive ∷ []) }
     ensures other_case { Raises (texts_of (codes "Ps,x")) [] [] [] }
@@ -22,8 +25,10 @@ pub fn worked_name_doubts()
     // Of what is unknown nothing more is said.
     ensures unknown_alone { Raises (texts_of (codes "zz,a,b,c,d,e")) [] [] (NoPrimitive ∷ []) }
     // Argument 1 names no form.
-    ensures call { Raises (texts_of (codes "cl,greting")) ((codes "greeting", defined (codes "hi")) ∷ []) [] (NoForm ∷ []) }
-    ensures call_of_a_form { Raises (texts_of (codes "cl,greeting")) ((codes "greeting", defined (codes "hi")) ∷ []) [] [] }
+    ensures call { Raises (texts_of (codes "cl,greting")) ((codes "greeting", defined (codes "hi")) ∷ [])
+        [] (NoForm ∷ []) }
+    ensures call_of_a_form { Raises (texts_of (codes "cl,greeting"))
+        ((codes "greeting", defined (codes "hi")) ∷ []) [] [] }
     ensures segment { Raises (texts_of (codes "cs,F,z")) [] [] (NoForm ∷ []) }
     ensures char { Raises (texts_of (codes "cc,F,z")) [] [] (NoForm ∷ []) }
     ensures count { Raises (texts_of (codes "cn,F,1,z")) [] [] (NoForm ∷ []) }
@@ -39,9 +44,12 @@ pub fn worked_name_doubts()
     ensures list { Raises (texts_of (codes "ln,;")) [] [] [] }
     ensures store { Raises (texts_of (codes "sb,F,G")) [] [] [] }
     // The bytes of a form are no live block's number: no number at all, that of an erased one, or one past the last.
-    ensures no_number { Raises (texts_of (codes "fb,x")) ((codes "x", defined (codes "y")) ∷ []) (Some [] ∷ []) (NoBlock ∷ []) }
-    ensures erased { Raises (texts_of (codes "eb,x")) ((codes "x", defined (codes "0")) ∷ []) (None ∷ Some [] ∷ []) (NoBlock ∷ []) }
-    ensures past_the_last { Raises (texts_of (codes "fb,x")) ((codes "x", defined (codes "1")) ∷ []) (Some [] ∷ []) (NoBlock ∷ []) }
+    ensures no_number { Raises (texts_of (codes "fb,x")) ((codes "x", defined (codes "y")) ∷ []) (Some [] ∷ [])
+        (NoBlock ∷ []) }
+    ensures erased { Raises (texts_of (codes "eb,x")) ((codes "x", defined (codes "0")) ∷ []) (None ∷ Some [] ∷ [])
+        (NoBlock ∷ []) }
+    ensures past_the_last { Raises (texts_of (codes "fb,x")) ((codes "x", defined (codes "1")) ∷ []) (Some [] ∷ [])
+        (NoBlock ∷ []) }
     ensures live { Raises (texts_of (codes "fb,x")) ((codes "x", defined (codes "1")) ∷ []) (None ∷ Some [] ∷ []) [] }
     ensures erased_now { Raises (texts_of (codes "eb,x")) ((codes "x", defined (codes "0")) ∷ []) (Some [] ∷ []) [] }
 {}
@@ -75,19 +83,26 @@ pub fn worked_unused_doubts()
     ensures shift { Raises (texts_of (codes "bs,1,2,3")) [] [] (Unused 3 ∷ []) }
     ensures rotate { Raises (texts_of (codes "br,1,2,3")) [] [] (Unused 3 ∷ []) }
     ensures store { Raises (texts_of (codes "sb,a,b,c")) [] [] [] }
-    // Of a form `cl` uses a text for each number up to the highest one of its gaps; without the form that alone is said.
-    ensures call_no_gap { Raises (texts_of (codes "cl,F,x")) ((codes "F", defined (codes "ab")) ∷ []) [] (Unused 2 ∷ []) }
-    ensures call_two_gaps { Raises (texts_of (codes "cl,F,x,y")) ((codes "F", pointed_at 1 (Gap 2 1 ∷ Byte 97 ∷ Gap 1 1 ∷ [])) ∷ []) [] [] }
-    ensures call_three_texts { Raises (texts_of (codes "cl,F,x,y,z")) ((codes "F", pointed_at 1 (Gap 2 1 ∷ Byte 97 ∷ Gap 1 1 ∷ [])) ∷ []) [] (Unused 4 ∷ []) }
+    // Of a form `cl` uses a text for each number up to the highest one of its gaps; without the
+    // form that alone is said.
+    ensures call_no_gap { Raises (texts_of (codes "cl,F,x")) ((codes "F", defined (codes "ab")) ∷ []) []
+        (Unused 2 ∷ []) }
+    ensures call_two_gaps { Raises (texts_of (codes "cl,F,x,y"))
+        ((codes "F", pointed_at 1 (Gap 2 1 ∷ Byte 97 ∷ Gap 1 1 ∷ [])) ∷ []) [] [] }
+    ensures call_three_texts { Raises (texts_of (codes "cl,F,x,y,z"))
+        ((codes "F", pointed_at 1 (Gap 2 1 ∷ Byte 97 ∷ Gap 1 1 ∷ [])) ∷ []) [] (Unused 4 ∷ []) }
     ensures call_no_form { Raises (texts_of (codes "cl,F,x,y,z")) [] [] (NoForm ∷ []) }
     ensures segment { Raises (texts_of (codes "cs,F,z,y")) ((codes "F", defined (codes "ab")) ∷ []) [] (Unused 3 ∷ []) }
     ensures char { Raises (texts_of (codes "cc,F,z,y")) ((codes "F", defined (codes "ab")) ∷ []) [] (Unused 3 ∷ []) }
     ensures count { Raises (texts_of (codes "cn,F,1,z,y")) ((codes "F", defined (codes "ab")) ∷ []) [] (Unused 4 ∷ []) }
     ensures until { Raises (texts_of (codes "in,F,a,z,y")) ((codes "F", defined (codes "ab")) ∷ []) [] (Unused 4 ∷ []) }
     ensures restore { Raises (texts_of (codes "cr,F,x")) ((codes "F", defined (codes "ab")) ∷ []) [] (Unused 2 ∷ []) }
-    ensures print_form { Raises (texts_of (codes "pf,F,x")) ((codes "F", defined (codes "ab")) ∷ []) [] (Unused 2 ∷ []) }
-    ensures fetch { Raises (texts_of (codes "fb,F,x")) ((codes "F", defined (codes "0")) ∷ []) (Some [] ∷ []) (Unused 2 ∷ []) }
-    ensures erase { Raises (texts_of (codes "eb,F,x")) ((codes "F", defined (codes "0")) ∷ []) (Some [] ∷ []) (Unused 2 ∷ []) }
+    ensures print_form { Raises (texts_of (codes "pf,F,x")) ((codes "F", defined (codes "ab")) ∷ []) []
+        (Unused 2 ∷ []) }
+    ensures fetch { Raises (texts_of (codes "fb,F,x")) ((codes "F", defined (codes "0")) ∷ []) (Some [] ∷ [])
+        (Unused 2 ∷ []) }
+    ensures erase { Raises (texts_of (codes "eb,F,x")) ((codes "F", defined (codes "0")) ∷ []) (Some [] ∷ [])
+        (Unused 2 ∷ []) }
 {}
 
 /// The doubts of calls: of numbers, of results, and of texts that `ss` does not find.
@@ -113,23 +128,30 @@ pub fn worked_text_doubts()
     ensures too_great { Raises (texts_of (codes "ad,9223372036854775807,1")) [] [] (NoResult ∷ []) }
     ensures great { Raises (texts_of (codes "su,9223372036854775807,1")) [] [] [] }
     ensures operand { Raises (texts_of (codes "ml,9223372036854775808,0")) [] [] (NoResult ∷ []) }
-    // A text stands nowhere in the form, as it is before the cut: no occurrence crosses a gap, and the pointer bounds none.
-    ensures nowhere { Raises (texts_of (codes "ss,F,b,x,y,a")) ((codes "F", defined (codes "abc")) ∷ []) [] (Nowhere 3 ∷ Nowhere 4 ∷ []) }
+    // A text stands nowhere in the form, as it is before the cut: no occurrence crosses a gap, and
+    // the pointer bounds none.
+    ensures nowhere { Raises (texts_of (codes "ss,F,b,x,y,a")) ((codes "F", defined (codes "abc")) ∷ []) []
+        (Nowhere 3 ∷ Nowhere 4 ∷ []) }
     ensures null_text { Raises (texts_of (codes "ss,F,,a")) ((codes "F", defined (codes "abc")) ∷ []) [] [] }
     ensures no_text { Raises (texts_of (codes "ss,F")) ((codes "F", defined (codes "abc")) ∷ []) [] [] }
     ensures cut_before_it { Raises (texts_of (codes "ss,F,b,bc")) ((codes "F", defined (codes "abc")) ∷ []) [] [] }
-    ensures across_the_pointer { Raises (texts_of (codes "ss,F,bc")) ((codes "F", pointed_at 2 (Byte 97 ∷ Byte 98 ∷ Byte 99 ∷ [])) ∷ []) [] [] }
-    ensures across_a_gap { Raises (texts_of (codes "ss,F,ab")) ((codes "F", pointed_at 0 (Byte 97 ∷ Gap 1 1 ∷ Byte 98 ∷ [])) ∷ []) [] (Nowhere 2 ∷ []) }
-    ensures after_a_gap { Raises (texts_of (codes "ss,F,b")) ((codes "F", pointed_at 3 (Byte 97 ∷ Gap 1 1 ∷ Byte 98 ∷ [])) ∷ []) [] [] }
+    ensures across_the_pointer { Raises (texts_of (codes "ss,F,bc"))
+        ((codes "F", pointed_at 2 (Byte 97 ∷ Byte 98 ∷ Byte 99 ∷ [])) ∷ []) [] [] }
+    ensures across_a_gap { Raises (texts_of (codes "ss,F,ab"))
+        ((codes "F", pointed_at 0 (Byte 97 ∷ Gap 1 1 ∷ Byte 98 ∷ [])) ∷ []) [] (Nowhere 2 ∷ []) }
+    ensures after_a_gap { Raises (texts_of (codes "ss,F,b"))
+        ((codes "F", pointed_at 3 (Byte 97 ∷ Gap 1 1 ∷ Byte 98 ∷ [])) ∷ []) [] [] }
     // What is said of one call stands in the order of the table.
     ensures in_order { Raises (texts_of (codes "cn,F,x,z,y")) [] [] (NoForm ∷ Unused 4 ∷ NoNumber 2 ∷ []) }
-    ensures block_first { Raises (texts_of (codes "fb,x,y")) ((codes "x", defined (codes "y")) ∷ []) [] (NoBlock ∷ Unused 2 ∷ []) }
+    ensures block_first { Raises (texts_of (codes "fb,x,y")) ((codes "x", defined (codes "y")) ∷ []) []
+        (NoBlock ∷ Unused 2 ∷ []) }
     ensures number_first { Raises (texts_of (codes "dv,x,0")) [] [] (NoNumber 1 ∷ NoResult ∷ []) }
 {}
 
 /// The doubts of scanning, and those of whole texts, each at its step and at no other one.
 pub fn worked_scanning_doubts()
-    ensures unended { doubts W64 (standing [] (record { kind = Active; arguments = []; gathered = codes "ps" } ∷ record { kind = Neutral; arguments = codes "ps" ∷ []; gathered = [] } ∷ [])) ≡ Unended 2 ∷ [] }
+    ensures unended { doubts W64 (standing [] (record { kind = Active; arguments = []; gathered = codes "ps" }
+        ∷ record { kind = Neutral; arguments = codes "ps" ∷ []; gathered = [] } ∷ [])) ≡ Unended 2 ∷ [] }
     ensures all_ended { doubts W64 (standing [] []) ≡ [] }
     ensures unclosed { doubts W64 (standing (codes "(a(b)") []) ≡ Unclosed ∷ [] }
     ensures closed { doubts W64 (standing (codes "(a(b))") []) ≡ [] }
@@ -137,14 +159,22 @@ pub fn worked_scanning_doubts()
     ensures plain { doubts W64 (standing (codes "a)") []) ≡ [] }
     ensures begins { doubts W64 (standing (codes "#(zz)") []) ≡ [] }
     // The comma of a text that is not protected: its `ps` is performed by step 21.
-    ensures before_the_comma { doubts W128 (state_after (Feed (codes "Hello, world'") ∷ replicate 19 Step) (new_session 64 W128)) ≡ [] }
-    ensures comma { doubts W128 (state_after (Feed (codes "Hello, world'") ∷ replicate 20 Step) (new_session 64 W128)) ≡ Unused 2 ∷ [] }
-    ensures after_the_comma { doubts W128 (state_after (Feed (codes "Hello, world'") ∷ replicate 21 Step) (new_session 64 W128)) ≡ [] }
-    ensures met { is_doubtful W128 (state_after (Feed (codes "Hello, world'") ∷ replicate 20 Step) (new_session 64 W128)) ≡ true }
-    ensures not_met { is_doubtful W128 (state_after (Feed (codes "Hello, world'") ∷ replicate 21 Step) (new_session 64 W128)) ≡ false }
+    ensures before_the_comma { doubts W128
+        (state_after (Feed (codes "Hello, world'") ∷ replicate 19 Step) (new_session 64 W128)) ≡ [] }
+    ensures comma { doubts W128 (state_after (Feed (codes "Hello, world'") ∷ replicate 20 Step) (new_session 64 W128))
+        ≡ Unused 2 ∷ [] }
+    ensures after_the_comma { doubts W128
+        (state_after (Feed (codes "Hello, world'") ∷ replicate 21 Step) (new_session 64 W128)) ≡ [] }
+    ensures met { is_doubtful W128
+        (state_after (Feed (codes "Hello, world'") ∷ replicate 20 Step) (new_session 64 W128)) ≡ true }
+    ensures not_met { is_doubtful W128
+        (state_after (Feed (codes "Hello, world'") ∷ replicate 21 Step) (new_session 64 W128)) ≡ false }
     // A parenthesis that is missing: the `)` of the idle program ends the call, and its own `ps` is never ended.
-    ensures missing { doubts W128 (state_after (Feed (codes "#(ps,a'") ∷ replicate 14 Step) (new_session 64 W128)) ≡ Unended 1 ∷ [] }
-    ensures printed_before { doubts W128 (state_after (Feed (codes "#(ps,a'") ∷ replicate 13 Step) (new_session 64 W128)) ≡ [] }
+    ensures missing { doubts W128 (state_after (Feed (codes "#(ps,a'") ∷ replicate 14 Step) (new_session 64 W128))
+        ≡ Unended 1 ∷ [] }
+    ensures printed_before { doubts W128
+        (state_after (Feed (codes "#(ps,a'") ∷ replicate 13 Step) (new_session 64 W128)) ≡ [] }
     // A parenthesis too many ends the `ps` of the idle program, and that one's own ends nothing.
-    ensures too_many { doubts W128 (state_after (Feed (codes "a)'") ∷ replicate 10 Step) (new_session 64 W128)) ≡ EndsNothing ∷ [] }
+    ensures too_many { doubts W128 (state_after (Feed (codes "a)'") ∷ replicate 10 Step) (new_session 64 W128))
+        ≡ EndsNothing ∷ [] }
 {}

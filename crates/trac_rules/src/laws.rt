@@ -30,26 +30,28 @@ pub fn match_is_balanced()
         protected text ≡ record { inner = text; rest = [] } }
 {}
 
-/// No step takes a block off the list, or changes one but to erase it. So an erased block keeps its number, which is not
-/// used again.
+/// No step takes a block off the list, or changes one but to erase it. So an erased block keeps its
+/// number, which is not used again.
 pub fn blocks_stay()
     ensures { (environment : Environment) (s t : State) → step environment s ≡ Ok t → AreKept s.blocks t.blocks }
 {}
 
-/// Judging forms and blocks where they are put is the same as judging the whole state after the step. The state at the start
-/// is proper, and each step leads from a proper state to a proper one: so a step whose new state would pass any limit is
-/// refused. A form that may be put among proper forms, its gaps wide, leaves them proper; and a form that leaves them proper
-/// may be put. So too a new block fits where it leaves a proper storage, and a block's forms may be put among the others
-/// where they leave proper forms.
+/// Judging forms and blocks where they are put is the same as judging the whole state after the step. The state at the
+/// start is proper, and each step leads from a proper state to a proper one: so a step whose new state would pass any
+/// limit is refused. A form that may be put among proper forms, its gaps wide, leaves them proper; and a form that
+/// leaves them proper may be put. So too a new block fits where it leaves a proper storage, and a block's forms may be
+/// put among the others where they leave proper forms.
 pub fn states_stay_proper()
     ensures start { IsProper initial }
-    ensures each_step { (environment : Environment) (s t : State) → IsProper s → step environment s ≡ Ok t → IsProper t }
-    ensures sufficient { (name : List ℕ) (form : Form) (forms : Forms) → AreProperForms forms → All IsWide (all_items form) →
+    ensures each_step { (environment : Environment) (s t : State) → IsProper s →
+        step environment s ≡ Ok t → IsProper t }
+    ensures sufficient { (name : List ℕ) (form : Form) (forms : Forms) →
+        AreProperForms forms → All IsWide (all_items form) →
         may_be_put name form forms ≡ true → AreProperForms (finite.insert forms name form) }
     ensures necessary { (name : List ℕ) (form : Form) (forms : Forms) → AreProperForms (finite.insert forms name form) →
         may_be_put name form forms ≡ true }
-    ensures necessary_of_a_block { (names : List (List ℕ)) (storage : Storage) → IsProperStorage (put_aside names storage) →
-        block_fits (moved_out names storage.forms) storage.blocks ≡ true }
+    ensures necessary_of_a_block { (names : List (List ℕ)) (storage : Storage) →
+        IsProperStorage (put_aside names storage) → block_fits (moved_out names storage.forms) storage.blocks ≡ true }
     ensures necessary_of_its_forms { (number : ℕ) (storage : Storage) → AreProperForms (fetched number storage) →
         fetching number storage ≡ Ok (leaves (keeping (fetched number storage) storage)) }
 {}
@@ -63,8 +65,10 @@ pub fn one_block_is_addressed()
 
 /// What a block holds when it is made: each form as it stood under its name, and no name twice.
 pub fn moved_forms_stand_as_before()
-    ensures forms { (names : List (List ℕ)) (forms : Forms) → All (λ entry. finite.get forms entry.0 ≡ Some entry.1) (moved_out names forms) }
-    ensures distinct { (names : List (List ℕ)) (forms : Forms) → IsDistinct bytes_eq (map (λ entry. entry.0) (moved_out names forms)) }
+    ensures forms { (names : List (List ℕ)) (forms : Forms) →
+        All (λ entry. finite.get forms entry.0 ≡ Some entry.1) (moved_out names forms) }
+    ensures distinct { (names : List (List ℕ)) (forms : Forms) →
+        IsDistinct bytes_eq (map (λ entry. entry.0) (moved_out names forms)) }
 {}
 
 /// Whether a state is proper is decided by `is_proper`.
@@ -73,8 +77,8 @@ pub fn properness_is_decided()
     ensures necessary { (s : State) → IsProper s → is_proper s ≡ true }
 {}
 
-/// The limits are those of this project's profile: bytes of texts, marks, bytes of a form, of a name and of the output, live
-/// forms, blocks, bytes of a tape, and records of a journal.
+/// The limits are those of this project's profile: bytes of texts, marks, bytes of a form, of a name and of the output,
+/// live forms, blocks, bytes of a tape, and records of a journal.
 pub fn limits_are_as_stated()
     ensures texts { TEXT_LIMIT ≡ 16777216 }
     ensures marks { MARK_LIMIT ≡ 1048576 }

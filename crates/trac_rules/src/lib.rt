@@ -1,5 +1,6 @@
-//! The language: what a TRAC T-64 processor does, as definitions (the folder `specs/`), the small types
-//! that both the definitions and the programs name, and the laws of the definitions as contracts.
+//! The language: what a TRAC T-64 processor does, as definitions (the folder `specs/`), the small types that both the
+//! definitions and the programs name, and the laws of the definitions as contracts. Limits, refusals and what else T-64
+//! does not name are this project's profile.
 #![tactic(auto)]
 
 pub mod blocks;

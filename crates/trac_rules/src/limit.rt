@@ -1,4 +1,4 @@
-//! The limits on what a processor holds (this project's profile).
+//! The limits on what a processor holds.
 
 /// The active text, the base text and all arguments hold at most so many bytes together.
 pub const TEXT_LIMIT: usize = 16_777_216;
@@ -6,7 +6,8 @@ pub const TEXT_LIMIT: usize = 16_777_216;
 /// There are at most so many marks: one for each begun function, and one for each of its finished arguments.
 pub const MARK_LIMIT: usize = 1_048_576;
 
-/// A form has at most so many items, and stands for at most so many bytes: its own, and those of the widths of its gaps.
+/// A form has at most so many items, and stands for at most so many bytes: its own, and those of
+/// the widths of its gaps.
 pub const FORM_LIMIT: usize = 16_777_216;
 
 /// The name of a form has at most so many bytes.

@@ -2,28 +2,32 @@
 //! computed from the definitions.
 ghost use Rattle.std.specs.Prelude.{◌≡◌, ◌≤◌, ◌++◌, [], List, ℕ, length, codes, true, false, None, Some, ℤ, pos, neg_ℤ};
 ghost use Rattle.trac_rules.specs.Computing.{result_of};
-ghost use Rattle.trac_rules.specs.Number.{IsCutQuotient, IsNumeralOrNull, calculated, difference_of, fits, is_greater, is_numeral, number_of, number_text, numeral_of, prefix_of, product_of, quotient_of, sum_of};
+ghost use Rattle.trac_rules.specs.Number.{IsCutQuotient, IsNumeralOrNull, calculated, difference_of, fits, is_greater};
+ghost use Rattle.trac_rules.specs.Number.{is_numeral, number_of, number_text, numeral_of, prefix_of, product_of};
+ghost use Rattle.trac_rules.specs.Number.{quotient_of, sum_of};
 ghost use Rattle.trac_rules.specs.declared.primitive.Operation.{Operation};
 ghost use Rattle.trac_rules.specs.declared.width.Width.{Width};
 ghost use Rattle.trac_rules.specs.declared.width.Width.TheVariants.{W64, W128};
 
-/// The numeral of a text, which is found as the first tail of the form, is its longest one: a tail of the form or empty,
-/// with the prefix before it, and no tail of the form is longer.
+/// The numeral of a text, which is found as the first tail of the form, is its longest one: a tail of the form or
+/// empty, with the prefix before it, and no tail of the form is longer.
 pub fn numeral_is_longest()
     ensures parts { (text : List ℕ) → prefix_of text ++ numeral_of text ≡ text }
     ensures form { (text : List ℕ) → IsNumeralOrNull (numeral_of text) }
-    ensures longest { (text front tail : List ℕ) → text ≡ front ++ tail → is_numeral tail ≡ true → length tail ≤ length (numeral_of text) }
+    ensures longest { (text front tail : List ℕ) → text ≡ front ++ tail → is_numeral tail ≡ true →
+        length tail ≤ length (numeral_of text) }
 {}
 
-/// A number that fits 64 bits fits 128 bits too. So a numeral that has a number of 64 bits has the same one of 128 bits, and
-/// two numbers that have a result of 64 bits have the same one of 128 bits.
+/// A number that fits 64 bits fits 128 bits too. So a numeral that has a number of 64 bits has the same one of 128
+/// bits, and two numbers that have a result of 64 bits have the same one of 128 bits.
 pub fn narrow_numbers_stay()
     ensures fitting { (n : ℤ) → fits W64 n ≡ true → fits W128 n ≡ true }
     ensures read { (numeral : List ℕ) (n : ℤ) → number_of W64 numeral ≡ Some n → number_of W128 numeral ≡ Some n }
-    ensures calculated { (operation : Operation) (a b n : ℤ) → result_of operation W64 a b ≡ Some n → result_of operation W128 a b ≡ Some n }
+    ensures calculated { (operation : Operation) (a b n : ℤ) → result_of operation W64 a b ≡ Some n →
+        result_of operation W128 a b ≡ Some n }
 {}
 
-/// A quotient is cut toward zero (this project's profile).
+/// A quotient is cut toward zero.
 pub fn quotient_is_cut()
     ensures { (width : Width) (a b q : ℤ) → quotient_of width a b ≡ Some q → IsCutQuotient a b q }
 {}
@@ -65,15 +69,16 @@ pub fn worked_numerals()
     ensures after_a_sign { calculated sum_of W128 (codes "--4") (codes "1") ≡ Some (codes "--3") }
     ensures after_all { calculated sum_of W128 (codes "5-") (codes "3") ≡ Some (codes "5-3") }
     ensures times_zero { calculated product_of W128 (codes "x") (codes "3") ≡ Some (codes "x0") }
-    // A quotient is cut toward zero (this project's profile).
+    // A quotient is cut toward zero.
     ensures cut { calculated quotient_of W128 (codes "7") (codes "-2") ≡ Some (codes "-3") }
     ensures cut_negative { calculated quotient_of W128 (codes "-7") (codes "2") ≡ Some (codes "-3") }
-    // Whole numbers are compared, of any length (this project's profile).
+    // Whole numbers are compared, of any length.
     ensures minus_zero_first { is_greater (codes "-0") (codes "0") ≡ false }
     ensures minus_zero_second { is_greater (codes "0") (codes "-0") ≡ false }
     ensures longer { is_greater (numeral_of (codes "a10")) (numeral_of (codes "b9")) ≡ true }
     ensures leading_zeros { is_greater (codes "0009") (codes "10") ≡ false }
-    ensures past_the_range { is_greater (codes "340282366920938463463374607431768211457") (codes "340282366920938463463374607431768211456") ≡ true }
+    ensures past_the_range { is_greater (codes "340282366920938463463374607431768211457")
+        (codes "340282366920938463463374607431768211456") ≡ true }
 {}
 
 /// Where numbers of each width end.
@@ -83,23 +88,33 @@ pub fn worked_widths()
     ensures narrow_below_least { number_of W64 (codes "-9223372036854775809") ≡ None }
     ensures narrow_greatest { number_of W64 (codes "9223372036854775807") ≡ Some (pos 9223372036854775807) }
     ensures narrow_above_greatest { number_of W64 (codes "9223372036854775808") ≡ None }
-    ensures narrow_zeros { number_of W64 (codes "-000000000000000000000000000000000000000009223372036854775808") ≡ Some (neg_ℤ (pos 9223372036854775808)) }
+    ensures narrow_zeros { number_of W64 (codes "-000000000000000000000000000000000000000009223372036854775808")
+        ≡ Some (neg_ℤ (pos 9223372036854775808)) }
     // Results at the ends of 64 bits, and one past them.
-    ensures narrow_sum { calculated sum_of W64 (codes "9223372036854775806") (codes "1") ≡ Some (codes "9223372036854775807") }
+    ensures narrow_sum { calculated sum_of W64 (codes "9223372036854775806") (codes "1")
+        ≡ Some (codes "9223372036854775807") }
     ensures narrow_sum_past { calculated sum_of W64 (codes "9223372036854775807") (codes "1") ≡ None }
-    ensures narrow_sum_at_least { calculated sum_of W64 (codes "-9223372036854775807") (codes "-1") ≡ Some (codes "-9223372036854775808") }
+    ensures narrow_sum_at_least { calculated sum_of W64 (codes "-9223372036854775807") (codes "-1")
+        ≡ Some (codes "-9223372036854775808") }
     ensures narrow_sum_below { calculated sum_of W64 (codes "-9223372036854775808") (codes "-1") ≡ None }
-    ensures narrow_difference { calculated difference_of W64 (codes "9223372036854775806") (codes "-1") ≡ Some (codes "9223372036854775807") }
+    ensures narrow_difference { calculated difference_of W64 (codes "9223372036854775806") (codes "-1")
+        ≡ Some (codes "9223372036854775807") }
     ensures narrow_difference_past { calculated difference_of W64 (codes "9223372036854775807") (codes "-1") ≡ None }
-    ensures narrow_difference_at_least { calculated difference_of W64 (codes "-9223372036854775807") (codes "1") ≡ Some (codes "-9223372036854775808") }
+    ensures narrow_difference_at_least { calculated difference_of W64 (codes "-9223372036854775807") (codes "1")
+        ≡ Some (codes "-9223372036854775808") }
     ensures narrow_difference_below { calculated difference_of W64 (codes "-9223372036854775808") (codes "1") ≡ None }
-    ensures narrow_product { calculated product_of W64 (codes "9223372036854775807") (codes "1") ≡ Some (codes "9223372036854775807") }
+    ensures narrow_product { calculated product_of W64 (codes "9223372036854775807") (codes "1")
+        ≡ Some (codes "9223372036854775807") }
     ensures narrow_product_past { calculated product_of W64 (codes "4294967296") (codes "2147483648") ≡ None }
-    ensures narrow_product_at_least { calculated product_of W64 (codes "-4294967296") (codes "2147483648") ≡ Some (codes "-9223372036854775808") }
+    ensures narrow_product_at_least { calculated product_of W64 (codes "-4294967296") (codes "2147483648")
+        ≡ Some (codes "-9223372036854775808") }
     ensures narrow_product_below { calculated product_of W64 (codes "-9223372036854775808") (codes "2") ≡ None }
-    ensures narrow_least_turned_by_a_product { calculated product_of W64 (codes "-9223372036854775808") (codes "-1") ≡ None }
-    ensures narrow_quotient { calculated quotient_of W64 (codes "9223372036854775807") (codes "-1") ≡ Some (codes "-9223372036854775807") }
-    ensures narrow_quotient_at_least { calculated quotient_of W64 (codes "-9223372036854775808") (codes "1") ≡ Some (codes "-9223372036854775808") }
+    ensures narrow_least_turned_by_a_product { calculated product_of W64 (codes "-9223372036854775808") (codes "-1")
+        ≡ None }
+    ensures narrow_quotient { calculated quotient_of W64 (codes "9223372036854775807") (codes "-1")
+        ≡ Some (codes "-9223372036854775807") }
+    ensures narrow_quotient_at_least { calculated quotient_of W64 (codes "-9223372036854775808") (codes "1")
+        ≡ Some (codes "-9223372036854775808") }
     ensures narrow_least_turned { calculated quotient_of W64 (codes "-9223372036854775808") (codes "-1") ≡ None }
     ensures narrow_by_zero { calculated quotient_of W64 (codes "1") (codes "0") ≡ None }
     // An operand that does not fit has no result, whatever would be made of it.
@@ -108,36 +123,63 @@ pub fn worked_widths()
     ensures narrow_operand_times_zero { calculated product_of W64 (codes "9223372036854775808") (codes "0") ≡ None }
     ensures narrow_divisor_past { calculated quotient_of W64 (codes "0") (codes "9223372036854775808") ≡ None }
     // The ends of the range of 128 bits, and what lies one past them; leading zeros do not count.
-    ensures wide_least { number_of W128 (codes "-170141183460469231731687303715884105728") ≡ Some (neg_ℤ (pos 170141183460469231731687303715884105728)) }
+    ensures wide_least { number_of W128 (codes "-170141183460469231731687303715884105728")
+        ≡ Some (neg_ℤ (pos 170141183460469231731687303715884105728)) }
     ensures wide_below_least { number_of W128 (codes "-170141183460469231731687303715884105729") ≡ None }
-    ensures wide_greatest { number_of W128 (codes "170141183460469231731687303715884105727") ≡ Some (pos 170141183460469231731687303715884105727) }
+    ensures wide_greatest { number_of W128 (codes "170141183460469231731687303715884105727")
+        ≡ Some (pos 170141183460469231731687303715884105727) }
     ensures wide_above_greatest { number_of W128 (codes "170141183460469231731687303715884105728") ≡ None }
-    ensures wide_zeros { number_of W128 (codes "-00000000000000000000000000000000000000000170141183460469231731687303715884105728") ≡ Some (neg_ℤ (pos 170141183460469231731687303715884105728)) }
+    ensures wide_zeros { number_of W128
+        (codes "-00000000000000000000000000000000000000000170141183460469231731687303715884105728")
+        ≡ Some (neg_ℤ (pos 170141183460469231731687303715884105728)) }
     // Results at the ends of 128 bits, and one past them.
-    ensures wide_sum { calculated sum_of W128 (codes "170141183460469231731687303715884105726") (codes "1") ≡ Some (codes "170141183460469231731687303715884105727") }
-    ensures wide_sum_past { calculated sum_of W128 (codes "170141183460469231731687303715884105727") (codes "1") ≡ None }
-    ensures wide_sum_at_least { calculated sum_of W128 (codes "-170141183460469231731687303715884105727") (codes "-1") ≡ Some (codes "-170141183460469231731687303715884105728") }
-    ensures wide_sum_below { calculated sum_of W128 (codes "-170141183460469231731687303715884105728") (codes "-1") ≡ None }
-    ensures wide_difference { calculated difference_of W128 (codes "170141183460469231731687303715884105726") (codes "-1") ≡ Some (codes "170141183460469231731687303715884105727") }
-    ensures wide_difference_past { calculated difference_of W128 (codes "170141183460469231731687303715884105727") (codes "-1") ≡ None }
-    ensures wide_difference_at_least { calculated difference_of W128 (codes "-170141183460469231731687303715884105727") (codes "1") ≡ Some (codes "-170141183460469231731687303715884105728") }
-    ensures wide_difference_below { calculated difference_of W128 (codes "-170141183460469231731687303715884105728") (codes "1") ≡ None }
-    ensures wide_product { calculated product_of W128 (codes "170141183460469231731687303715884105727") (codes "1") ≡ Some (codes "170141183460469231731687303715884105727") }
-    ensures wide_product_past { calculated product_of W128 (codes "18446744073709551616") (codes "9223372036854775808") ≡ None }
-    ensures wide_product_at_least { calculated product_of W128 (codes "-18446744073709551616") (codes "9223372036854775808") ≡ Some (codes "-170141183460469231731687303715884105728") }
-    ensures wide_product_below { calculated product_of W128 (codes "-170141183460469231731687303715884105728") (codes "2") ≡ None }
-    ensures wide_least_turned_by_a_product { calculated product_of W128 (codes "-170141183460469231731687303715884105728") (codes "-1") ≡ None }
-    ensures wide_quotient { calculated quotient_of W128 (codes "170141183460469231731687303715884105727") (codes "-1") ≡ Some (codes "-170141183460469231731687303715884105727") }
-    ensures wide_quotient_at_least { calculated quotient_of W128 (codes "-170141183460469231731687303715884105728") (codes "1") ≡ Some (codes "-170141183460469231731687303715884105728") }
-    ensures wide_least_turned { calculated quotient_of W128 (codes "-170141183460469231731687303715884105728") (codes "-1") ≡ None }
+    ensures wide_sum { calculated sum_of W128 (codes "170141183460469231731687303715884105726") (codes "1")
+        ≡ Some (codes "170141183460469231731687303715884105727") }
+    ensures wide_sum_past { calculated sum_of W128 (codes "170141183460469231731687303715884105727") (codes "1")
+        ≡ None }
+    ensures wide_sum_at_least { calculated sum_of W128 (codes "-170141183460469231731687303715884105727") (codes "-1")
+        ≡ Some (codes "-170141183460469231731687303715884105728") }
+    ensures wide_sum_below { calculated sum_of W128 (codes "-170141183460469231731687303715884105728") (codes "-1")
+        ≡ None }
+    ensures wide_difference { calculated difference_of W128 (codes "170141183460469231731687303715884105726")
+        (codes "-1") ≡ Some (codes "170141183460469231731687303715884105727") }
+    ensures wide_difference_past { calculated difference_of W128 (codes "170141183460469231731687303715884105727")
+        (codes "-1") ≡ None }
+    ensures wide_difference_at_least { calculated difference_of W128 (codes "-170141183460469231731687303715884105727")
+        (codes "1") ≡ Some (codes "-170141183460469231731687303715884105728") }
+    ensures wide_difference_below { calculated difference_of W128 (codes "-170141183460469231731687303715884105728")
+        (codes "1") ≡ None }
+    ensures wide_product { calculated product_of W128 (codes "170141183460469231731687303715884105727") (codes "1")
+        ≡ Some (codes "170141183460469231731687303715884105727") }
+    ensures wide_product_past { calculated product_of W128 (codes "18446744073709551616") (codes "9223372036854775808")
+        ≡ None }
+    ensures wide_product_at_least { calculated product_of W128 (codes "-18446744073709551616")
+        (codes "9223372036854775808") ≡ Some (codes "-170141183460469231731687303715884105728") }
+    ensures wide_product_below { calculated product_of W128 (codes "-170141183460469231731687303715884105728")
+        (codes "2") ≡ None }
+    ensures wide_least_turned_by_a_product { calculated product_of W128
+        (codes "-170141183460469231731687303715884105728") (codes "-1") ≡ None }
+    ensures wide_quotient { calculated quotient_of W128 (codes "170141183460469231731687303715884105727") (codes "-1")
+        ≡ Some (codes "-170141183460469231731687303715884105727") }
+    ensures wide_quotient_at_least { calculated quotient_of W128 (codes "-170141183460469231731687303715884105728")
+        (codes "1") ≡ Some (codes "-170141183460469231731687303715884105728") }
+    ensures wide_least_turned { calculated quotient_of W128 (codes "-170141183460469231731687303715884105728")
+        (codes "-1") ≡ None }
     ensures wide_by_zero { calculated quotient_of W128 (codes "1") (codes "0") ≡ None }
     // An operand that does not fit has no result, whatever would be made of it.
-    ensures wide_operand_past { calculated sum_of W128 (codes "170141183460469231731687303715884105728") (codes "-1") ≡ None }
-    ensures wide_operand_below { calculated difference_of W128 (codes "0") (codes "-170141183460469231731687303715884105729") ≡ None }
-    ensures wide_operand_times_zero { calculated product_of W128 (codes "170141183460469231731687303715884105728") (codes "0") ≡ None }
-    ensures wide_divisor_past { calculated quotient_of W128 (codes "0") (codes "170141183460469231731687303715884105728") ≡ None }
+    ensures wide_operand_past { calculated sum_of W128 (codes "170141183460469231731687303715884105728") (codes "-1")
+        ≡ None }
+    ensures wide_operand_below { calculated difference_of W128 (codes "0")
+        (codes "-170141183460469231731687303715884105729") ≡ None }
+    ensures wide_operand_times_zero { calculated product_of W128 (codes "170141183460469231731687303715884105728")
+        (codes "0") ≡ None }
+    ensures wide_divisor_past { calculated quotient_of W128 (codes "0")
+        (codes "170141183460469231731687303715884105728") ≡ None }
     // What does not fit 64 bits may fit 128.
-    ensures wider_operand { calculated sum_of W128 (codes "9223372036854775808") (codes "-1") ≡ Some (codes "9223372036854775807") }
-    ensures wider_product { calculated product_of W128 (codes "9223372036854775808") (codes "9223372036854775808") ≡ Some (codes "85070591730234615865843651857942052864") }
-    ensures wider_quotient { calculated quotient_of W128 (codes "-9223372036854775808") (codes "-1") ≡ Some (codes "9223372036854775808") }
+    ensures wider_operand { calculated sum_of W128 (codes "9223372036854775808") (codes "-1")
+        ≡ Some (codes "9223372036854775807") }
+    ensures wider_product { calculated product_of W128 (codes "9223372036854775808") (codes "9223372036854775808")
+        ≡ Some (codes "85070591730234615865843651857942052864") }
+    ensures wider_quotient { calculated quotient_of W128 (codes "-9223372036854775808") (codes "-1")
+        ≡ Some (codes "9223372036854775808") }
 {}

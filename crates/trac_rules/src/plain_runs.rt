@@ -6,10 +6,12 @@ ghost use Rattle.trac_rules.specs.Records.{Moved, led_back};
 ghost use Rattle.trac_rules.specs.Session.{PlainSession, Step, repeated};
 ghost use Rattle.trac_rules.specs.State.{State};
 
-/// So many plain bytes are as many steps: all are accepted where the journal has room for them, and together they move the
-/// bytes to the current text. And as many records of moved bytes lead back, whatever the bytes are.
+/// So many plain bytes are as many steps: all are accepted where the journal has room for them, and together they move
+/// the bytes to the current text. And as many records of moved bytes lead back, whatever the bytes are.
 pub fn plain_bytes_move_on()
-    ensures there { (n : ℕ) (p : PlainSession) → IsProper p.last → BeginsPlain n p.last → length p.earlier + n ≤ p.limit →
+    ensures there { (n : ℕ) (p : PlainSession) →
+        IsProper p.last → BeginsPlain n p.last → length p.earlier + n ≤ p.limit →
         repeated Step n p ≡ Some (record p { earlier = on_the_way n p.last ++ p.earlier; last = moved_on n p.last }) }
-    ensures back { (n : ℕ) (s : State) → IsProper s → n ≤ length s.active → led_back (replicate n Moved) (moved_on n s) ≡ Some s }
+    ensures back { (n : ℕ) (s : State) → IsProper s → n ≤ length s.active →
+        led_back (replicate n Moved) (moved_on n s) ≡ Some s }
 {}

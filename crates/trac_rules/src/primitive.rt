@@ -2,11 +2,17 @@
 ghost use Rattle.std.specs.Prelude.{◌≡◌, [], codes, false, true};
 ghost use Rattle.trac_rules.specs.Performing.{primitive_of};
 ghost use Rattle.trac_rules.specs.declared.primitive.BlockAction.TheVariants.{EraseBlock, FetchBlock, StoreBlock};
-ghost use Rattle.trac_rules.specs.declared.primitive.Computation.TheVariants.{Calculate, Complement, Equal, Greater, Meet, Rotate, Shift, Union};
-ghost use Rattle.trac_rules.specs.declared.primitive.FormAction.TheVariants.{Call, Define, Delete, DeleteAll, ListNames, PrintForm, Read, Restore, Segment};
-ghost use Rattle.trac_rules.specs.declared.primitive.FormReading.TheVariants.{ReadChar, ReadCount, ReadSegment, ReadUntil};
+ghost use Rattle.trac_rules.specs.declared.primitive.Computation.TheVariants.{Calculate, Complement, Equal, Greater};
+ghost use Rattle.trac_rules.specs.declared.primitive.Computation.TheVariants.{Meet, Rotate, Shift, Union};
+ghost use Rattle.trac_rules.specs.declared.primitive.FormAction.TheVariants.{Call, Define, Delete, DeleteAll};
+ghost use Rattle.trac_rules.specs.declared.primitive.FormAction.TheVariants.{ListNames, PrintForm, Read, Restore};
+ghost use Rattle.trac_rules.specs.declared.primitive.FormAction.TheVariants.{Segment};
+ghost use Rattle.trac_rules.specs.declared.primitive.FormReading.TheVariants.{ReadChar, ReadCount, ReadSegment};
+ghost use Rattle.trac_rules.specs.declared.primitive.FormReading.TheVariants.{ReadUntil};
 ghost use Rattle.trac_rules.specs.declared.primitive.Operation.TheVariants.{Add, Divide, Multiply, Subtract};
-ghost use Rattle.trac_rules.specs.declared.primitive.Primitive.TheVariants.{Compute, Halt, Handle, HandleBlock, PrintString, ReadByte, ReadString, SetMeta, SetTrace, Unknown};
+ghost use Rattle.trac_rules.specs.declared.primitive.Primitive.TheVariants.{Compute, Halt, Handle, HandleBlock};
+ghost use Rattle.trac_rules.specs.declared.primitive.Primitive.TheVariants.{PrintString, ReadByte, ReadString, SetMeta};
+ghost use Rattle.trac_rules.specs.declared.primitive.Primitive.TheVariants.{SetTrace, Unknown};
 
 /// What a name stands for. Each letter of a primitive's name may be in either case (this project's profile).
 #[derive(Clone, Copy, Debug, PartialEq, Eq)]
@@ -294,7 +300,7 @@ pub fn names_stand_for()
     ensures store_block { primitive_of (codes "sb") ≡ HandleBlock StoreBlock }
     ensures fetch_block { primitive_of (codes "fb") ≡ HandleBlock FetchBlock }
     ensures erase_block { primitive_of (codes "eb") ≡ HandleBlock EraseBlock }
-    // Each letter may be in either case (this project's profile).
+    // Each letter may be in either case.
     ensures first_capital { primitive_of (codes "Ps") ≡ PrintString }
     ensures second_capital { primitive_of (codes "pS") ≡ PrintString }
     // A name is just two letters long.

@@ -1,10 +1,14 @@
 //! Records of what a step destroys: laws, and worked rows.
 ghost use Rattle.std.specs.List.{All};
-ghost use Rattle.std.specs.Prelude.{◌≡◌, ◌≤◌, ◌*◌, ◌^◌, ◌++◌, ◌∷◌, [], codes, length, is_some, option_map, replicate, take, List, None, Ok, Some, false, true, ℕ};
+ghost use Rattle.std.specs.Prelude.{◌≡◌, ◌≤◌, ◌*◌, ◌^◌, ◌++◌, ◌∷◌, [], codes, length, is_some, option_map, replicate};
+ghost use Rattle.std.specs.Prelude.{take, List, None, Ok, Some, false, true, ℕ};
 ghost use Rattle.trac_rules.specs.Form.{defined, pointed_at};
 ghost use Rattle.trac_rules.specs.Limits.{marks, text_bytes};
 ghost use Rattle.trac_rules.specs.Proper.{IsProper};
-ghost use Rattle.trac_rules.specs.Records.{Begun, CallRecord, Called, Comma, Deleted, Idle, IsOfScanning, Moved, Quoted, Record, call_record_of, further_on, led_back, record_of, records_from, rest_before, rest_of, restored, state_before, texts_before, texts_in};
+ghost use Rattle.trac_rules.specs.Records.{Begun, CallRecord, Called, Comma, Deleted, Idle, IsOfScanning, Moved};
+ghost use Rattle.trac_rules.specs.Records.{Quoted, Record, call_record_of, further_on, led_back, record_of};
+ghost use Rattle.trac_rules.specs.Records.{records_from, rest_before, rest_of, restored, state_before, texts_before};
+ghost use Rattle.trac_rules.specs.Records.{texts_in};
 ghost use Rattle.trac_rules.specs.RecordRows.{Costs, losses_of, most_in, no_tape, records_of};
 ghost use Rattle.trac_rules.specs.Rows.{replies_to, session_after, state_after, texts_of};
 ghost use Rattle.trac_rules.specs.Session.{Feed, PlainSession, Step, new_session, over, repeated};
@@ -19,51 +23,57 @@ ghost use Rattle.trac_rules.specs.declared.refusal.Refusal.TheVariants.{NeedInpu
 ghost use Rattle.trac_rules.specs.declared.reply.Reply.TheVariants.{Done, Refused};
 ghost use Rattle.trac_rules.specs.declared.width.Width.TheVariants.{W128};
 
-/// Each accepted step, of scanning or a call, has a record. With the state after the step it gives back the state before,
-/// where that is a proper one: nothing else holds what was lost. The state before is always a proper one. Where a session
-/// takes so many steps one after another, as many records lead back over all of them.
+/// Each accepted step, of scanning or a call, has a record. With the state after the step it gives back the state
+/// before, where that is a proper one: nothing else holds what was lost. The state before is always a proper one. Where
+/// a session takes so many steps one after another, as many records lead back over all of them.
 pub fn records_lead_back()
-    ensures is_there { (environment : Environment) (s t : State) → step environment s ≡ Ok t → is_some (record_of environment s) ≡ true }
-    ensures each_step { (environment : Environment) (s t : State) (r : Record) → IsProper s → step environment s ≡ Ok t → record_of environment s ≡ Some r →
-        state_before r t ≡ Some s }
+    ensures is_there { (environment : Environment) (s t : State) → step environment s ≡ Ok t →
+        is_some (record_of environment s) ≡ true }
+    ensures each_step { (environment : Environment) (s t : State) (r : Record) → IsProper s →
+        step environment s ≡ Ok t → record_of environment s ≡ Some r → state_before r t ≡ Some s }
     ensures only_proper { (r : Record) (s t : State) → state_before r t ≡ Some s → IsProper s }
     ensures all_steps { (n : ℕ) (old new : PlainSession) → IsProper old.last → repeated Step n old ≡ Some new →
         led_back (records_from (over new.width new.tape) (take n new.earlier)) new.last ≡ Some old.last }
 {}
 
-/// The record of a call keeps what the call destroyed, and with that the state after it gives back the state before. Each of
-/// the three parts of a state is got back by itself, from its part of the state after and nothing else: texts and begun
-/// functions; forms and blocks; all the rest.
+/// The record of a call keeps what the call destroyed, and with that the state after it gives back the state before.
+/// Each of the three parts of a state is got back by itself, from its part of the state after and nothing else: texts
+/// and begun functions; forms and blocks; all the rest.
 pub fn records_of_calls_lead_back()
-    ensures texts { (environment : Environment) (s t : State) (call : CallRecord) → step environment s ≡ Ok t → call_record_of environment s ≡ Some call →
-        texts_before call (texts_in t) ≡ Some (texts_in s) }
-    ensures storage { (environment : Environment) (s t : State) (call : CallRecord) → step environment s ≡ Ok t → call_record_of environment s ≡ Some call →
+    ensures texts { (environment : Environment) (s t : State) (call : CallRecord) → step environment s ≡ Ok t →
+        call_record_of environment s ≡ Some call → texts_before call (texts_in t) ≡ Some (texts_in s) }
+    ensures storage { (environment : Environment) (s t : State) (call : CallRecord) →
+        step environment s ≡ Ok t → call_record_of environment s ≡ Some call →
         storage_before call.arguments call.undone (storage_of t) ≡ Some (storage_of s) }
-    ensures rest { (environment : Environment) (s t : State) (call : CallRecord) → step environment s ≡ Ok t → call_record_of environment s ≡ Some call →
-        rest_before call (rest_of t) ≡ Some (rest_of s) }
-    ensures whole { (environment : Environment) (s t : State) (call : CallRecord) → step environment s ≡ Ok t → call_record_of environment s ≡ Some call →
-        restored (Called call) t ≡ Some s }
+    ensures rest { (environment : Environment) (s t : State) (call : CallRecord) → step environment s ≡ Ok t →
+        call_record_of environment s ≡ Some call → rest_before call (rest_of t) ≡ Some (rest_of s) }
+    ensures whole { (environment : Environment) (s t : State) (call : CallRecord) → step environment s ≡ Ok t →
+        call_record_of environment s ≡ Some call → restored (Called call) t ≡ Some s }
 {}
 
-/// A record names no absolute place of the tape or of the output. One of scanning knows nothing of either: what it restores
-/// stands where the state after stands, with its output. Of any record: where the state after stands so many bytes further
-/// on, and its output has a text before it, so has the state before.
+/// A record names no absolute place of the tape or of the output. One of scanning knows nothing of either: what it
+/// restores stands where the state after stands, with its output. Of any record: where the state after stands so many
+/// bytes further on, and its output has a text before it, so has the state before.
 pub fn records_name_no_place()
     ensures elsewhere { (r : Record) (t : State) (position : ℕ) (output : List ℕ) → IsOfScanning r →
-        restored r (record t { position = position; output = output }) ≡ option_map (λ (s : State). record s { position = position; output = output }) (restored r t) }
-    ensures further { (r : Record) (s t : State) (k : ℕ) (text : List ℕ) → restored r t ≡ Some s → restored r (further_on k text t) ≡ Some (further_on k text s) }
+        restored r (record t { position = position; output = output })
+        ≡ option_map (λ (s : State). record s { position = position; output = output }) (restored r t) }
+    ensures further { (r : Record) (s t : State) (k : ℕ) (text : List ℕ) → restored r t ≡ Some s →
+        restored r (further_on k text t) ≡ Some (further_on k text s) }
 {}
 
 /// The record of a step weighs no more than the step may lose.
 pub fn records_weigh_no_more()
-    ensures { (environment : Environment) (s : State) (r : Record) → record_of environment s ≡ Some r → weight r ≤ loss s }
+    ensures { (environment : Environment) (s : State) (r : Record) → record_of environment s ≡ Some r →
+        weight r ≤ loss s }
 {}
 
-/// What the record of a step weighs is told by the state before the step alone, whatever the input is, and is no more than
-/// the step may lose. From a proper state that is less than five million million. So a word of 64 bits holds what a record
-/// weighs, and what all records of a journal weigh together.
+/// What the record of a step weighs is told by the state before the step alone, whatever the input is, and is no more
+/// than the step may lose. From a proper state that is less than five million million. So a word of 64 bits holds what
+/// a record weighs, and what all records of a journal weigh together.
 pub fn weights_are_told_by_states()
-    ensures of_records { (environment : Environment) (s : State) (r : Record) → record_of environment s ≡ Some r → weight r ≡ step_weight s }
+    ensures of_records { (environment : Environment) (s : State) (r : Record) → record_of environment s ≡ Some r →
+        weight r ≡ step_weight s }
     ensures within { (s : State) → step_weight s ≤ loss s }
     ensures together { (states : List State) → weights_from states ≤ losses_from states }
     ensures bounded { (s : State) → IsProper s → loss s ≤ 2 ^ 42 }
@@ -74,35 +84,69 @@ pub fn weights_are_told_by_states()
 pub fn worked_records()
     // The stray `)` of the input ends the idle program's `ps`; then `b` and `c` go to the base text, and
     // the fifteenth step empties it.
-    ensures steps { replies_to (Feed (codes "a)b,c'") ∷ replicate 23 Step) (new_session 64 W128) ≡ replicate 23 Done ++ Refused NeedInput ∷ [] }
-    ensures first_seven { records_of (session_after (Feed (codes "a)b,c'") ∷ replicate 7 Step) (new_session 64 W128)) ≡ Moved ∷ Moved ∷ Begun ∷ Comma ∷ Moved ∷ Moved ∷ Begun ∷ [] }
-    ensures eleventh_to_fifteenth { take 5 (records_of (session_after (Feed (codes "a)b,c'") ∷ replicate 15 Step) (new_session 64 W128))) ≡ Idle (codes "bc") [] ∷ Deleted CLOSING ∷ Moved ∷ Deleted COMMA ∷ Moved ∷ [] }
-    ensures all_back { led_back (records_of (session_after (Feed (codes "a)b,c'") ∷ replicate 22 Step) (new_session 64 W128))) (state_after (Feed (codes "a)b,c'") ∷ replicate 22 Step) (new_session 64 W128)) ≡ Some initial }
+    ensures steps { replies_to (Feed (codes "a)b,c'") ∷ replicate 23 Step) (new_session 64 W128)
+        ≡ replicate 23 Done ++ Refused NeedInput ∷ [] }
+    ensures first_seven { records_of (session_after (Feed (codes "a)b,c'") ∷ replicate 7 Step) (new_session 64 W128))
+        ≡ Moved ∷ Moved ∷ Begun ∷ Comma ∷ Moved ∷ Moved ∷ Begun ∷ [] }
+    ensures eleventh_to_fifteenth { take 5
+        (records_of (session_after (Feed (codes "a)b,c'") ∷ replicate 15 Step) (new_session 64 W128)))
+        ≡ Idle (codes "bc") [] ∷ Deleted CLOSING ∷ Moved ∷ Deleted COMMA ∷ Moved ∷ [] }
+    ensures all_back { led_back
+        (records_of (session_after (Feed (codes "a)b,c'") ∷ replicate 22 Step) (new_session 64 W128)))
+        (state_after (Feed (codes "a)b,c'") ∷ replicate 22 Step) (new_session 64 W128)) ≡ Some initial }
     // Functions that are begun and never ended are emptied with the base text.
-    ensures begun_functions { record_of (over W128 no_tape) (state_after (Feed (codes ")x##(a,b#(c,d#(e'") ∷ replicate 21 Step) (new_session 64 W128)) ≡ Some (Idle (codes "x") (record { kind = Active; arguments = codes "c" ∷ []; gathered = codes "d" } ∷ record { kind = Neutral; arguments = codes "a" ∷ []; gathered = codes "b" } ∷ [])) }
-    ensures begun_functions_weight { weight (Idle (codes "x") (record { kind = Active; arguments = codes "c" ∷ []; gathered = codes "d" } ∷ record { kind = Neutral; arguments = codes "a" ∷ []; gathered = codes "b" } ∷ [])) ≡ 9 }
+    ensures begun_functions { record_of (over W128 no_tape)
+        (state_after (Feed (codes ")x##(a,b#(c,d#(e'") ∷ replicate 21 Step) (new_session 64 W128))
+        ≡ Some (Idle (codes "x") (record { kind = Active; arguments = codes "c" ∷ []; gathered = codes "d" }
+        ∷ record { kind = Neutral; arguments = codes "a" ∷ []; gathered = codes "b" } ∷ [])) }
+    ensures begun_functions_weight { weight (Idle (codes "x") (record {
+      kind = Active;
+      arguments = codes "c" ∷ [];
+      gathered = codes "d";
+    } ∷ record { kind = Neutral; arguments = codes "a" ∷ []; gathered = codes "b" } ∷ [])) ≡ 9 }
     // The room that a machine needs for the first eleven steps over `AB'`, and back.
-    ensures text_room { most_in text_bytes (session_after (Feed (codes "AB'") ∷ replicate 11 Step) (new_session 64 W128)) ≡ 11 }
-    ensures mark_room { most_in (λ s. marks s.frames) (session_after (Feed (codes "AB'") ∷ replicate 11 Step) (new_session 64 W128)) ≡ 3 }
-    ensures output_room { most_in (λ s. length s.output) (session_after (Feed (codes "AB'") ∷ replicate 11 Step) (new_session 64 W128)) ≡ 2 }
+    ensures text_room { most_in text_bytes
+        (session_after (Feed (codes "AB'") ∷ replicate 11 Step) (new_session 64 W128)) ≡ 11 }
+    ensures mark_room { most_in (λ s. marks s.frames)
+        (session_after (Feed (codes "AB'") ∷ replicate 11 Step) (new_session 64 W128)) ≡ 3 }
+    ensures output_room { most_in (λ s. length s.output)
+        (session_after (Feed (codes "AB'") ∷ replicate 11 Step) (new_session 64 W128)) ≡ 2 }
     // A protected text, with a match and without one.
-    ensures matched { record_of (over W128 no_tape) (record initial { active = codes "(a,(b))c"; base = codes "x" }) ≡ Some (Quoted 5 true) }
-    ensures matched_back { restored (Quoted 5 true) (record initial { active = codes "c"; base = codes "xa,(b)" }) ≡ Some (record initial { active = codes "(a,(b))c"; base = codes "x" }) }
-    ensures unmatched { record_of (over W128 no_tape) (record initial { active = codes "((a)"; base = codes "x" }) ≡ Some (Quoted 3 false) }
-    ensures unmatched_back { restored (Quoted 3 false) (record initial { active = []; base = codes "x(a)" }) ≡ Some (record initial { active = codes "((a)"; base = codes "x" }) }
+    ensures matched { record_of (over W128 no_tape) (record initial { active = codes "(a,(b))c"; base = codes "x" })
+        ≡ Some (Quoted 5 true) }
+    ensures matched_back { restored (Quoted 5 true) (record initial { active = codes "c"; base = codes "xa,(b)" })
+        ≡ Some (record initial { active = codes "(a,(b))c"; base = codes "x" }) }
+    ensures unmatched { record_of (over W128 no_tape) (record initial { active = codes "((a)"; base = codes "x" })
+        ≡ Some (Quoted 3 false) }
+    ensures unmatched_back { restored (Quoted 3 false) (record initial { active = []; base = codes "x(a)" })
+        ≡ Some (record initial { active = codes "((a)"; base = codes "x" }) }
     ensures layout { record_of (over W128 no_tape) (record initial { active = TAB ∷ codes "a" }) ≡ Some (Deleted TAB) }
     ensures layout_weight { weight (Deleted TAB) ≡ 1 }
     // An argument that is gathered again, and a neutral function that is no longer begun.
-    ensures argument_back { restored Comma (record initial { active = codes "b"; frames = record { kind = Neutral; arguments = codes "x" ∷ codes "a" ∷ []; gathered = [] } ∷ [] }) ≡ Some (record initial { active = codes ",b"; frames = record { kind = Neutral; arguments = codes "x" ∷ []; gathered = codes "a" } ∷ [] }) }
-    ensures beginning_back { restored Begun (record initial { active = codes "b"; frames = record { kind = Neutral; arguments = []; gathered = [] } ∷ [] }) ≡ Some (record initial { active = codes "##(b" }) }
+    ensures argument_back { restored Comma (record initial {
+      active = codes "b";
+      frames = record { kind = Neutral; arguments = codes "x" ∷ codes "a" ∷ []; gathered = [] } ∷ [];
+    }) ≡ Some (record initial {
+      active = codes ",b";
+      frames = record { kind = Neutral; arguments = codes "x" ∷ []; gathered = codes "a" } ∷ [];
+    }) }
+    ensures beginning_back { restored Begun
+        (record initial { active = codes "b"; frames = record { kind = Neutral; arguments = []; gathered = [] } ∷ [] })
+        ≡ Some (record initial { active = codes "##(b" }) }
     // A state that does not show what the record names.
     ensures nothing_moved { state_before Moved initial ≡ None }
-    ensures too_little_protected { state_before (Quoted 3 true) (record initial { active = []; base = codes "ab" }) ≡ None }
+    ensures too_little_protected { state_before (Quoted 3 true) (record initial { active = []; base = codes "ab" })
+        ≡ None }
     ensures no_function { state_before Comma initial ≡ None }
-    ensures no_argument { state_before Comma (record initial { frames = record { kind = Active; arguments = []; gathered = [] } ∷ [] }) ≡ None }
-    ensures further_argument { state_before Comma (record initial { frames = record { kind = Active; arguments = codes "a" ∷ []; gathered = codes "b" } ∷ [] }) ≡ None }
-    ensures begun_with_text { state_before Begun (record initial { frames = record { kind = Active; arguments = []; gathered = codes "b" } ∷ [] }) ≡ None }
-    ensures begun_with_argument { state_before Begun (record initial { frames = record { kind = Active; arguments = codes "a" ∷ []; gathered = [] } ∷ [] }) ≡ None }
+    ensures no_argument { state_before Comma
+        (record initial { frames = record { kind = Active; arguments = []; gathered = [] } ∷ [] }) ≡ None }
+    ensures further_argument { state_before Comma (record initial {
+      frames = record { kind = Active; arguments = codes "a" ∷ []; gathered = codes "b" } ∷ [];
+    }) ≡ None }
+    ensures begun_with_text { state_before Begun
+        (record initial { frames = record { kind = Active; arguments = []; gathered = codes "b" } ∷ [] }) ≡ None }
+    ensures begun_with_argument { state_before Begun
+        (record initial { frames = record { kind = Active; arguments = codes "a" ∷ []; gathered = [] } ∷ [] }) ≡ None }
     ensures not_idle { state_before (Idle (codes "b") []) (record initial { base = codes "a" }) ≡ None }
 {}
 
@@ -111,7 +155,8 @@ pub fn worked_losses()
     // Whole sessions: scanning, `rs`, `ps` and the idle step.
     ensures text { losses_of (session_after (Feed (codes "AB'") ∷ replicate 19 Step) (new_session 64 W128)) ≡ 7 }
     ensures stray { losses_of (session_after (Feed (codes "a)b,c'") ∷ replicate 22 Step) (new_session 64 W128)) ≡ 10 }
-    ensures begun_functions { loss (state_after (Feed (codes ")x##(a,b#(c,d#(e'") ∷ replicate 21 Step) (new_session 64 W128)) ≡ 9 }
+    ensures begun_functions { loss
+        (state_after (Feed (codes ")x##(a,b#(c,d#(e'") ∷ replicate 21 Step) (new_session 64 W128)) ≡ 9 }
     // Scanning loses a byte of layout, and nothing where it begins a function, protects a text or passes a `#`.
     ensures layout { loss (record initial { active = TAB ∷ codes "a" }) ≡ 1 }
     ensures beginning { loss (record initial { active = codes "##(a" }) ≡ 0 }
@@ -127,16 +172,24 @@ pub fn worked_losses()
     ensures defining { Costs (texts_of (codes "ds,a,1")) [] [] 6 }
     ensures defining_again { Costs (texts_of (codes "ds,a,1")) ((codes "a", defined (codes "xyz")) ∷ []) [] 11 }
     ensures deleting { Costs (texts_of (codes "dd,a")) ((codes "a", defined (codes "1")) ∷ []) [] 7 }
-    ensures deleting_twice { Costs (texts_of (codes "dd,a,c,a")) ((codes "a", defined (codes "1")) ∷ (codes "b", defined (codes "2")) ∷ []) [] 11 }
-    ensures deleting_all { Costs (texts_of (codes "da")) ((codes "a", defined (codes "1")) ∷ (codes "bc", defined (codes "xy")) ∷ []) [] 10 }
+    ensures deleting_twice { Costs (texts_of (codes "dd,a,c,a"))
+        ((codes "a", defined (codes "1")) ∷ (codes "b", defined (codes "2")) ∷ []) [] 11 }
+    ensures deleting_all { Costs (texts_of (codes "da"))
+        ((codes "a", defined (codes "1")) ∷ (codes "bc", defined (codes "xy")) ∷ []) [] 10 }
     // Segmenting costs one for each gap that it makes.
     ensures segmenting { Costs (texts_of (codes "ss,F,b")) ((codes "F", defined (codes "abcb")) ∷ []) [] 8 }
-    ensures segmenting_again { Costs (texts_of (codes "ss,F,b")) ((codes "F", pointed_at 1 (Gap 1 2 ∷ Byte 98 ∷ [])) ∷ []) [] 7 }
+    ensures segmenting_again { Costs (texts_of (codes "ss,F,b"))
+        ((codes "F", pointed_at 1 (Gap 1 2 ∷ Byte 98 ∷ [])) ∷ []) [] 7 }
     ensures segmenting_nothing { Costs (texts_of (codes "ss,F,b")) [] [] 6 }
     // A form that is put aside is not lost; of the forms that a block's copies replace, all are.
-    ensures storing { Costs (texts_of (codes "sb,G,A")) ((codes "A", defined (codes "1")) ∷ (codes "G", defined (codes "xy")) ∷ []) [] 10 }
+    ensures storing { Costs (texts_of (codes "sb,G,A"))
+        ((codes "A", defined (codes "1")) ∷ (codes "G", defined (codes "xy")) ∷ []) [] 10 }
     ensures storing_itself { Costs (texts_of (codes "sb,G,G")) ((codes "G", defined (codes "xy")) ∷ []) [] 6 }
-    ensures fetching { Costs (texts_of (codes "fb,G")) ((codes "A", defined (codes "9xx")) ∷ (codes "G", defined (codes "0")) ∷ []) (Some ((codes "A", defined (codes "1")) ∷ (codes "B", defined (codes "2")) ∷ []) ∷ []) 9 }
-    ensures erasing { Costs (texts_of (codes "eb,G")) ((codes "G", defined (codes "0")) ∷ []) (Some ((codes "A", defined (codes "1")) ∷ (codes "BB", defined (codes "2")) ∷ []) ∷ []) 14 }
-    ensures erasing_nothing { Costs (texts_of (codes "eb,G")) ((codes "G", defined (codes "1")) ∷ []) (Some ((codes "A", defined (codes "1")) ∷ []) ∷ []) 4 }
+    ensures fetching { Costs (texts_of (codes "fb,G"))
+        ((codes "A", defined (codes "9xx")) ∷ (codes "G", defined (codes "0")) ∷ [])
+        (Some ((codes "A", defined (codes "1")) ∷ (codes "B", defined (codes "2")) ∷ []) ∷ []) 9 }
+    ensures erasing { Costs (texts_of (codes "eb,G")) ((codes "G", defined (codes "0")) ∷ [])
+        (Some ((codes "A", defined (codes "1")) ∷ (codes "BB", defined (codes "2")) ∷ []) ∷ []) 14 }
+    ensures erasing_nothing { Costs (texts_of (codes "eb,G")) ((codes "G", defined (codes "1")) ∷ [])
+        (Some ((codes "A", defined (codes "1")) ∷ []) ∷ []) 4 }
 {}

@@ -24,13 +24,15 @@ pub fn leftmost_is_cut_first()
 /// A gap stays as it is, and the runs before and after it are cut each by itself.
 pub fn gaps_bound_runs()
     ensures gap { (k ordinal width : ℕ) (text run : List ℕ) (items : List Item) →
-        cut_out k text (as_items run ++ Gap ordinal width ∷ items) ≡ part k text run ++ Gap ordinal width ∷ cut_out k text items }
+        cut_out k text (as_items run ++ Gap ordinal width ∷ items)
+        ≡ part k text run ++ Gap ordinal width ∷ cut_out k text items }
     ensures last { (k : ℕ) (text run : List ℕ) → cut_out k text (as_items run) ≡ part k text run }
 {}
 
 /// A form stands for as many bytes after it was segmented as before.
 pub fn segmenting_keeps_the_extent()
-    ensures { (texts : List (List ℕ)) (form : Form) → extent (all_items (segmented texts form)) ≡ extent (all_items form) }
+    ensures { (texts : List (List ℕ)) (form : Form) →
+        extent (all_items (segmented texts form)) ≡ extent (all_items form) }
 {}
 
 /// What was cut out is put back where the form's gaps are filled with the same texts.
@@ -39,42 +41,60 @@ pub fn filling_undoes_segmenting()
         all_filled texts (all_items (segmented texts form)) ≡ all_filled texts (all_items form) }
 {}
 
-/// The gaps that segmenting makes, filled with the same texts, give the items as they were before. There are as many of them
-/// as the form has gaps more than before. Filling the gaps of any cut keeps the extent, and leaves all gaps wide.
+/// The gaps that segmenting makes, filled with the same texts, give the items as they were before. There are as many of
+/// them as the form has gaps more than before. Filling the gaps of any cut keeps the extent, and leaves all gaps wide.
 pub fn cuts_are_filled_again()
-    ensures back { (texts : List (List ℕ)) (form : Form) → joined texts (cut_of texts form) (all_items (segmented texts form)) ≡ Some (all_items form) }
-    ensures count { (texts : List (List ℕ)) (form : Form) → gap_count (all_items (segmented texts form)) ≡ gap_count (all_items form) + length (cut_of texts form) }
+    ensures back { (texts : List (List ℕ)) (form : Form) →
+        joined texts (cut_of texts form) (all_items (segmented texts form)) ≡ Some (all_items form) }
+    ensures count { (texts : List (List ℕ)) (form : Form) →
+        gap_count (all_items (segmented texts form)) ≡ gap_count (all_items form) + length (cut_of texts form) }
     ensures made { (texts : List (List ℕ)) (form : Form) → length (cut_of texts form) ≡ gaps_made texts form }
-    ensures extent { (texts : List (List ℕ)) (cut : List CutGap) (items before : List Item) → joined texts cut items ≡ Some before → extent before ≡ extent items }
-    ensures wide { (texts : List (List ℕ)) (cut : List CutGap) (items before : List Item) → joined texts cut items ≡ Some before → All IsWide items → All IsWide before }
+    ensures extent { (texts : List (List ℕ)) (cut : List CutGap) (items before : List Item) →
+        joined texts cut items ≡ Some before → extent before ≡ extent items }
+    ensures wide { (texts : List (List ℕ)) (cut : List CutGap) (items before : List Item) →
+        joined texts cut items ≡ Some before → All IsWide items → All IsWide before }
 {}
 
 /// Which gaps segmenting makes, and how they are filled again.
 pub fn worked_cuts()
     // A text that stands twice.
-    ensures twice { cut_of (codes "b" ∷ []) (defined (codes "abcb")) ≡ record { place = 1; ordinal = 1 } ∷ record { place = 3; ordinal = 1 } ∷ [] }
-    ensures twice_back { joined (codes "b" ∷ []) (record { place = 1; ordinal = 1 } ∷ record { place = 3; ordinal = 1 } ∷ []) (Byte 97 ∷ Gap 1 1 ∷ Byte 99 ∷ Gap 1 1 ∷ []) ≡ Some (as_items (codes "abcb")) }
+    ensures twice { cut_of (codes "b" ∷ []) (defined (codes "abcb"))
+        ≡ record { place = 1; ordinal = 1 } ∷ record { place = 3; ordinal = 1 } ∷ [] }
+    ensures twice_back { joined (codes "b" ∷ []) (record { place = 1; ordinal = 1 } ∷ record {
+      place = 3;
+      ordinal = 1;
+    } ∷ []) (Byte 97 ∷ Gap 1 1 ∷ Byte 99 ∷ Gap 1 1 ∷ []) ≡ Some (as_items (codes "abcb")) }
     // Two texts, the second one searched in what the first one left.
-    ensures two_texts { cut_of (codes "b" ∷ codes "ca" ∷ []) (defined (codes "abcabc")) ≡ record { place = 1; ordinal = 1 } ∷ record { place = 2; ordinal = 2 } ∷ record { place = 3; ordinal = 1 } ∷ [] }
-    ensures two_texts_back { joined (codes "b" ∷ codes "ca" ∷ []) (record { place = 1; ordinal = 1 } ∷ record { place = 2; ordinal = 2 } ∷ record { place = 3; ordinal = 1 } ∷ []) (Byte 97 ∷ Gap 1 1 ∷ Gap 2 2 ∷ Gap 1 1 ∷ Byte 99 ∷ []) ≡ Some (as_items (codes "abcabc")) }
+    ensures two_texts { cut_of (codes "b" ∷ codes "ca" ∷ []) (defined (codes "abcabc")) ≡
+        record { place = 1; ordinal = 1 } ∷ record { place = 2; ordinal = 2 } ∷ record { place = 3; ordinal = 1 } ∷ [] }
+    ensures two_texts_back { joined (codes "b" ∷ codes "ca" ∷ [])
+        (record { place = 1; ordinal = 1 } ∷ record { place = 2; ordinal = 2 } ∷ record { place = 3; ordinal = 1 } ∷ [])
+        (Byte 97 ∷ Gap 1 1 ∷ Gap 2 2 ∷ Gap 1 1 ∷ Byte 99 ∷ []) ≡ Some (as_items (codes "abcabc")) }
     // An empty text makes no gap, and uses up its number.
     ensures null_text { cut_of ([] ∷ codes "na" ∷ []) (defined (codes "ban")) ≡ [] }
-    ensures after_null_text { cut_of ([] ∷ codes "an" ∷ []) (defined (codes "ban")) ≡ record { place = 1; ordinal = 2 } ∷ [] }
+    ensures after_null_text { cut_of ([] ∷ codes "an" ∷ []) (defined (codes "ban"))
+        ≡ record { place = 1; ordinal = 2 } ∷ [] }
     // An earlier gap is none of them, though it is like them in all, and stays when they are filled.
-    ensures beside_an_earlier_gap { cut_of (codes "x" ∷ []) (segmented (codes "y" ∷ []) (defined (codes "yxb"))) ≡ record { place = 1; ordinal = 1 } ∷ [] }
-    ensures earlier_gap_stays { joined (codes "x" ∷ []) (record { place = 1; ordinal = 1 } ∷ []) (Gap 1 1 ∷ Gap 1 1 ∷ Byte 98 ∷ []) ≡ Some (Gap 1 1 ∷ Byte 120 ∷ Byte 98 ∷ []) }
+    ensures beside_an_earlier_gap { cut_of (codes "x" ∷ []) (segmented (codes "y" ∷ []) (defined (codes "yxb")))
+        ≡ record { place = 1; ordinal = 1 } ∷ [] }
+    ensures earlier_gap_stays { joined (codes "x" ∷ []) (record { place = 1; ordinal = 1 } ∷ [])
+        (Gap 1 1 ∷ Gap 1 1 ∷ Byte 98 ∷ []) ≡ Some (Gap 1 1 ∷ Byte 120 ∷ Byte 98 ∷ []) }
     ensures earlier_gaps_alone { cut_of (codes "y" ∷ []) (pointed_at 1 (Gap 1 1 ∷ Gap 2 3 ∷ [])) ≡ [] }
     ensures nothing_to_fill { joined [] [] (Byte 97 ∷ Gap 1 1 ∷ []) ≡ Some (Byte 97 ∷ Gap 1 1 ∷ []) }
     // The pointer bounds no run.
-    ensures across_the_pointer { cut_of (codes "bc" ∷ []) (pointed_at 2 (as_items (codes "abc"))) ≡ record { place = 1; ordinal = 1 } ∷ [] }
+    ensures across_the_pointer { cut_of (codes "bc" ∷ []) (pointed_at 2 (as_items (codes "abc")))
+        ≡ record { place = 1; ordinal = 1 } ∷ [] }
     // There is nothing to fill where no gap stands, or one of another ordinal or width; nor at a place that
     // does not rise or is past the end.
-    ensures byte_there { joined (codes "x" ∷ []) (record { place = 0; ordinal = 1 } ∷ []) (Byte 120 ∷ Gap 1 1 ∷ []) ≡ None }
-    ensures other_ordinal { joined (codes "x" ∷ codes "y" ∷ []) (record { place = 0; ordinal = 2 } ∷ []) (Gap 1 1 ∷ []) ≡ None }
+    ensures byte_there { joined (codes "x" ∷ []) (record { place = 0; ordinal = 1 } ∷ []) (Byte 120 ∷ Gap 1 1 ∷ [])
+        ≡ None }
+    ensures other_ordinal { joined (codes "x" ∷ codes "y" ∷ []) (record { place = 0; ordinal = 2 } ∷ []) (Gap 1 1 ∷ [])
+        ≡ None }
     ensures narrower { joined (codes "xy" ∷ []) (record { place = 0; ordinal = 1 } ∷ []) (Gap 1 1 ∷ []) ≡ None }
     ensures wider { joined (codes "x" ∷ []) (record { place = 0; ordinal = 1 } ∷ []) (Gap 1 2 ∷ []) ≡ None }
     ensures no_width { joined ([] ∷ []) (record { place = 0; ordinal = 1 } ∷ []) (Gap 1 0 ∷ []) ≡ None }
     ensures missing_text { joined [] (record { place = 0; ordinal = 1 } ∷ []) (Gap 1 1 ∷ []) ≡ None }
-    ensures same_place { joined (codes "x" ∷ []) (record { place = 0; ordinal = 1 } ∷ record { place = 0; ordinal = 1 } ∷ []) (Gap 1 1 ∷ Gap 1 1 ∷ []) ≡ None }
+    ensures same_place { joined (codes "x" ∷ [])
+        (record { place = 0; ordinal = 1 } ∷ record { place = 0; ordinal = 1 } ∷ []) (Gap 1 1 ∷ Gap 1 1 ∷ []) ≡ None }
     ensures past_the_end { joined (codes "x" ∷ []) (record { place = 1; ordinal = 1 } ∷ []) (Gap 1 1 ∷ []) ≡ None }
 {}

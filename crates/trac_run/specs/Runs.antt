@@ -1,5 +1,6 @@
 -- What a run reads and writes.
-use Rattle.std.specs.Prelude.{◌≡◌, ℕ, ◌+◌, ◌-◌, ◌*◌, ◌<◌, ◌≤◌, Bool, true, if◌then◌else◌, List, [], ◌∷◌, ◌++◌, length, Option, ◌⊎◌}
+use Rattle.std.specs.Prelude.{◌≡◌, ℕ, ◌+◌, ◌-◌, ◌*◌, ◌<◌, ◌≤◌, Bool, true, if◌then◌else◌, List, [], ◌∷◌, ◌++◌, length}
+use Rattle.std.specs.Prelude.{Option, ◌⊎◌}
 use Rattle.std.specs.Io.KnownBytes.{Appends, Consumes, IsAtEnd}
 use Rattle.trac_rules.specs.declared.limit.TheConstants.{TEXT_LIMIT, TAPE_LIMIT}
 use Rattle.trac_rules.specs.declared.refusal.Refusal.{Refusal}
@@ -9,7 +10,8 @@ use Rattle.trac_rules.specs.Running.{Output, BudgetSpent, InputEnded, LimitPasse
 use Rattle.trac_rules.specs.GoingOn.{prepended, going_on_from}
 use Rattle.trac_streams.specs.declared.ending.Ending.{Ending}
 use Rattle.trac_streams.specs.declared.input.TheConstants.{READ_SIZE}
-use Rattle.trac_streams.specs.declared.ending.Ending.TheVariants.{Ended, Budget, Limit, Memory, Read, Write, NotUnderstood}
+use Rattle.trac_streams.specs.declared.ending.Ending.TheVariants.{Ended, Budget, Limit, Memory, Read, Write}
+use Rattle.trac_streams.specs.declared.ending.Ending.TheVariants.{NotUnderstood}
 use Rattle.trac_rules.specs.Fronts.{IsFrontOf}
 use Rattle.trac_streams.specs.Reading.{CameBy, CountsReads, end_reads, empty_reads, fault_reads}
 
@@ -20,7 +22,8 @@ abbrev pub ending_of_feed : Refusal → Ending
 ending_of_feed refusals.Memory = Memory
 ending_of_feed refusal = Limit
 
--- what an ending says of the stated output: without a fault, and with memory enough, all of it is written, and the ending is the stated one
+-- what an ending says of the stated output: without a fault, and with memory enough, all of it is written,
+-- and the ending is the stated one
 abbrev pub Shows : Ending → List ℕ → Output → Type 0
 Shows Ended written o = o ≡ record { bytes = written; stop = InputEnded }
 Shows Budget written o = o ≡ record { bytes = written; stop = BudgetSpent }
@@ -33,15 +36,17 @@ Shows (NotUnderstood line) written o = ⊥
 
 -- ---- a whole run
 
--- a run of so many steps reads no more bytes than this: for each step as many as a tape may have, then a tape that no step reads, and
--- one read for which that has no place
+-- a run of so many steps reads no more bytes than this: for each step as many as a tape may have, then a tape that no
+-- step reads, and one read for which that has no place
 abbrev pub most_read : ℕ → ℕ
 most_read steps = steps * TAPE_LIMIT + (TAPE_LIMIT + READ_SIZE)
 
--- a run read some bytes, and perhaps saw the end of the input, and wrote some: however the input goes on after what
--- was read (not at all where the end was seen), what was written is a front of the output that is stated for all of
--- the input, and its ending is the stated one where it is not a fault or want of memory: all is written then. It read no more than `most`
-pub record Runs (in_old in_new out_old out_new : Option (List ℕ)) (stated : List ℕ → Output) (most : ℕ) (ending : Ending) : Type 0 where
+-- a run read some bytes, and perhaps saw the end of the input, and wrote some: however the input goes on after
+-- what was read (not at all where the end was seen), what was written is a front of the output that is stated for
+-- all of the input, and its ending is the stated one where it is not a fault or want of memory: all is written
+-- then. It read no more than `most`
+pub record Runs (in_old in_new out_old out_new : Option (List ℕ)) (stated : List ℕ → Output) (most : ℕ)
+    (ending : Ending) : Type 0 where
   pub got : List ℕ
   pub few : length got ≤ most
   pub written : List ℕ
@@ -58,9 +63,10 @@ pub record Runs (in_old in_new out_old out_new : Option (List ℕ)) (stated : Li
 abbrev pub most_reads : ℕ → ℕ
 most_reads steps = (steps + 1) * (TAPE_LIMIT + 1)
 
--- a run, of which what it did is counted: it read no more bytes than so many steps may take, and just so often, by one read for each byte
--- at most and one that gave nothing
-pub record RunsBy (in_old in_new out_old out_new : Option (List ℕ)) (stated : List ℕ → Output) (steps reads : ℕ) (ending : Ending) : Type 0 where
+-- a run, of which what it did is counted: it read no more bytes than so many steps may take, and just so often, by one
+-- read for each byte at most and one that gave nothing
+pub record RunsBy (in_old in_new out_old out_new : Option (List ℕ)) (stated : List ℕ → Output) (steps reads : ℕ)
+    (ending : Ending) : Type 0 where
   pub runs : Runs in_old in_new out_old out_new stated (most_read steps) ending
   pub counted : CountsReads reads runs.got runs.saw_end ending
   pub few_reads : reads ≤ most_reads steps
@@ -100,33 +106,39 @@ turns_left p n = n * (TAPE_LIMIT + 2) + (TAPE_LIMIT - length p.tape.bytes) + (if
 abbrev pub unread_count : PlainSession → ℕ
 unread_count p = length p.tape.bytes - p.last.position
 
--- what was to be written from one session on, is what was written and what is to be written from the other on. What was read is unread
--- there, or steps took it, each no more than a tape may have
-pub record GoesOn (in_old in_new out_old out_new : Option (List ℕ)) (reads_old reads_new : ℕ) (p : PlainSession) (m : ℕ) (q : PlainSession) (n : ℕ) : Type 0 where
+-- what was to be written from one session on, is what was written and what is to be written from the other on. What was
+-- read is unread there, or steps took it, each no more than a tape may have
+pub record GoesOn (in_old in_new out_old out_new : Option (List ℕ)) (reads_old reads_new : ℕ) (p : PlainSession) (m : ℕ)
+    (q : PlainSession) (n : ℕ) : Type 0 where
   pub got : List ℕ
   pub written : List ℕ
   pub took : Consumes in_old in_new got
   pub gave : Appends out_old out_new written
   pub closed : p.tape.ended ≡ true → (got ≡ []) × (q.tape.ended ≡ true)
   pub at_end : q.tape.ended ≡ true → IsAtEnd in_new
-  pub rest : (more : List ℕ) → (q.tape.ended ≡ true → more ≡ []) → going_on_from p (got ++ more) m ≡ prepended written (going_on_from q more n)
+  pub rest : (more : List ℕ) → (q.tape.ended ≡ true → more ≡ []) →
+      going_on_from p (got ++ more) m ≡ prepended written (going_on_from q more n)
   pub fits : length p.tape.bytes ≤ TAPE_LIMIT → length q.tape.bytes ≤ TAPE_LIMIT
-  pub few : length p.tape.bytes ≤ TAPE_LIMIT → length got + unread_count p + n * TAPE_LIMIT ≤ unread_count q + m * TAPE_LIMIT
+  pub few : length p.tape.bytes ≤ TAPE_LIMIT →
+      length got + unread_count p + n * TAPE_LIMIT ≤ unread_count q + m * TAPE_LIMIT
   pub full : ℕ
   pub came : CameBy full got
   pub counted : reads_new + end_reads p.tape.ended ≡ reads_old + full + end_reads q.tape.ended
 
--- what was written is a front of what was to be written from a session on, and the ending is the stated one. No more was read than may be,
--- with so many of the steps still left, and no more often
-pub record Finishes (in_old in_new out_old out_new : Option (List ℕ)) (reads_old reads_new : ℕ) (p : PlainSession) (m n : ℕ) (ending : Ending) : Type 0 where
+-- what was written is a front of what was to be written from a session on, and the ending is the stated one. No more
+-- was read than may be, with so many of the steps still left, and no more often
+pub record Finishes (in_old in_new out_old out_new : Option (List ℕ)) (reads_old reads_new : ℕ) (p : PlainSession)
+    (m n : ℕ) (ending : Ending) : Type 0 where
   pub got : List ℕ
   pub written : List ℕ
   pub took : Consumes in_old in_new got
   pub gave : Appends out_old out_new written
   pub closed : p.tape.ended ≡ true → got ≡ []
   pub at_end : p.tape.ended ≡ true → IsAtEnd in_new
-  pub front : (more : List ℕ) → (p.tape.ended ≡ true → more ≡ []) → IsFrontOf written (going_on_from p (got ++ more) m).bytes
-  pub shows : (more : List ℕ) → (p.tape.ended ≡ true → more ≡ []) → Shows ending written (going_on_from p (got ++ more) m)
+  pub front : (more : List ℕ) → (p.tape.ended ≡ true → more ≡ []) →
+      IsFrontOf written (going_on_from p (got ++ more) m).bytes
+  pub shows : (more : List ℕ) → (p.tape.ended ≡ true → more ≡ []) →
+      Shows ending written (going_on_from p (got ++ more) m)
   pub few : length p.tape.bytes ≤ TAPE_LIMIT → length got + unread_count p + n * TAPE_LIMIT ≤ most_read m
   pub full : ℕ
   pub came : CameBy full got
@@ -138,9 +150,11 @@ pub record Finishes (in_old in_new out_old out_new : Option (List ℕ)) (reads_o
 
 -- the reader gave these bytes, which were fed, or gave none, which is the end
 abbrev pub FeedsOrEnds : PlainSession → List ℕ → PlainSession → Option (List ℕ) → Type 0
-FeedsOrEnds p got q rest = ((got ≡ []) × IsAtEnd rest × (answer End p ≡ done q)) ⊎ ((0 < length got) × (answer (Feed got) p ≡ done q))
+FeedsOrEnds p got q rest =
+    ((got ≡ []) × IsAtEnd rest × (answer End p ≡ done q)) ⊎ ((0 < length got) × (answer (Feed got) p ≡ done q))
 
--- why the bytes that the reader gave were not fed: it gave none for a fault, or there is no memory, or more is unread than any text may hold
+-- why the bytes that the reader gave were not fed: it gave none for a fault, or there is no memory, or more
+-- is unread than any text may hold
 abbrev pub EndsFor : Ending → PlainSession → List ℕ → Type 0
 EndsFor Read p got = got ≡ []
 EndsFor Memory p got = Unit {0}
@@ -150,7 +164,8 @@ EndsFor Budget p got = ⊥
 EndsFor Write p got = ⊥
 EndsFor (NotUnderstood line) p got = ⊥
 
--- the reader took these bytes from its input, no more than one read gives, and none only where it failed; and the session stays as it was
+-- the reader took these bytes from its input, no more than one read gives, and none only where it failed;
+-- and the session stays as it was
 pub record TakesNone (in_old in_new : Option (List ℕ)) (p q : PlainSession) (ending : Ending) : Type 0 where
   pub got : List ℕ
   pub few : length got ≤ READ_SIZE

@@ -4,7 +4,8 @@ ghost use Rattle.std.specs.Io.KnownBytes.{Appends, IsAtEnd};
 ghost use Rattle.trac_rules.specs.Session.{PlainSession, Feed, Step, Commit, done, new_session, refused, answer};
 ghost use Rattle.trac_rules.specs.Running.{output_of};
 ghost use Rattle.trac_streams.specs.Written.{WritesFront};
-ghost use Rattle.trac_run.specs.Runs.{Runs, RunsBy, TakesSteps, most_read, most_reads, ending_of_feed as ending_of, IsFresh, GoesOn, Finishes, TakesMore, TakesNone, StillWaits, turns_left};
+ghost use Rattle.trac_run.specs.Runs.{Runs, RunsBy, TakesSteps, most_read, most_reads, ending_of_feed as ending_of};
+ghost use Rattle.trac_run.specs.Runs.{IsFresh, GoesOn, Finishes, TakesMore, TakesNone, StillWaits, turns_left};
 
 use memchr::memchr;
 use std::alloc::Allocator;
@@ -15,11 +16,13 @@ use trac_session::Session;
 use trac_streams::writing::{finish, flush, write_whole};
 use trac_streams::{BUDGET_LIMIT, Ending, Options, READ_SIZE};
 
-// How much the records of a run may weigh before it commits. An item of a form takes 8 bytes and weighs one, so these are some
-// 5 MiB of forms. A run never goes back, so it keeps them for nothing; and memory that is soon used again costs less than new.
+// How much the records of a run may weigh before it commits. An item of a form takes 8 bytes and weighs one, so
+// these are some 5 MiB of forms. A run never goes back, so it keeps them for nothing; and memory that is soon
+// used again costs less than new.
 const JOURNAL_WEIGHT: u64 = 8 * 1024 * 1024 / 12;
 
-// After how many steps a run commits at the latest. It never goes back, and a short journal stays in the processor's caches.
+// After how many steps a run commits at the latest. It never goes back, and a short journal stays
+// in the processor's caches.
 const TURN_STEPS: u64 = 8192;
 
 /// How a run ended, and what it did.
@@ -57,9 +60,9 @@ pub fn run<R: Read, W: Write, A: Allocator + Copy>(
     run_session(&mut session, input, output, options.budget).ending
 }
 
-/// Runs a new session as `run` does, by so many steps at most, and counts what it does. The session is left as the last step
-/// or commit made it: it took just the steps that are counted. Each read but the last gave a byte at least, and so did the
-/// last, unless it saw the end or failed. For each step, and once more, there are at most 33,554,433 reads.
+/// Runs a new session as `run` does, by so many steps at most, and counts what it does. The session is left as the last
+/// step or commit made it: it took just the steps that are counted. Each read but the last gave a byte at least, and so
+/// did the last, unless it saw the end or failed. For each step, and once more, there are at most 33,554,433 reads.
 pub fn run_session<R: Read, W: Write, A: Allocator + Copy>(
     session: &mut Session<A>,
     input: &mut R,
@@ -69,7 +72,8 @@ pub fn run_session<R: Read, W: Write, A: Allocator + Copy>(
     requires new { session.old ≡ new_session session.old.limit session.old.width }
     requires some_records { 1 ≤ session.old.limit }
     requires most_steps { budget ≤ BUDGET_LIMIT }
-    ensures runs { RunsBy (R.remaining input.old) (R.remaining input.new) (W.contents output.old) (W.contents output.new)
+    ensures runs { RunsBy (R.remaining input.old)
+        (R.remaining input.new) (W.contents output.old) (W.contents output.new)
         (λ text. output_of session.old.width text budget) result.steps result.reads result.ending }
     ensures within { result.steps ≤ budget }
     ensures steps { TakesSteps result.steps session.old session.new }
@@ -87,8 +91,8 @@ pub fn run_session<R: Read, W: Write, A: Allocator + Copy>(
     }
 }
 
-// Goes forward until a step is refused, the budget is spent, `TURN_STEPS` are taken or the records weigh enough; then reads,
-// commits or ends.
+// Goes forward until a step is refused, the budget is spent, `TURN_STEPS` are taken or the records weigh
+// enough; then reads, commits or ends.
 fn take_turn<R: Read, W: Write, A: Allocator + Copy>(
     session: &mut Session<A>,
     input: &mut R,
@@ -100,10 +104,10 @@ fn take_turn<R: Read, W: Write, A: Allocator + Copy>(
     requires at_end { session.old.tape.ended ≡ true → IsAtEnd (R.remaining input.old) }
     requires fits { length session.old.tape.bytes ≤ TAPE_LIMIT }
     requires few_reads { reads.old ≤ most_reads BUDGET_LIMIT }
-    ensures ok { OnOk result (GoesOn (R.remaining input.old) (R.remaining input.new) (W.contents output.old) (W.contents output.new)
-        reads.old reads.new session.old left.old session.new left.new) }
-    ensures err { IfErr result (Finishes (R.remaining input.old) (R.remaining input.new) (W.contents output.old) (W.contents output.new)
-        reads.old reads.new session.old left.old left.new) }
+    ensures ok { OnOk result (GoesOn (R.remaining input.old) (R.remaining input.new) (W.contents output.old)
+        (W.contents output.new) reads.old reads.new session.old left.old session.new left.new) }
+    ensures err { IfErr result (Finishes (R.remaining input.old) (R.remaining input.new) (W.contents output.old)
+        (W.contents output.new) reads.old reads.new session.old left.old left.new) }
     ensures within { left.new ≤ left.old }
     ensures steps { TakesSteps (left.old - left.new) session.old session.new }
     ensures fresh { OnOk result (IsFresh session.new) }
@@ -135,7 +139,8 @@ fn release<W: Write, A: Allocator + Copy>(
 ) -> Result<(), Ending>
     ensures ok { OnOk result (Appends (W.contents output.old) (W.contents output.new) session.old.last.output) }
     ensures committed { OnOk result (answer (Commit 0) session.old ≡ done session.new) }
-    ensures err { IfErr result (λ ending. (ending ≡ Ending.Write) × WritesFront (W.contents output.old) (W.contents output.new) session.old.last.output) }
+    ensures err { IfErr result (λ ending.
+        (ending ≡ Ending.Write) × WritesFront (W.contents output.old) (W.contents output.new) session.old.last.output) }
     ensures steps { TakesSteps 0 session.old session.new }
 {
     write_whole(output, session.pending())?;
@@ -143,8 +148,8 @@ fn release<W: Write, A: Allocator + Copy>(
     Ok(())
 }
 
-// Takes input for a step that waits for it, and does not try the step while it is sure to go on waiting: so each byte of
-// a long line is looked at once.
+// Takes input for a step that waits for it, and does not try the step while it is sure to go on waiting: so each byte
+// of a long line is looked at once.
 fn take_input<R: Read, W: Write, A: Allocator + Copy>(
     session: &mut Session<A>,
     input: &mut R,
@@ -156,13 +161,14 @@ fn take_input<R: Read, W: Write, A: Allocator + Copy>(
     requires fits { length session.old.tape.bytes ≤ TAPE_LIMIT }
     requires some_records { 1 ≤ session.old.limit }
     requires few_reads { reads.old ≤ most_reads BUDGET_LIMIT }
-    ensures ok { (n : ℕ) → OnOk result (GoesOn (R.remaining input.old) (R.remaining input.new) (W.contents output.old) (W.contents output.new)
-        reads.old reads.new session.old n session.new n) }
-    ensures err { (n : ℕ) → IfErr result (Finishes (R.remaining input.old) (R.remaining input.new) (W.contents output.old) (W.contents output.new)
-        reads.old reads.new session.old (n + 1) (n + 1)) }
+    ensures ok { (n : ℕ) → OnOk result (GoesOn (R.remaining input.old) (R.remaining input.new) (W.contents output.old)
+        (W.contents output.new) reads.old reads.new session.old n session.new n) }
+    ensures err { (n : ℕ) → IfErr result (Finishes (R.remaining input.old) (R.remaining input.new)
+        (W.contents output.old) (W.contents output.new) reads.old reads.new session.old (n + 1) (n + 1)) }
     ensures steps { TakesSteps 0 session.old session.new }
     ensures fresh { OnOk result (IsFresh session.new) }
-    ensures fewer { (n : ℕ) → session.old.last.position ≡ 0 → OnOk result (turns_left session.new n < turns_left session.old n) }
+    ensures fewer { (n : ℕ) → session.old.last.position ≡ 0 →
+        OnOk result (turns_left session.new n < turns_left session.old n) }
 {
     let mut waits = take_piece(session, input, output, reads)?;
     while waits {
@@ -182,14 +188,16 @@ fn take_piece<R: Read, W: Write, A: Allocator + Copy>(
     requires on_tape { session.old.last.position ≤ length session.old.tape.bytes }
     requires some_records { 1 ≤ session.old.limit }
     requires few_reads { reads.old ≤ 2 * most_reads BUDGET_LIMIT }
-    ensures ok { (n : ℕ) → OnOk result (GoesOn (R.remaining input.old) (R.remaining input.new) (W.contents output.old) (W.contents output.new)
-        reads.old reads.new session.old n session.new n) }
-    ensures err { (n : ℕ) → IfErr result (Finishes (R.remaining input.old) (R.remaining input.new) (W.contents output.old) (W.contents output.new)
-        reads.old reads.new session.old (n + 1) (n + 1)) }
+    ensures ok { (n : ℕ) → OnOk result (GoesOn (R.remaining input.old) (R.remaining input.new) (W.contents output.old)
+        (W.contents output.new) reads.old reads.new session.old n session.new n) }
+    ensures err { (n : ℕ) → IfErr result (Finishes (R.remaining input.old) (R.remaining input.new)
+        (W.contents output.old) (W.contents output.new) reads.old reads.new session.old (n + 1) (n + 1)) }
     ensures steps { TakesSteps 0 session.old session.new }
     ensures fresh { OnOk result (IsFresh session.new) }
-    ensures fewer { (n : ℕ) → session.old.last.position ≡ 0 → OnOk result (turns_left session.new n < turns_left session.old n) }
-    ensures waits { IfOk result (λ waits. waits ≡ true → answer Step session.new ≡ refused Refusal.NeedInput session.new) }
+    ensures fewer { (n : ℕ) → session.old.last.position ≡ 0 →
+        OnOk result (turns_left session.new n < turns_left session.old n) }
+    ensures waits { IfOk result
+        (λ waits. waits ≡ true → answer Step session.new ≡ refused Refusal.NeedInput session.new) }
 {
     write_whole(output, session.pending())?;
     flush(output)?;
@@ -237,12 +245,14 @@ fn read_more<R: Read, A: Allocator + Copy>(
 // Whether a step that waits is sure to go on waiting once these bytes are fed. Where a byte is unread already,
 // it waits for the meta character.
 fn waits_after<A: Allocator + Copy>(session: &Session<A>, bytes: &[u8]) -> bool
-    ensures { (fed : PlainSession) → result ≡ true → answer (Feed bytes.now) session.now ≡ done fed → StillWaits session.now fed }
+    ensures { (fed : PlainSession) → result ≡ true → answer (Feed bytes.now) session.now ≡ done fed →
+        StillWaits session.now fed }
 {
     !session.unread().is_empty() && memchr(session.machine().meta(), bytes).is_none()
 }
 
-// How a run ends whose feed is refused: the input is not closed before its end was seen, so else a limit would be passed.
+// How a run ends whose feed is refused: the input is not closed before its end was seen, so else a
+// limit would be passed.
 fn ending_of_feed(refusal: Refusal) -> Ending
     ensures { result ≡ ending_of refusal }
 {

@@ -13,9 +13,9 @@ const INDENT: &[u8] = b"  ";
 
 const MOST_INDENTS: usize = 12;
 
-/// Puts the call that is performed next at the end of a line, with the number of its step. So many calls are begun, itself
-/// among them; it is set in by how many stand around it, the one that prints what is left of a text not counted. The error is
-/// that memory was refused, here and below.
+/// Puts the call that is performed next at the end of a line, with the number of its step. So many calls are begun,
+/// itself among them; it is set in by how many stand around it, the one that prints what is left of a text not counted.
+/// The error is that memory was refused, here and below.
 pub fn call_into<A: Allocator + Copy>(
     step: u64,
     depth: usize,
@@ -50,8 +50,8 @@ pub fn outcome_into<A: Allocator + Copy>(
     }
 }
 
-// Puts a value at the end of the line of its call. That it is empty is said in words that no shown value can follow; of a
-// primitive whose value always is, nothing is said.
+// Puts a value at the end of the line of its call. That it is empty is said in words that no shown value can follow; of
+// a primitive whose value always is, nothing is said.
 fn value_into<A: Allocator + Copy>(
     value: &[u8],
     before: Before,

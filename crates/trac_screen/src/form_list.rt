@@ -6,9 +6,9 @@ use trac_forms::{Form, Store};
 use trac_rules::item::Item;
 use trac_streams::{escaped_into, number_into};
 
-/// Puts a line for each form at the end of a text, by the bytes of the names: how many items the form has, and its name. It
-/// begins with a word, so that it is not taken for a line that says where the walker stands, nor for a prompt. The error is
-/// that memory was refused, here and below.
+/// Puts a line for each form at the end of a text, by the bytes of the names: how many items the form has, and its
+/// name. It begins with a word, so that it is not taken for a line that says where the walker stands, nor for a prompt.
+/// The error is that memory was refused, here and below.
 pub fn list_into<A: Allocator + Copy>(
     alloc: A,
     store: &Store<A>,

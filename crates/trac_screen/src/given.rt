@@ -5,8 +5,8 @@ use crate::sight::{Sight, performed_in};
 use std::alloc::{AllocError, Allocator};
 use trac_step::Args;
 
-/// The only byte that the call which the next step performs was given after its name: the number of its argument, and which
-/// byte of that it is, from 1. None where it was given none or several, or where no call is performed.
+/// The only byte that the call which the next step performs was given after its name: the number of its argument, and
+/// which byte of that it is, from 1. None where it was given none or several, or where no call is performed.
 pub fn only_byte<A: Allocator + Copy>(sight: &Sight<'_, A>) -> Option<(u64, u64)> {
     let arguments = performed_in(sight)?;
     let mut only = None;
@@ -20,8 +20,8 @@ pub fn only_byte<A: Allocator + Copy>(sight: &Sight<'_, A>) -> Option<(u64, u64)
     only
 }
 
-/// Puts a line at the end of a text that says which bytes this call was given, as `y` is told of them. The error is that
-/// memory was refused, here and below.
+/// Puts a line at the end of a text that says which bytes this call was given, as `y` is told of them. The error is
+/// that memory was refused, here and below.
 pub fn given_into<A: Allocator + Copy>(
     alloc: A,
     sight: &Sight<'_, A>,

@@ -1,5 +1,5 @@
-//! What a move reads off a machine. That the gap buffer has two ends is shown here once, and not by each function above that
-//! asks a machine something.
+//! What a move reads off a machine. That the gap buffer has two ends is shown here once, and not by each function above
+//! that asks a machine something.
 
 use std::alloc::Allocator;
 use trac_gap::TwoEnds;

@@ -1,5 +1,5 @@
 //! What a person is shown of a machine: the step that comes next, calls with their values, forms, and all of it on one
-//! screen.
+//! screen. All of it is this project's profile.
 #![tactic(auto)]
 
 mod calls;

@@ -4,7 +4,7 @@ use crate::screen_line::ScreenLine;
 use std::alloc::{AllocError, Allocator};
 use trac_rules::refusal::Refusal;
 
-/// A search forward stops after so many steps (this project's profile).
+/// A search forward stops after so many steps.
 pub const SEARCH_LIMIT: u64 = 10_000_000;
 
 /// Why a move stopped before its goal.
@@ -22,8 +22,8 @@ pub enum Stop {
     SpentUpTo(u64),
     /// So many steps were taken on the way to where the program waits or ends.
     Going,
-    /// The steps of a search were spent, which looked for the end of a call. The same command would be about another call
-    /// there.
+    /// The steps of a search were spent, which looked for the end of a call. The same command would
+    /// be about another call there.
     Unended,
     /// There is no step to go back over.
     AtFirst,
@@ -37,7 +37,8 @@ pub enum Stop {
     Outermost,
     /// The value of no function ends here.
     NoValue,
-    /// Nor of one that was performed since the first step that one can go back to; which were performed before is not known.
+    /// Nor of one that was performed since the first step that one can go back to; which were
+    /// performed before is not known.
     NoValueSince,
     /// Byte 0 was named, of the output, of a form or of an argument; the first is number 1.
     FromOne,
@@ -263,8 +264,8 @@ pub enum Forgetting {
     ForMostSteps,
 }
 
-/// Puts a line at the end of a text that says that this is the first step that is kept from now on, and why. The error is
-/// that memory was refused.
+/// Puts a line at the end of a text that says that this is the first step that is kept from now on, and why. The
+/// error is that memory was refused.
 pub fn window_into<A: Allocator + Copy>(
     alloc: A,
     first_step: u64,
@@ -287,8 +288,8 @@ fn forgotten(why: Forgetting) -> &'static [u8] {
     }
 }
 
-/// Puts a line at the end of a text that says that a line of input does not end the text that `rs` reads, since it has no
-/// meta character, which is this one. The error is that memory was refused.
+/// Puts a line at the end of a text that says that a line of input does not end the text that `rs` reads, since it has
+/// no meta character, which is this one. The error is that memory was refused.
 pub fn no_end_into<A: Allocator + Copy>(
     alloc: A,
     meta: u8,

@@ -12,12 +12,13 @@ const LABEL: &[u8] = b"FILE    ";
 // So many columns are left for the piece.
 const ROOM: usize = WIDTH - LABEL.len();
 
-// Of a line that has more, so many columns before the byte are shown after `..`, and more where what follows leaves room.
+// Of a line that has more, so many columns before the byte are shown after `..`, and more where
+// what follows leaves room.
 const ROOM_BEFORE: usize = ROOM / 2;
 
-/// Puts two lines at the end of a text: the line of the program that has the byte of this number, the first being number 0,
-/// and `^` under that byte. A long line is cut around it. Of a byte after the program nothing is put there. The error is that
-/// memory was refused, here and below.
+/// Puts two lines at the end of a text: the line of the program that has the byte of this number, the first being
+/// number 0, and `^` under that byte. A long line is cut around it. Of a byte after the program nothing is put there.
+/// The error is that memory was refused, here and below.
 pub fn piece_into<A: Allocator + Copy>(
     alloc: A,
     program: &[u8],

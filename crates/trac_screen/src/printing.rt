@@ -9,9 +9,9 @@ use trac_rules::primitive::{FormAction, Primitive};
 use trac_step::{Args, Core, Kind, Machine, Mark};
 use trac_text::front::beginning_of;
 
-/// Whether the next step prints more bytes than there is room for beside the output that is not released, though it would
-/// have room if all of that were: 16,777,216 bytes are kept at most (this project's profile). It takes no memory, and for
-/// `pf` time for the items of the form.
+/// Whether the next step prints more bytes than there is room for beside the output that is not released, though
+/// it would have room if all of that were: 16,777,216 bytes are kept at most. It takes no memory, and for `pf`
+/// time for the items of the form.
 pub fn lacks_output_room<A: Allocator + Copy>(machine: &Machine<A>) -> bool {
     lacks_room(machine)
 }
@@ -32,8 +32,8 @@ fn lacks_room<E: TwoEnds<u8, A>, M: TwoEnds<Mark, A>, A: Allocator + Copy>(
     len <= OUTPUT_LIMIT && len > OUTPUT_LIMIT.saturating_sub(machine.output().len())
 }
 
-// How long the line of a call is that is printed where the trace is on: with a `*` between two arguments, a `)` and a line
-// feed.
+// How long the line of a call is that is printed where the trace is on: with a `*` between two
+// arguments, a `)` and a line feed.
 fn line_len(kind: Kind, arguments: &Args<'_>) -> usize {
     let texts = arguments.joined().len();
     let marks = beginning_of(kind).len() + 2;

@@ -15,8 +15,8 @@ const OUTER_ROWS: usize = 3;
 
 const INNER_ROWS: usize = 8;
 
-// So many columns of scanned text stand left of the mark at most. A function that is begun takes two of them at least, so
-// the innermost of so many fill them.
+// So many columns of scanned text stand left of the mark at most. A function that is begun takes two of them at least,
+// so the innermost of so many fill them.
 const SCANNED: usize = 34;
 
 const SCANNED_ROWS: usize = SCANNED / 2 + 1;
@@ -41,9 +41,9 @@ pub struct Reach {
     pub printed: u64,
 }
 
-/// Puts the state at the end of a text, in at most 20 lines of 80 columns: the begun functions, the text with a mark between
-/// what is scanned and what is not yet, and the end of the output. It takes no more time for a long text, a large form or
-/// many forms than for small ones. The error is that memory was refused, here and below.
+/// Puts the state at the end of a text, in at most 20 lines of 80 columns: the begun functions, the text with a mark
+/// between what is scanned and what is not yet, and the end of the output. It takes no more time for a long text, a
+/// large form or many forms than for small ones. The error is that memory was refused, here and below.
 pub fn screen_into<A: Allocator + Copy>(
     alloc: A,
     machine: &Machine<A>,
@@ -53,8 +53,8 @@ pub fn screen_into<A: Allocator + Copy>(
     parts_into(alloc, machine, reach, out)
 }
 
-// All parts of the state. Here and below the machine may be of any representation: that the gap buffer is one is shown once,
-// by the public call, and not by each function.
+// All parts of the state. Here and below the machine may be of any representation: that the gap buffer is one is shown
+// once, by the public call, and not by each function.
 fn parts_into<E: TwoEnds<u8, A>, M: TwoEnds<Mark, A>, A: Allocator + Copy>(
     alloc: A,
     machine: &Core<E, M, A>,

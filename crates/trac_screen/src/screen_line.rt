@@ -5,7 +5,7 @@ use std::alloc::{AllocError, Allocator};
 use trac_rules::byte::LINE_FEED;
 use trac_streams::{escaped_into, number_into};
 
-/// How many columns a screen has (this project's profile).
+/// How many columns a screen has.
 pub const WIDTH: usize = 80;
 
 // Of a line of two parts the first has so many columns where both are long.
@@ -14,8 +14,8 @@ const FIRST_WIDTH: usize = 56;
 // What stands at the end of a line where more does not fit.
 const CUT: &[u8] = b"..";
 
-/// A line that is being written. What does not fit the screen is not kept, so that to show a little of a long text takes the
-/// same time as to show a short one.
+/// A line that is being written. What does not fit the screen is not kept, so that to show a little of a long text
+/// takes the same time as to show a short one.
 #[derive(Drop)]
 pub struct ScreenLine<A: Allocator + Copy> {
     bytes: Vec<u8, A>,
@@ -80,8 +80,8 @@ impl<A: Allocator + Copy> ScreenLine<A> {
         escaped_into(front(text, self.width.saturating_add(1)), &mut self.bytes)
     }
 
-    /// Puts an argument of a call at the end. With a comma or a parenthesis it stands in parentheses, as it would be written, so
-    /// that it is not taken for several. Of a long one what can be seen decides.
+    /// Puts an argument of a call at the end. With a comma or a parenthesis it stands in parentheses, as it would be
+    /// written, so that it is not taken for several. Of a long one what can be seen decides.
     pub fn show_argument(&mut self, text: &[u8]) -> Result<(), AllocError> {
         let seen = front(text, self.width.saturating_add(1));
         if !has_marks(seen) {
@@ -111,8 +111,8 @@ impl<A: Allocator + Copy> ScreenLine<A> {
         self.bytes.extend_from_slice(CUT)
     }
 
-    /// Cuts the line to the screen, and puts it at the end of a text, with another line after it. Where both are too long the
-    /// second has what the first leaves of the screen, or a third of it.
+    /// Cuts the line to the screen, and puts it at the end of a text, with another line after it. Where both are too
+    /// long the second has what the first leaves of the screen, or a third of it.
     pub fn end_before(mut self, next: Self, out: &mut Vec<u8, A>) -> Result<(), AllocError> {
         let width = self.width;
         let left = width.saturating_sub(next.columns());

@@ -1,5 +1,5 @@
-//! What is seen of a machine around the place that scanning has reached. Which representation the machine has is shown here
-//! once, and not by each function above that is asked what stands there.
+//! What is seen of a machine around the place that scanning has reached. Which representation the machine has is shown
+//! here once, and not by each function above that is asked what stands there.
 
 use std::alloc::Allocator;
 use trac_forms::Store;

@@ -7,8 +7,8 @@ use trac_step::{Args, Kind};
 use trac_text::front::beginning_of;
 use trac_text::matching::match_in;
 
-/// Puts a line at the end of a text: the number of the next step, which is this, and what that step does. The error is that
-/// memory was refused, here and below.
+/// Puts a line at the end of a text: the number of the next step, which is this, and what that step does. The error is
+/// that memory was refused, here and below.
 pub fn standing_into<A: Allocator + Copy>(
     alloc: A,
     step: u64,
@@ -20,8 +20,8 @@ pub fn standing_into<A: Allocator + Copy>(
     line.end_into(out)
 }
 
-/// The number of the next step, which is this, and what that step does: the call that it performs, or the rule of scanning
-/// that it follows.
+/// The number of the next step, which is this, and what that step does: the call that it performs, or the
+/// rule of scanning that it follows.
 pub fn next_into<A: Allocator + Copy>(
     step: u64,
     sight: &Sight<'_, A>,

@@ -45,8 +45,8 @@ pub enum Origin {
     There,
 }
 
-/// The beginning of a line: the number of the next step, which is this, and what the step does. The error is that memory was
-/// refused, here and below.
+/// The beginning of a line: the number of the next step, which is this, and what the step does. The error is that
+/// memory was refused, here and below.
 pub fn step_line<A: Allocator + Copy>(
     alloc: A,
     step: u64,

@@ -6,7 +6,8 @@ use Rattle.trac_rules.specs.declared.refusal.Refusal.TheVariants.{NotMet}
 use Rattle.trac_rules.specs.Session.{PlainSession, Command, Goal, IsWalk}
 use Rattle.trac_rules.specs.Stepping.{call_at}
 use Rattle.trac_rules.specs.Doubts.{is_doubtful}
-use Rattle.trac_rules.specs.Goals.{has_other_form, is_call_with, is_end_of, is_own_call, is_shallower, is_unprinted, leaves_at_most}
+use Rattle.trac_rules.specs.Goals.{has_other_form, is_call_with, is_end_of, is_own_call, is_shallower, is_unprinted}
+use Rattle.trac_rules.specs.Goals.{leaves_at_most}
 use Rattle.trac_session.specs.declared.goal.Goal as code
 
 -- whether a name is that of the call, byte for byte; where there is no call there is no name
@@ -18,16 +19,18 @@ is_named name (Some called) = bytes_eq called name
 abbrev pub is_call_of : List ℕ → Goal
 is_call_of name s = is_named name (call_at s)
 
--- what a search says of the walk that it was: a refusal ends both; without one the goal was met, or the steps were spent
+-- what a search says of the walk that it was: a refusal ends both; without one the goal was met, or
+-- the steps were spent
 abbrev pub outcome : Bool → Option Refusal → Option Refusal
 outcome met (Some refusal) = Some refusal
 outcome true None = None
 outcome false None = Some NotMet
 
--- a search is a walk to a goal, which is not met by standing still: where all the steps were taken and the goal is not met, it says so
+-- a search is a walk to a goal, which is not met by standing still: where all the steps were taken and
+-- the goal is not met, it says so
 abbrev pub IsSearch : Command → Goal → ℕ → PlainSession → ℕ → Option Refusal → PlainSession → Type 0
-IsSearch command goal n old steps why new =
-    (ended : Option Refusal) × IsWalk command goal n old steps ended new × (why ≡ outcome (nat_lt 0 steps && goal new.last) ended)
+IsSearch command goal n old steps why new = (ended : Option Refusal) × IsWalk command goal n old steps ended new
+    × (why ≡ outcome (nat_lt 0 steps && goal new.last) ended)
 
 -- the goals that the code names
 abbrev pub goal_of : {A : Type 0} → code.Goal A → Goal

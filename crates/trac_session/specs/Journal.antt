@@ -22,7 +22,8 @@ abbrev pub earlier_of : List Record → State → List State
 earlier_of [] t = []
 earlier_of (r ∷ records) t = led_on (state_before r t) (λ s. earlier_of records s)
 
--- a record is that of the step from one state to another: it says the one from the other, and weighs what a record of that step does
+-- a record is that of the step from one state to another: it says the one from the other, and weighs
+-- what a record of that step does
 pub record IsOfStep (r : Record) (s t : State) : Type 0 where
   pub says : state_before r t ≡ Some s
   pub weighs : weight r ≡ step_weight s
@@ -32,8 +33,8 @@ pub record IsAtStart (s : State) : Type 0 where
   pub nothing_pending : s.output ≡ []
   pub nothing_read : s.position ≡ 0
 
--- each record is that of a step, and of the state before something holds; the first of these states has no output, and stands at the
--- start of its tape: so it is from the beginning of a session, and after each commit
+-- each record is that of a step, and of the state before something holds; the first of these states has no output, and
+-- stands at the start of its tape: so it is from the beginning of a session, and after each commit
 abbrev pub AreRecords : (State → Type 0) → List Record → State → Type 0
 AreRecords Holds [] t = IsAtStart t
 AreRecords Holds (r ∷ records) t = (s : State) × IsOfStep r s t × Holds s × AreRecords Holds records s
@@ -64,9 +65,10 @@ pub record IsSound (limit : ℕ) (bytes : List ℕ) (journal : List Record) (mac
   pub on_tape : machine.state.position ≤ length bytes
   pub records : AreRecords (IsWithinReach machine (length bytes)) journal machine.state
 
--- what is true of the fields of every session: they are sound, the width is that of the machine's numbers, and each state but the first is
--- the step from the one before it
-pub record IsSession (limit : ℕ) (width : Width) (bytes : List ℕ) (ended : Bool) (journal : List Record) (machine : Shown) : Type 0 where
+-- what is true of the fields of every session: they are sound, the width is that of the machine's numbers, and each
+-- state but the first is the step from the one before it
+pub record IsSession
+    (limit : ℕ) (width : Width) (bytes : List ℕ) (ended : Bool) (journal : List Record) (machine : Shown) : Type 0 where
   pub sound : IsSound limit bytes journal machine
   pub wide : machine.width ≡ width
   pub trail : IsTrail (plain_of limit machine.width bytes ended journal machine.state)

@@ -13,8 +13,8 @@ use Rattle.trac_session.specs.Goals.{IsSearch}
 abbrev pub IsNeverMet : Goal → PlainSession → Type 0
 IsNeverMet goal p = All (λ s. goal s ≡ false) p.earlier
 
--- so many steps are left of those that are taken again, one at least, for which memory was refused: it is a step that takes memory, and
--- moves no plain byte
+-- so many steps are left of those that are taken again, one at least, for which memory was refused: it is a step that
+-- takes memory, and moves no plain byte
 pub record IsStopped (left : ℕ) (why : Refusal) (old new : PlainSession) : Type 0 where
   pub memory : why ≡ Memory
   pub some : 0 < left

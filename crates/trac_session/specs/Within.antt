@@ -5,10 +5,11 @@ use Rattle.trac_rules.specs.Session.{PlainSession, Goal, Step, IsWalk}
 use Rattle.trac_rules.specs.Weights.{weights_from}
 use Rattle.trac_session.specs.Goals.{outcome}
 
--- a walk of at most n steps forward to a goal that stops also where the records weigh more than `most`: it is a walk of as many steps as were
--- allowed to it, which are fewer than n only where it took one at least and the records weigh more after the last of them; before that
--- one they did not, where it was not the first
-pub record IsWalkWithin (most : ℕ) (goal : Goal) (n : ℕ) (old : PlainSession) (steps : ℕ) (why : Option Refusal) (new : PlainSession) : Type 0 where
+-- a walk of at most n steps forward to a goal that stops also where the records weigh more than `most`: it is a walk of
+-- as many steps as were allowed to it, which are fewer than n only where it took one at least and the records weigh
+-- more after the last of them; before that one they did not, where it was not the first
+pub record IsWalkWithin (most : ℕ) (goal : Goal) (n : ℕ) (old : PlainSession) (steps : ℕ) (why : Option Refusal)
+    (new : PlainSession) : Type 0 where
   pub allowed : ℕ
   pub within : allowed ≤ n
   pub walk : IsWalk Step goal allowed old steps why new
@@ -17,7 +18,8 @@ pub record IsWalkWithin (most : ℕ) (goal : Goal) (n : ℕ) (old : PlainSession
   -- a refusal ends it only where the records do not weigh too much, or where it took no step
   pub refused : MatchOption why (Unit {0}) (λ refusal. 0 < steps → weights_from new.earlier ≤ most)
 
--- a search is such a walk, as a search without that stop is a walk: where its steps were taken and the goal is not met, it says so
+-- a search is such a walk, as a search without that stop is a walk: where its steps were taken and
+-- the goal is not met, it says so
 abbrev pub IsSearchWithin : ℕ → Goal → ℕ → PlainSession → ℕ → Option Refusal → PlainSession → Type 0
-IsSearchWithin most goal n old steps why new =
-    (ended : Option Refusal) × IsWalkWithin most goal n old steps ended new × (why ≡ outcome (nat_lt 0 steps && goal new.last) ended)
+IsSearchWithin most goal n old steps why new = (ended : Option Refusal) × IsWalkWithin most goal n old steps ended new
+    × (why ≡ outcome (nat_lt 0 steps && goal new.last) ended)

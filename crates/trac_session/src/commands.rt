@@ -60,8 +60,7 @@ impl<A: Allocator + Copy> Session<A> {
     /// by that command. A refused command does not keep those after it from being carried out.
     ///
     /// After any list of commands, from any session, the session's states are those of the plain list to which each
-    /// accepted step adds the next state of the scanning rules, and from which each step back takes the last away
-    /// (this project's profile).
+    /// accepted step adds the next state of the scanning rules, and from which each step back takes the last away.
     ///
     /// Refused with `Memory`, with nothing done, where there is no memory for the list of replies, which is
     /// reserved first.

@@ -1,7 +1,9 @@
 //! What walks look for.
 ghost use Rattle.std.specs.Prelude.{◌≡◌, bytes_eq, is_some, map, option_copied, false, Some, true};
 ghost use Rattle.std.specs.List.{starts_with};
-ghost use Rattle.trac_rules.specs.Goals.{frame_at, has_other_form, is_begun_with, is_call_with, is_end_of, is_form_as, is_idle_printing, is_idle_reading, is_own_call, is_same_form, is_same_item, next_call};
+ghost use Rattle.trac_rules.specs.Goals.{frame_at, has_other_form, is_begun_with, is_call_with, is_end_of, is_form_as};
+ghost use Rattle.trac_rules.specs.Goals.{is_idle_printing, is_idle_reading, is_own_call, is_same_form, is_same_item};
+ghost use Rattle.trac_rules.specs.Goals.{next_call};
 ghost use Rattle.trac_rules.specs.declared.item.Item.{Item};
 ghost use Rattle.trac_rules.specs.State.{State};
 ghost use Rattle.trac_session.specs.Goals.{goal_of};
@@ -14,28 +16,30 @@ use trac_gap::TwoEnds;
 use trac_rules::width::Width;
 use trac_step::{Args, Core, Kind, Mark};
 
-/// What a walk looks for. Whether a state meets it is a definition (`trac_rules/specs/Goals.antt`), in this project's profile.
+/// What a walk looks for. Whether a state meets it is a definition (`trac_rules/specs/Goals.antt`).
 pub enum Goal<'a, A: Allocator + Copy = Global> {
-    /// The next step performs a call whose first arguments are these, its name first, each compared byte for byte. Where none
-    /// are given, any call.
+    /// The next step performs a call whose first arguments are these, its name first, each compared byte for byte.
+    /// Where none are given, any call.
     Call(&'a [&'a [u8]]),
-    /// The next step performs a call, but not the `ps` or the `rs` of the idle program `#(ps,#(rs))`. A program's own `rs`
-    /// that stands last in a text, with nothing gathered before it, cannot be told from that one, and is passed over too.
+    /// The next step performs a call, but not the `ps` or the `rs` of the idle program `#(ps,#(rs))`. A
+    /// program's own `rs` that stands last in a text, with nothing gathered before it, cannot be told from
+    /// that one, and is passed over too.
     OwnCall,
-    /// The next step performs the begun function of this number, the outermost being number 1: it stands at its end. Where a
-    /// text ends before its functions do, the idle program is loaded, and a later function that is begun so deep meets the goal.
+    /// The next step performs the begun function of this number, the outermost being number 1: it stands at
+    /// its end. Where a text ends before its functions do, the idle program is loaded, and a later function
+    /// that is begun so deep meets the goal.
     End(usize),
-    /// Fewer than this many functions are begun. On the way back from inside function number N, the outermost being number 1,
-    /// `Shallower(N)` is first met at the state before that function was begun.
+    /// Fewer than this many functions are begun. On the way back from inside function number N, the outermost being
+    /// number 1, `Shallower(N)` is first met at the state before that function was begun.
     Shallower(usize),
     /// At most so many bytes are left to scan.
     Rest(usize),
-    /// The next step performs a call, and the form of this name is another one than this: there is one on one side alone, or
-    /// the items or the place of the pointer differ. On the way back, with a copy of the form as it is now (`Form::copy`), this is
-    /// the call that changed it last.
+    /// The next step performs a call, and the form of this name is another one than this: there is one on one side
+    /// alone, or the items or the place of the pointer differ. On the way back, with a copy of the form as it is now
+    /// (`Form::copy`), this is the call that changed it last.
     OtherForm(&'a [u8], &'a Option<Form<A>>),
-    /// At most so many bytes of the output are not released yet. On the way back from where byte number `n` of it, from 0 on, is
-    /// printed, this is met first at the call that prints it.
+    /// At most so many bytes of the output are not released yet. On the way back from where byte number `n` of it, from
+    /// 0 on, is printed, this is met first at the call that prints it.
     Unprinted(usize),
     /// There is a doubt of the next step (`Session::doubts`), where numbers are of this width, which is that of the
     /// session.
@@ -68,8 +72,8 @@ impl<'a, A: Allocator + Copy> Goal<'a, A> {
     }
 }
 
-// Whether a machine shows a state that meets the goal. Here and below the machine may be of any representation: that the gap
-// buffer is one is shown once, where a session passes its machine on, and not at each call.
+// Whether a machine shows a state that meets the goal. Here and below the machine may be of any representation: that
+// the gap buffer is one is shown once, where a session passes its machine on, and not at each call.
 pub(crate) fn is_met<E: TwoEnds<u8, A>, M: TwoEnds<Mark, A>, A: Allocator + Copy>(
     machine: &Core<E, M, A>,
     goal: &Goal<'_, A>,

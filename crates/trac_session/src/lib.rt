@@ -1,4 +1,5 @@
 //! Sessions: a processor that goes forwards and backwards over an input that is fed to it, with a journal of its steps.
+//! Limits, refusals, what takes memory and what else T-64 does not name are this project's profile.
 #![tactic(auto)]
 
 mod commands;

@@ -8,8 +8,8 @@ use crate::session::Session;
 use std::alloc::Allocator;
 
 impl<A: Allocator + Copy> Session<A> {
-    /// Goes forward over plain bytes at the front of the active text, up to `most` of them and as many as the journal has
-    /// room for. Returns how many these are: as many steps. It takes no memory (this project's profile).
+    /// Goes forward over plain bytes at the front of the active text, up to `most` of them and as many as the journal
+    /// has room for. Returns how many these are: as many steps. It takes no memory.
     #[inline(always)]
     pub(crate) fn pass_plain(&mut self, most: u64) -> u64
         ensures passed { repeated Step result self.old ≡ Some self.new }
@@ -24,9 +24,9 @@ impl<A: Allocator + Copy> Session<A> {
         count as u64
     }
 
-    /// Goes back over steps that moved a byte each to the current text, up to `most` of them, until one that did something
-    /// else. Returns how many these are: fewer than `most` only where the step before did something else, or there is none. It
-    /// takes the same time however many they are, but for moving the bytes, and no memory (this project's profile).
+    /// Goes back over steps that moved a byte each to the current text, up to `most` of them, until one that did
+    /// something else. Returns how many these are: fewer than `most` only where the step before did something else, or
+    /// there is none. It takes the same time however many they are, but for moving the bytes, and no memory.
     pub fn pass_back(&mut self, most: u64) -> u64
         ensures passed { repeated Back result self.old ≡ Some self.new }
         ensures moved { HasMovedBack result self.old self.new }

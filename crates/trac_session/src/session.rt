@@ -4,7 +4,8 @@ ghost use Rattle.std.specs.List.{All};
 ghost use Rattle.trac_rules.specs.declared.reply.Reply.TheVariants.{Done};
 ghost use Rattle.trac_rules.specs.Fronts.{IsFrontOf};
 ghost use Rattle.trac_rules.specs.Reading.{unread};
-ghost use Rattle.trac_rules.specs.Session.{new_session, Feed, End, Step, Back, Commit, answer, Answers, first_kept, settled};
+ghost use Rattle.trac_rules.specs.Session.{new_session, Feed, End, Step, Back, Commit, answer, Answers, first_kept};
+ghost use Rattle.trac_rules.specs.Session.{settled};
 ghost use Rattle.trac_rules.specs.Trails.{IsTrail};
 ghost use Rattle.trac_rules.specs.Weights.{losses_from, weights_from};
 ghost use Rattle.trac_step.specs.Room.{HasRoom};
@@ -21,8 +22,8 @@ use trac_rules::refusal::Refusal;
 use trac_rules::width::Width;
 use trac_step::{Core, Machine, Mark, Tape};
 
-/// A processor with its input and a journal of its steps. It is seen as its limit, the width of numbers, a tape, and a list of
-/// states, from the first one that the last commit kept, or from the initial one; the last is the machine's.
+/// A processor with its input and a journal of its steps. It is seen as its limit, the width of numbers, a tape, and a
+/// list of states, from the first one that the last commit kept, or from the initial one; the last is the machine's.
 #[derive(Drop)]
 pub struct Session<A: Allocator + Copy = Global> {
     pub(crate) tape: SlidingBuf<u8, A>,
@@ -51,8 +52,8 @@ impl<A: Allocator + Copy> Model for Session<A> {
 }
 
 impl<A: Allocator + Copy> Session<A> {
-    /// A session in the initial state, with an empty tape and numbers of this width, which nothing changes later. Its journal
-    /// may hold so many records: 1 to 1,048,576 (this project's profile).
+    /// A session in the initial state, with an empty tape and numbers of this width, which nothing changes later. Its
+    /// journal may hold so many records: 1 to 1,048,576.
     /// Refused with `Memory` where the allocator refuses.
     pub fn new(alloc: A, limit: usize, width: Width) -> Result<Self, Refusal>
         requires some { 1 ≤ limit }
@@ -73,7 +74,7 @@ impl<A: Allocator + Copy> Session<A> {
 
     /// Adds these bytes to the end of the tape.
     /// Refused, with nothing changed, as `Closed` after the end of the input, as `TooLong` where the tape would pass
-    /// 33,554,432 bytes (this project's profile), and with `Memory` where the tape cannot grow.
+    /// 33,554,432 bytes, and with `Memory` where the tape cannot grow.
     pub fn feed(&mut self, bytes: &[u8]) -> Result<(), Refusal>
         ensures { Answers (Feed bytes.now) self.old (reply_of result) self.new }
     {
@@ -89,7 +90,7 @@ impl<A: Allocator + Copy> Session<A> {
         Ok(())
     }
 
-    /// The input ends after what was fed. A second time this changes nothing (this project's profile).
+    /// The input ends after what was fed. A second time this changes nothing.
     pub fn end(&mut self)
         ensures { answer End self.old ≡ record { reply = Done; session = self.new } }
     {
@@ -97,9 +98,10 @@ impl<A: Allocator + Copy> Session<A> {
     }
 
     /// Goes forward by one step.
-    /// Refused, with nothing changed, as `JournalFull` where the journal holds as many records as it may; else as
-    /// `NeedInput` or `Ended` where the step reads input that is not there, and as `Ended` also where it performs `hl`;
-    /// else as `TooLong` where the state after the step passes a limit; and with `Memory` where there is not enough of it.
+    /// Refused, with nothing changed, as `JournalFull` where the journal holds as many records as it may;
+    /// else as `NeedInput` or `Ended` where the step reads input that is not there, and as `Ended` also where
+    /// it performs `hl`; else as `TooLong` where the state after the step passes a limit; and with `Memory`
+    /// where there is not enough of it.
     #[inline(always)]
     pub(crate) fn step(&mut self) -> Result<(), Refusal>
         ensures { Answers Step self.old (reply_of result) self.new }
@@ -128,7 +130,7 @@ impl<A: Allocator + Copy> Session<A> {
         Ok(())
     }
 
-    /// What is printed and not released yet. It takes no memory (this project's profile).
+    /// What is printed and not released yet. It takes no memory.
     pub fn pending(&self) -> &[u8]
         ensures { result.now ≡ self.now.last.output }
     {
@@ -136,7 +138,7 @@ impl<A: Allocator + Copy> Session<A> {
     }
 
     /// What is fed and not read yet. The whole tape, with what is read of it and not released, never passes 33,554,432
-    /// bytes. It takes no memory (this project's profile).
+    /// bytes. It takes no memory.
     pub fn unread(&self) -> &[u8]
         ensures rest { result.now ≡ unread self.now.tape self.now.last }
         ensures tape { length self.now.tape.bytes ≤ TAPE_LIMIT }
@@ -144,8 +146,8 @@ impl<A: Allocator + Copy> Session<A> {
         self.tape.as_slice().split_at(self.machine.position()).1
     }
 
-    /// What a commit that keeps so many steps releases: the output of the first state that stays. The outputs of the others
-    /// begin with it. It takes no memory, and time for the steps that the commit drops (this project's profile).
+    /// What a commit that keeps so many steps releases: the output of the first state that stays. The outputs of the
+    /// others begin with it. It takes no memory, and time for the steps that the commit drops.
     pub fn pending_before(&self, keep: usize) -> &[u8]
         ensures released { result.now ≡ (first_kept keep self.now).output }
         ensures begins { All (λ s. IsFrontOf result.now s.output) (self.now.last ∷ take keep self.now.earlier) }
@@ -155,11 +157,11 @@ impl<A: Allocator + Copy> Session<A> {
         output.split_at(printed).0
     }
 
-    /// Keeps the last state and so many steps before it, or all where there are fewer, and forgets what was before: the first
-    /// state that stays becomes the first one of all. Its output is released from it and from all after it, so read
-    /// `pending_before` first, and what it has read of the tape is dropped. With 0 the last state alone stays, all that is
-    /// pending is released, and the names of deleted forms are forgotten. It takes no memory and always succeeds, and takes
-    /// time for what it drops, and none for what it keeps (this project's profile).
+    /// Keeps the last state and so many steps before it, or all where there are fewer, and forgets what was before: the
+    /// first state that stays becomes the first one of all. Its output is released from it and from all after it, so
+    /// read `pending_before` first, and what it has read of the tape is dropped. With 0 the last state alone stays, all
+    /// that is pending is released, and the names of deleted forms are forgotten. It takes no memory and always
+    /// succeeds, and takes time for what it drops, and none for what it keeps.
     pub fn commit(&mut self, keep: usize)
         ensures { answer (Commit keep) self.old ≡ record { reply = Done; session = self.new } }
     {
@@ -178,8 +180,8 @@ impl<A: Allocator + Copy> Session<A> {
         self.journal.clear();
     }
 
-    // Keeps the last state and so many before it. What is released is told by the records that are dropped, since the first
-    // state of a session has no output and has read nothing.
+    // Keeps the last state and so many before it. What is released is told by the records that are dropped, since the
+    // first state of a session has no output and has read nothing.
     fn keep_last(&mut self, keep: usize)
         ensures { answer (Commit keep) self.old ≡ record { reply = Done; session = self.new } }
     {
@@ -191,7 +193,7 @@ impl<A: Allocator + Copy> Session<A> {
     }
 
     /// How many steps can be gone back over: never more than the limit that the session was made with, which is at most
-    /// 1,048,576. It takes no memory (this project's profile).
+    /// 1,048,576. It takes no memory.
     pub fn len(&self) -> usize
         ensures count { result ≡ length self.now.earlier }
         ensures within { result ≤ self.now.limit }
@@ -200,16 +202,16 @@ impl<A: Allocator + Copy> Session<A> {
         self.journal.len()
     }
 
-    /// Whether there is no step to go back over. It takes no memory (this project's profile).
+    /// Whether there is no step to go back over. It takes no memory.
     pub fn is_empty(&self) -> bool
         ensures { result ≡ (length self.now.earlier == 0) }
     {
         self.len() == 0
     }
 
-    /// What the records of the steps that can be gone back over weigh together: of what was destroyed bytes and items of
-    /// forms, and one for each comma, begun function, name and meta character; and one for each gap that a call made, but
-    /// not its place. Lengths, places and flags are not weighed (this project's profile). It takes no memory.
+    /// What the records of the steps that can be gone back over weigh together: of what was destroyed bytes and items
+    /// of forms, and one for each comma, begun function, name and meta character; and one for each gap that a call
+    /// made, but not its place. Lengths, places and flags are not weighed. It takes no memory.
     pub fn weight(&self) -> u64
         ensures together { result ≡ weights_from self.now.earlier }
         ensures within { result ≤ losses_from self.now.earlier }
@@ -217,7 +219,7 @@ impl<A: Allocator + Copy> Session<A> {
         self.journal.weight()
     }
 
-    /// How wide numbers are: as the session was made, and nothing changes it. It takes no memory (this project's profile).
+    /// How wide numbers are: as the session was made, and nothing changes it. It takes no memory.
     pub fn width(&self) -> Width
         ensures { result ≡ self.now.width }
     {
@@ -226,8 +228,7 @@ impl<A: Allocator + Copy> Session<A> {
 
     /// The machine, which shows the last state. It has room for that state and each before it, and knows the names of
     /// all their forms: so going back takes no memory. Each of these states but the first is the step from the one
-    /// before it, over the tape as it is now, whatever the session was told before. It takes no memory (this project's
-    /// profile).
+    /// before it, over the tape as it is now, whatever the session was told before. It takes no memory.
     pub fn machine(&self) -> &Machine<A>
         ensures last { result.now.state ≡ self.now.last }
         ensures width { result.now.width ≡ self.now.width }
@@ -241,8 +242,8 @@ impl<A: Allocator + Copy> Session<A> {
     }
 }
 
-// Releases what is printed, and takes what is read off the front of the tape. The machine may be of any representation: a
-// proof for a certain one shows anew, at each call, what its lists are.
+// Releases what is printed, and takes what is read off the front of the tape. The machine may be of any representation:
+// a proof for a certain one shows anew, at each call, what its lists are.
 fn settle<E: TwoEnds<u8, A>, M: TwoEnds<Mark, A>, A: Allocator + Copy>(
     machine: &mut Core<E, M, A>,
     tape: &mut SlidingBuf<u8, A>,

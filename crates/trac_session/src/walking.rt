@@ -47,7 +47,8 @@ impl<A: Allocator + Copy> Session<A> {
     fn pass(&mut self, direction: Direction, most: u64) -> u64
         ensures passed { repeated (command_towards direction) result self.old ≡ Some self.new }
         ensures most { result ≤ most }
-        ensures quiet { (k : ℕ) → (p : PlainSession) → 0 < k → k < result → repeated (command_towards direction) k self.old ≡ Some p → IsQuiet p.last }
+        ensures quiet { (k : ℕ) → (p : PlainSession) → 0 < k → k < result →
+            repeated (command_towards direction) k self.old ≡ Some p → IsQuiet p.last }
         ensures end { direction ≡ Forward → result < most → HasNoPlain self.new }
         ensures weight { direction ≡ Forward → weights_from self.new.earlier ≡ weights_from self.old.earlier }
     {
@@ -59,16 +60,19 @@ impl<A: Allocator + Copy> Session<A> {
         }
     }
 
-    // Goes this way by a step, or over bytes that a step each moves where no state before such a step meets the goal: by up to
-    // so many steps. Returns how many these are.
+    // Goes this way by a step, or over bytes that a step each moves where no state before such a step meets the goal:
+    // by up to so many steps. Returns how many these are.
     #[inline(always)]
     fn go_on(&mut self, direction: Direction, goal: &Goal<'_, A>, most: u64) -> Result<u64, Refusal>
         requires { 0 < most }
-        ensures refused { IfErr result (λ refusal. Answers (command_towards direction) self.old (Refused refusal) self.new) }
+        ensures refused { IfErr result
+            (λ refusal. Answers (command_towards direction) self.old (Refused refusal) self.new) }
         ensures some { IfOk result (λ steps. 0 < steps) }
         ensures most { IfOk result (λ steps. steps ≤ most) }
-        ensures walk { IfOk result (λ steps. IsWalk (command_towards direction) (goal_of goal.now) steps self.old steps None self.new) }
-        ensures light { direction ≡ Forward → IfOk result (λ steps. weights_from (drop 1 self.new.earlier) ≤ weights_from self.old.earlier) }
+        ensures walk { IfOk result
+            (λ steps. IsWalk (command_towards direction) (goal_of goal.now) steps self.old steps None self.new) }
+        ensures light { direction ≡ Forward →
+            IfOk result (λ steps. weights_from (drop 1 self.new.earlier) ≤ weights_from self.old.earlier) }
     {
         if goal.is_never_met_quietly() {
             let passed = self.pass(direction, most);
@@ -103,8 +107,8 @@ impl<A: Allocator + Copy> Session<A> {
         Walk { done, why: None }
     }
 
-    // Goes this way by up to `n` steps, until one is refused, which the walk returns. It has no goal, so bytes that a step
-    // each moves are passed at once: for no plain byte memory is refused.
+    // Goes this way by up to `n` steps, until one is refused, which the walk returns. It has no goal, so bytes that a
+    // step each moves are passed at once: for no plain byte memory is refused.
     fn go_far(&mut self, direction: Direction, n: u64) -> Walk
         ensures walk { IsWalk (command_towards direction) no_goal n self.old result.done result.why self.new }
         ensures asked { IsAsked result.why self.new.last }
@@ -125,8 +129,8 @@ impl<A: Allocator + Copy> Session<A> {
         Walk { done, why: None }
     }
 
-    // Goes forward by up to `n` steps, until one is refused, which the walk returns, or the goal is met, or the records weigh
-    // more than `most`.
+    // Goes forward by up to `n` steps, until one is refused, which the walk returns, or the goal is met, or the
+    // records weigh more than `most`.
     fn walk_within(&mut self, goal: &Goal<'_, A>, n: u64, most: u64) -> Walk
         ensures { IsWalkWithin most (goal_of goal.now) n self.old result.done result.why self.new }
     {
@@ -177,15 +181,16 @@ impl<A: Allocator + Copy> Session<A> {
         }
     }
 
-    // How many steps back a search may take: all that there are, and one even where there is none, which is then refused.
+    // How many steps back a search may take: all that there are, and one even where there is none,
+    // which is then refused.
     fn steps_back(&self) -> u64
         ensures { result ≡ max 1 (length self.now.earlier) }
     {
         self.len().max(1) as u64
     }
 
-    /// Goes forward by up to `n` steps, until one is refused: as `JournalFull`, `NeedInput`, `Ended`, `TooLong` or `Memory`,
-    /// which the walk returns (this project's profile).
+    /// Goes forward by up to `n` steps, until one is refused: as `JournalFull`, `NeedInput`, `Ended`, `TooLong` or
+    /// `Memory`, which the walk returns.
     pub fn forward(&mut self, n: u64) -> Walk
         ensures { IsWalk Step no_goal n self.old result.done result.why self.new }
     {
@@ -193,8 +198,8 @@ impl<A: Allocator + Copy> Session<A> {
     }
 
     /// Goes forward as `forward` does, and stops also after a step after which the records weigh more than `most`
-    /// (`Session::weight`): then no refusal is answered, and fewer than `n` steps may be done. So whoever never goes back can
-    /// commit before the records hold much memory (this project's profile).
+    /// (`Session::weight`): then no refusal is answered, and fewer than `n` steps may be done. So whoever never goes
+    /// back can commit before the records hold much memory.
     pub fn forward_within(&mut self, n: u64, most: u64) -> Walk
         ensures { IsWalkWithin most no_goal n self.old result.done result.why self.new }
     {
@@ -216,16 +221,16 @@ impl<A: Allocator + Copy> Session<A> {
     }
 
     /// Goes back over up to `n` steps, until there is no record left, which the walk returns as `AtStart`. It takes no
-    /// memory (this project's profile).
+    /// memory.
     pub fn back(&mut self, n: u64) -> Walk
         ensures { IsWalk Back no_goal n self.old result.done result.why self.new }
     {
         self.go_far(Direction::Backward, n)
     }
 
-    /// Goes forward by up to `n` steps, until the state meets the goal. That it did so already, before any step, does not
-    /// count. A refused step ends the walk as in `forward`; where `n` steps were taken and the goal is not met, the walk returns
-    /// `NotMet`, also where `n` is 0 (this project's profile).
+    /// Goes forward by up to `n` steps, until the state meets the goal. That it did so already, before any step, does
+    /// not count. A refused step ends the walk as in `forward`; where `n` steps were taken and the goal is not met, the
+    /// walk returns `NotMet`, also where `n` is 0.
     pub fn forward_to(&mut self, goal: Goal<'_, A>, n: u64) -> Walk
         ensures { IsSearch Step (goal_of goal.entry) n self.old result.done result.why self.new }
     {
@@ -233,9 +238,9 @@ impl<A: Allocator + Copy> Session<A> {
         self.searched(&goal, walk)
     }
 
-    /// Goes forward to a goal as `forward_to` does, and stops also after a step after which the records weigh more than `most`
-    /// (`Session::weight`): then it returns `NotMet` too, and fewer than `n` steps may be done. So a search that never goes back
-    /// further can commit before the records hold much memory (this project's profile).
+    /// Goes forward to a goal as `forward_to` does, and stops also after a step after which the records weigh more than
+    /// `most` (`Session::weight`): then it returns `NotMet` too, and fewer than `n` steps may be done. So a search that
+    /// never goes back further can commit before the records hold much memory.
     pub fn forward_to_within(&mut self, goal: Goal<'_, A>, n: u64, most: u64) -> Walk
         ensures { IsSearchWithin most (goal_of goal.entry) n self.old result.done result.why self.new }
     {
@@ -243,19 +248,20 @@ impl<A: Allocator + Copy> Session<A> {
         self.searched(&goal, walk)
     }
 
-    /// Goes back over steps, until the state meets the goal. That it did so already, before any step back, does not count; the
-    /// first state is tested too. Where all steps are gone back over and the goal is not met, the walk returns `NotMet`, and
-    /// where there is no step to go back over, `AtStart`. It takes no memory (this project's profile).
+    /// Goes back over steps, until the state meets the goal. That it did so already, before any step back, does not
+    /// count; the first state is tested too. Where all steps are gone back over and the goal is not met, the walk
+    /// returns `NotMet`, and where there is no step to go back over, `AtStart`. It takes no memory.
     pub fn back_to(&mut self, goal: Goal<'_, A>) -> Walk
-        ensures { IsSearch Back (goal_of goal.entry) (max 1 (length self.old.earlier)) self.old result.done result.why self.new }
+        ensures { IsSearch Back (goal_of goal.entry) (max 1 (length self.old.earlier)) self.old result.done
+            result.why self.new }
     {
         let walk = self.walk(Direction::Backward, &goal, self.steps_back());
         self.searched(&goal, walk)
     }
 
-    /// Goes back as `back_to` does, and where no earlier state meets the goal goes forward again, by as many steps: these give
-    /// the same states, so the session shows those that it had. Only where memory is refused for one of these steps it stands
-    /// before that one. To move a plain byte takes none, nor does the way back (this project's profile).
+    /// Goes back as `back_to` does, and where no earlier state meets the goal goes forward again, by as many steps:
+    /// these give the same states, so the session shows those that it had. Only where memory is refused for one of
+    /// these steps it stands before that one. To move a plain byte takes none, nor does the way back.
     pub fn return_to(&mut self, goal: Goal<'_, A>) -> Return
         ensures { IsReturn (goal_of goal.entry) self.old result self.new }
     {
@@ -278,19 +284,20 @@ impl<A: Allocator + Copy> Session<A> {
     /// Goes forward by up to `n` steps, until the next step would perform a function of this name, which is compared
     /// byte for byte. That it would do so already, before any step, does not count. A refused step ends the walk as
     /// in `forward`; where `n` steps were taken and the name was not met, the walk returns `NotMet`, also where `n`
-    /// is 0 (this project's profile).
+    /// is 0.
     pub fn until(&mut self, name: &[u8], n: u64) -> Walk
         ensures { IsSearch Step (is_call_of name.now) n self.old result.done result.why self.new }
     {
         self.forward_to(Goal::Call(&[name]), n)
     }
 
-    /// Goes back over steps, until the next step would perform a function of this name, which is compared byte for byte.
-    /// That it would do so already, before any step back, does not count; the first state is tested too. Where all steps are
-    /// gone back over and the name was not met, the walk returns `NotMet`, and where there is no step to go back over,
-    /// `AtStart`. It takes no memory (this project's profile).
+    /// Goes back over steps, until the next step would perform a function of this name, which is compared byte for
+    /// byte. That it would do so already, before any step back, does not count; the first state is tested too. Where
+    /// all steps are gone back over and the name was not met, the walk returns `NotMet`, and where there is no step to
+    /// go back over, `AtStart`. It takes no memory.
     pub fn back_until(&mut self, name: &[u8]) -> Walk
-        ensures { IsSearch Back (is_call_of name.now) (max 1 (length self.old.earlier)) self.old result.done result.why self.new }
+        ensures { IsSearch Back (is_call_of name.now) (max 1 (length self.old.earlier)) self.old result.done
+            result.why self.new }
     {
         self.back_to(Goal::Call(&[name]))
     }

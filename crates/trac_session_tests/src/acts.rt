@@ -119,7 +119,8 @@ fn goes_back_until(
     is_walk(session.back_until(name), done, why)
 }
 
-// Whether so many steps are taken, each with a commit after it. Before a commit there is one record more than it keeps at most.
+// Whether so many steps are taken, each with a commit after it. Before a commit there is one record
+// more than it keeps at most.
 fn goes_in_window(session: &mut Session<Memory<'_>>, n: u64, keep: usize) -> bool {
     for _ in 0..n {
         let is_taken = session.forward(1).why.is_none();
@@ -154,7 +155,8 @@ fn carry_out(rt: &impl Abort, alloc: Global, session: &mut Session<Memory<'_>>, 
     }
 }
 
-// Goes back as an act says, while every request for memory is refused, and says whether it is answered so. None is made.
+// Goes back as an act says, while every request for memory is refused, and says whether it is
+// answered so. None is made.
 fn go_back(memory: Memory<'_>, session: &mut Session<Memory<'_>>, act: &Act) -> bool {
     let requests = memory.requests();
     memory.refuse_all();
@@ -190,8 +192,8 @@ fn has_initial_parts<E: TwoEnds<u8, A>, M: TwoEnds<Mark, A>, A: Allocator + Copy
         && !machine.trace()
 }
 
-// Whether the part of a machine that an act speaks of is so. It is any machine: a proof for a certain one would show anew,
-// at each call, what its lists are.
+// Whether the part of a machine that an act speaks of is so. It is any machine: a proof for a certain one would show
+// anew, at each call, what its lists are.
 fn look_at<E: TwoEnds<u8, A>, M: TwoEnds<Mark, A>, A: Allocator + Copy>(
     rt: &impl Abort,
     alloc: Global,

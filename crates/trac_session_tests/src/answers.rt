@@ -14,8 +14,8 @@ use trac_rules::limit::{MARK_LIMIT, OUTPUT_LIMIT};
 use trac_rules::width::Width;
 use trac_step::{Core, Mark, Record, Tape};
 
-// Takes the next step over this input, which has not ended. The state after it is within all limits, as it always is, so the record
-// of the one after that weighs no more than fits.
+// Takes the next step over this input, which has not ended. The state after it is within all limits, as it always is,
+// so the record of the one after that weighs no more than fits.
 fn next<E: TwoEnds<u8, A>, M: TwoEnds<Mark, A>, A: Allocator + Copy>(
     rt: &impl Abort,
     machine: &mut Core<E, M, A>,
@@ -75,8 +75,8 @@ fn next_is_idle<E: TwoEnds<u8, A>, M: TwoEnds<Mark, A>, A: Allocator + Copy>(
     is_idle(&next(rt, machine, input), wanted)
 }
 
-// Inputs, the number of an idle step, and the base text that it empties. The `ps` of the idle program has ended by then; a stray `)`
-// ends it early, so that `b` and `c` are base text.
+// Inputs, the number of an idle step, and the base text that it empties. The `ps` of the idle program has ended by
+// then; a stray `)` ends it early, so that `b` and `c` are base text.
 const IDLE_STEPS: &[(&[u8], u64, &[u8])] = &[(b"AB'", 12, b""), (b"a)b,c'", 15, b"bc")];
 
 fn expect_idle<E: TwoEnds<u8, A>, M: TwoEnds<Mark, A>, A: Allocator + Copy>(
@@ -92,9 +92,9 @@ fn expect_idle<E: TwoEnds<u8, A>, M: TwoEnds<Mark, A>, A: Allocator + Copy>(
     assert!(rt; is_met, "step {number} of {input:?}");
 }
 
-// Inputs, the number of a step, and what its record weighs: of a byte that moves nothing, of a deleted one 1, of the base text
-// that an idle step empties its bytes, and of a call the bytes of its arguments with one for each comma, for a meta character that
-// it sets, for a gap that it makes, and for the form that it deletes its name, its byte and one.
+// Inputs, the number of a step, and what its record weighs: of a byte that moves nothing, of a deleted one 1, of the
+// base text that an idle step empties its bytes, and of a call the bytes of its arguments with one for each comma, for
+// a meta character that it sets, for a gap that it makes, and for the form that it deletes its name, its byte and one.
 const WEIGHTS: &[(&[u8], u64, usize)] = &[
     (b"AB'", 8, 2),
     (b"AB'", 9, 0),

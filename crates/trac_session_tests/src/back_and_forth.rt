@@ -23,8 +23,8 @@ const ELEVEN_STEPS_AND_BACK: &[Act] = &[
     Initial,
 ];
 
-// A stray `)` ends the idle program's `ps`, which weighs 4: what is read after it goes to the base text. Each deleted byte weighs
-// 1, and the base text 2, which the idle step empties, and which comes back from its record.
+// A stray `)` ends the idle program's `ps`, which weighs 4: what is read after it goes to the base text. Each deleted
+// byte weighs 1, and the base text 2, which the idle step empties, and which comes back from its record.
 const THE_BASE_TEXT_COMES_BACK: &[Act] = &[
     Feed(b"a)b,c'"),
     ForwardRefused(99, 22, NeedInput),
@@ -49,8 +49,8 @@ const THE_BASE_TEXT_COMES_BACK: &[Act] = &[
 // A `(` without a match protects all the rest.
 const AN_UNMATCHED_OPENING: &[Act] = &[Feed(b"((a'"), Forward(9), Shows(b"#(ps,(a)^")];
 
-// `rs` has read `AB`: it goes before the active text, and `ps` gathers its second argument. The same is read again after
-// one step back, though the tape has grown.
+// `rs` has read `AB`: it goes before the active text, and `ps` gathers its second argument. The same is read again
+// after one step back, though the tape has grown.
 const MORE_INPUT_IS_WAITED_FOR: &[Act] = &[
     Feed(b"AB"),
     ForwardRefused(8, 7, NeedInput),
@@ -165,8 +165,9 @@ const A_DELETED_FORM_WEIGHS: &[Act] = &[
     Forms(1),
 ];
 
-// Whoever keeps steps keeps the first of their states as the start: what was printed until then is released, and what was
-// read until then is dropped. After nine steps nothing is printed and three bytes are read, after eleven `AB` is printed.
+// Whoever keeps steps keeps the first of their states as the start: what was printed until then is
+// released, and what was read until then is dropped. After nine steps nothing is printed and three bytes
+// are read, after eleven `AB` is printed.
 const A_WINDOW_OF_TEN: &[Act] = &[
     Feed(b"AB'"),
     Forward(19),
@@ -225,8 +226,8 @@ const A_WINDOW_OF_ALL: &[Act] = &[
     Initial,
 ];
 
-// Of the records that stay `ps` with `AB` weighs 5. The second commit releases what the first one kept, and what was not read
-// before is read after it.
+// Of the records that stay `ps` with `AB` weighs 5. The second commit releases what the first one kept, and what was
+// not read before is read after it.
 const A_WINDOW_AFTER_A_WINDOW: &[Act] = &[
     Feed(b"AB'C'"),
     Forward(11),
@@ -256,8 +257,8 @@ const A_WINDOW_AFTER_A_WINDOW: &[Act] = &[
     Shows(b"#(ps,#(rs^))"),
 ];
 
-// With a commit after each step the journal never holds more than one record beside those that it keeps, and is never full.
-// `AB` is printed by the eleventh step: five steps later the window has passed it.
+// With a commit after each step the journal never holds more than one record beside those that it keeps, and is never
+// full. `AB` is printed by the eleventh step: five steps later the window has passed it.
 const A_COMMIT_AFTER_EACH_STEP: &[Act] = &[
     Feed(b"AB'"),
     ForwardInWindow(15, 5),
@@ -273,7 +274,8 @@ const A_COMMIT_AFTER_EACH_STEP: &[Act] = &[
     Pending(b""),
 ];
 
-// Ten plain bytes after eight steps, over which walks of each length go: to the end of the run, to within it, and past it.
+// Ten plain bytes after eight steps, over which walks of each length go: to the end of the run, to
+// within it, and past it.
 const A_RUN_OF_PLAIN_BYTES: &[Act] = &[
     Feed(b"ABCDEFGHIJ'"),
     Forward(12),
@@ -322,8 +324,8 @@ const A_FULL_JOURNAL: &[Act] = &[
     Back(0),
 ];
 
-// One text fills the tape. One that is a byte longer is refused and nothing of it is fed. So is a byte after the longest, and a
-// value one byte longer than the texts may be.
+// One text fills the tape. One that is a byte longer is refused and nothing of it is fed. So is a byte after the
+// longest, and a value one byte longer than the texts may be.
 const LIMITS_ARE_KEPT: &[Act] = &[
     LettersRefused(33_554_433, TooLong),
     UnreadLetters(0),

@@ -38,8 +38,8 @@ fn is_among(numbers: &[u64], number: u64) -> bool {
     false
 }
 
-/// What a machine shows after a walk, all else being as at the start: its active text, its output, and how many bytes are
-/// read; and the room for texts, marks and output with which it is loaded.
+/// What a machine shows after a walk, all else being as at the start: its active text, its output, and how many bytes
+/// are read; and the room for texts, marks and output with which it is loaded.
 #[derive(Clone, Copy)]
 struct After {
     active: &'static [u8],
@@ -124,7 +124,8 @@ fn loaded_after<E: TwoEnds<u8, A>, M: TwoEnds<Mark, A>, A: Allocator + Copy>(
     alloc: A,
     after: After,
 ) -> Result<Core<E, M, A>, Refusal>
-    ensures { IfOk result (IsLoaded (begun_with after.active.now after.output.now after.position) after.text_room after.mark_room after.output_room) }
+    ensures { IfOk result (IsLoaded (begun_with after.active.now after.output.now after.position) after.text_room
+        after.mark_room after.output_room) }
 {
     let parts = Parts {
         active: Vec::from_slice(alloc, after.active).expect(rt, "there was no memory"),
@@ -153,7 +154,8 @@ fn expect_back<E: TwoEnds<u8, A>, M: TwoEnds<Mark, A>, A: Allocator + Copy>(
     after: After,
     steps: u64,
 )
-    requires { (m : Shown) → IsLoaded (begun_with after.active.now after.output.now after.position) after.text_room after.mark_room after.output_room m → LeadsTo (over_whole walk.now.input.now) steps initial m }
+    requires { (m : Shown) → IsLoaded (begun_with after.active.now after.output.now after.position) after.text_room
+        after.mark_room after.output_room m → LeadsTo (over_whole walk.now.input.now) steps initial m }
 {
     let mut machine: Core<E, M, A> = Core::new(alloc, Width::W128).expect(
         rt,

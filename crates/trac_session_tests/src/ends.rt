@@ -1,5 +1,5 @@
-//! Lists with two ends, of both types that there are: worked calls, and copies, of which each request for memory is refused in
-//! turn. What any call leaves in the lists is in its contract.
+//! Lists with two ends, of both types that there are: worked calls, and copies, of which each request for memory is
+//! refused in turn. What any call leaves in the lists is in its contract.
 use crate::memory::Memory;
 use std::alloc::{Allocator, Global};
 use std::process::Abort;
@@ -94,8 +94,8 @@ const LINES: &[Line] = &[
     ),
 ];
 
-// On lists that have room for sixteen. Of the list on the right, which takes what room there is, these are the first items: more
-// are moved across the gap than it has places, and moved back.
+// On lists that have room for sixteen. Of the list on the right, which takes what room there is, these are the first
+// items: more are moved across the gap than it has places, and moved back.
 const FAR_LINES: &[Line] = &[
     (
         &[Call::PutLeft(b"abcdefgh"), Call::FillRight],
@@ -174,8 +174,8 @@ fn with_room<E: TwoEnds<u8, A>, A: Allocator + Copy>(rt: &impl Abort, alloc: A, 
     ends
 }
 
-// The list on the left is this one, and that on the right begins so, or is this one where no room is left for more; and these are
-// the lists of a copy.
+// The list on the left is this one, and that on the right begins so, or is this one where no room is left for more; and
+// these are the lists of a copy.
 fn expect_both<E: TwoEnds<u8, A>, A: Allocator + Copy>(
     rt: &impl Abort,
     ends: &E,

@@ -1,5 +1,5 @@
-//! How many bytes a session holds: what its rooms take, a fixed number for each record, and some for each unit that its records
-//! weigh. So no copy of a state hides in it, which no clause could tell: clauses speak of what a session shows.
+//! How many bytes a session holds: what its rooms take, a fixed number for each record, and some for each unit that its
+//! records weigh. So no copy of a state hides in it, which no clause could tell: clauses speak of what a session shows.
 ghost use Rattle.std.specs.Prelude.{◌≤◌};
 
 use crate::sessions::let_go;
@@ -19,18 +19,18 @@ const LONG: usize = 20_000;
 // How many bytes there are. A copy of the state in each record would take a hundred times as many.
 const HEAP_SIZE: usize = 16 * 1024 * 1024;
 
-// How many bytes the rooms may take beside what is held before them: text, output, what calls make and print, each with as much
-// to spare, and eight bytes for each item of a form.
+// How many bytes the rooms may take beside what is held before them: text, output, what calls make and print, each with
+// as much to spare, and eight bytes for each item of a form.
 const ROOMS: usize = 24 * LONG;
 
-// How many bytes each record may take, and each unit of weight: a list that grows has places for twice as many at most, an item of
-// a form has eight bytes, and so has a comma with its place.
+// How many bytes each record may take, and each unit of weight: a list that grows has places for twice as many at most,
+// an item of a form has eight bytes, and so has a comma with its place.
 const RECORD_BYTES: usize = 256;
 
 const WEIGHT_BYTES: usize = 32;
 
-// What is done many times, while a long text is gathered and a long one is printed and not released: calls, one of them on a form
-// and one on its pointer, protected texts, deleted bytes and moved ones.
+// What is done many times, while a long text is gathered and a long one is printed and not released: calls, one of them
+// on a form and one on its pointer, protected texts, deleted bytes and moved ones.
 const REPEATED: &[u8] = b"#(eq,a,b,c,(d))##(ds,G,x)#(cc,F)\t(e)#f";
 
 const TIMES: usize = 200;

@@ -1,9 +1,9 @@
-//! Tests of the machine and of sessions, of lists with two ends, and of the memory that refuses what it is told to, on which
-//! all further tests rest. The library itself has the programs that they run.
+//! Tests of the machine and of sessions, of lists with two ends, and of the memory that refuses what it is told to, on
+//! which all further tests rest. The library itself has the programs that they run.
 //!
-//! All that a machine or a session is told stands in tables, and one loop carries it out: what a test's proof costs grows with
-//! the calls that stand in it. Each call stands in a helper that promises nothing. Expected values come from the definition of
-//! the language, not from this program.
+//! All that a machine or a session is told stands in tables, and one loop carries it out: what a test's proof costs
+//! grows with the calls that stand in it. Each call stands in a helper that promises nothing. Expected values come from
+//! the definition of the language, not from this program.
 #![tactic(auto)]
 
 #[cfg(test)]

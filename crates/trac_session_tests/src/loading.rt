@@ -1,5 +1,5 @@
-//! A machine that is loaded from the parts of a state: it shows that state, and each request for memory is refused in turn. Parts
-//! that are at a limit are loaded, and parts that pass it are refused.
+//! A machine that is loaded from the parts of a state: it shows that state, and each request for memory is refused in
+//! turn. Parts that are at a limit are loaded, and parts that pass it are refused.
 use crate::machines::{Memory, expect_shown, let_go};
 use std::alloc::{Allocator, Global};
 use std::process::Abort;
@@ -29,10 +29,10 @@ const FORMS: &[(&[u8], &[u8])] = &[(b"A", b"ab"), (b"", b"null"), (b"A", b"c")];
 // The same of a block, in which the form that is called `x` stands first.
 const HELD: &[(&[u8], &[u8])] = &[(b"x", b"1"), (b"y", b"2"), (b"x", b"3")];
 
-// What the machine shows: texts; how long base text and active text are, and two begun functions, an active one of three
-// arguments and a neutral one of one; position, meta character and trace; three forms (`null` under the null name, `c` under
-// `A`, and `a`, the pointer, a gap and `b` under `G`); three blocks of which one is erased and one has none; and the output.
-// Numbers have eight bytes, and a byte of a form stands after a zero.
+// What the machine shows: texts; how long base text and active text are, and two begun functions, an active one of
+// three arguments and a neutral one of one; position, meta character and trace; three forms (`null` under the null
+// name, `c` under `A`, and `a`, the pointer, a gap and `b` under `G`); three blocks of which one is erased and one has
+// none; and the output. Numbers have eight bytes, and a byte of a form stands after a zero.
 const SHOWN: &[u8] = b"bb#(ds,,A##(cl^)#(x\
     \0\0\0\0\0\0\0\x02\0\0\0\0\0\0\0\x04\0\0\0\0\0\0\0\x02\
     \0\0\0\0\0\0\0\0\0\0\0\0\0\0\0\x03\0\0\0\0\0\0\0\x02\0\0\0\0\0\0\0\0\0\0\0\0\0\0\0\x01\

@@ -1,7 +1,8 @@
-//! A machine itself, on the plain representation of its lists: each step is tried with each request for memory refused in turn,
-//! undone while all are refused, and taken again. On the other one sessions go the same ways.
+//! A machine itself, on the plain representation of its lists: each step is tried with each request for memory refused
+//! in turn, undone while all are refused, and taken again. On the other one sessions go the same ways.
 //!
-//! Helpers are over any two lists: a proof for certain ones shows anew, at each call of the machine, that they are such lists.
+//! Helpers are over any two lists: a proof for certain ones shows anew, at each call of the
+//! machine, that they are such lists.
 use crate::programs::PROGRAMS;
 use crate::shown::shown_after;
 use std::alloc::{Allocator, Global};
@@ -25,7 +26,8 @@ pub(crate) fn made<E: TwoEnds<u8, A>, M: TwoEnds<Mark, A>, A: Allocator + Copy>(
     Core::new(alloc, Width::W128)
 }
 
-/// Lets a machine go. A function that owns one ends with this call, since its own proof would else carry all that is freed.
+/// Lets a machine go. A function that owns one ends with this call, since its own proof would else
+/// carry all that is freed.
 pub(crate) fn let_go<E: TwoEnds<u8, A>, M: TwoEnds<Mark, A>, A: Allocator + Copy>(
     machine: Core<E, M, A>,
 ) {
@@ -69,7 +71,8 @@ fn step<E: TwoEnds<u8, A>, M: TwoEnds<Mark, A>, A: Allocator + Copy>(
     })
 }
 
-// The next step, whose record is let go. It owns the record, since the proof of each caller would else carry all that is freed.
+// The next step, whose record is let go. It owns the record, since the proof of each caller would
+// else carry all that is freed.
 fn take_step<E: TwoEnds<u8, A>, M: TwoEnds<Mark, A>, A: Allocator + Copy>(
     rt: &impl Abort,
     machine: &mut Core<E, M, A>,
@@ -102,8 +105,8 @@ fn step_and_undo<E: TwoEnds<u8, A>, M: TwoEnds<Mark, A>, A: Allocator + Copy>(
     }
 }
 
-// The next step, with each request for memory refused in turn: whether it is refused or undone, the machine shows the same as
-// before. The answer is why the step is refused with ample memory.
+// The next step, with each request for memory refused in turn: whether it is refused or undone, the machine shows the
+// same as before. The answer is why the step is refused with ample memory.
 fn try_step<E: TwoEnds<u8, A>, M: TwoEnds<Mark, A>, A: Allocator + Copy>(
     rt: &impl Abort,
     plain: Global,
@@ -144,7 +147,8 @@ fn walk<E: TwoEnds<u8, A>, M: TwoEnds<Mark, A>, A: Allocator + Copy>(
     panic!(rt; "too few steps");
 }
 
-/// The programs with what they print. What a function proves of a table grows with its texts, so one alone names this one.
+/// The programs with what they print. What a function proves of a table grows with its texts, so
+/// one alone names this one.
 pub(crate) fn programs() -> &'static [(&'static [u8], &'static [u8])] {
     PROGRAMS
 }

@@ -20,8 +20,8 @@ fn new_session(
     Session::new(memory, limit, width)
 }
 
-/// A session whose journal may hold so many records, and whose numbers have this width, where one request may be refused: it
-/// fails then, for memory alone, and the next try is accepted.
+/// A session whose journal may hold so many records, and whose numbers have this width, where one request may be
+/// refused: it fails then, for memory alone, and the next try is accepted.
 pub(crate) fn made<'a>(
     rt: &impl Abort,
     memory: Memory<'a>,
@@ -38,7 +38,8 @@ pub(crate) fn made<'a>(
     session
 }
 
-/// Lets a session go. A function that owns one ends with this call, since its own proof would else carry all that is freed.
+/// Lets a session go. A function that owns one ends with this call, since its own proof would else
+/// carry all that is freed.
 pub(crate) fn let_go<A: Allocator + Copy>(session: Session<A>) {
     let _last = session;
 }

@@ -1,5 +1,5 @@
-//! What a machine shows of its state, written as texts. What is added to a text needs memory, of which there is plenty: an
-//! end where there is none would be one more return, which a proof carries through each caller.
+//! What a machine shows of its state, written as texts. What is added to a text needs memory, of which there is plenty:
+//! an end where there is none would be one more return, which a proof carries through each caller.
 use std::alloc::{Allocator, Global};
 use std::process::Abort;
 use trac_forms::{Block, Form, Item, Store};
@@ -57,7 +57,8 @@ fn add_texts<E: TwoEnds<u8, A>, M: TwoEnds<Mark, A>, A: Allocator + Copy>(
     add(rt, out, machine.active());
 }
 
-/// The texts of a machine: its base text, the begun functions from the outermost on, a `^`, and what is not scanned yet.
+/// The texts of a machine: its base text, the begun functions from the outermost on, a `^`, and
+/// what is not scanned yet.
 pub(crate) fn texts_shown<E: TwoEnds<u8, A>, M: TwoEnds<Mark, A>, A: Allocator + Copy>(
     rt: &impl Abort,
     plain: Global,
@@ -144,8 +145,8 @@ fn add_blocks<A: Allocator + Copy>(rt: &impl Abort, out: &mut Vec<u8>, store: &S
     }
 }
 
-/// All that a machine shows: its texts, its numbers, its forms and blocks, and what is printed; with what was released before
-/// it: bytes of the output, and so many bytes of the input.
+/// All that a machine shows: its texts, its numbers, its forms and blocks, and what is printed; with what was released
+/// before it: bytes of the output, and so many bytes of the input.
 pub(crate) fn shown_after<E: TwoEnds<u8, A>, M: TwoEnds<Mark, A>, A: Allocator + Copy>(
     rt: &impl Abort,
     plain: Global,

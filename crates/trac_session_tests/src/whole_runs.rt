@@ -1,6 +1,6 @@
-//! Whole runs of a session, step by step: to the end, and all the way back, where each state is the one on the way out. Each
-//! request for memory is refused in turn on the way out, and all of them on the way back. With a commit after each step that
-//! keeps so many, the states are the same but for what was released, and the way back goes so far.
+//! Whole runs of a session, step by step: to the end, and all the way back, where each state is the one on the way out.
+//! Each request for memory is refused in turn on the way out, and all of them on the way back. With a commit after each
+//! step that keeps so many, the states are the same but for what was released, and the way back goes so far.
 use crate::machines::{Memory, expect_text, programs};
 use crate::programs::EACH_PRIMITIVE;
 use crate::sessions::{let_go, made};
@@ -17,7 +17,8 @@ use trac_session::{Session, Walk};
 const EACH_READING: &[u8] =
     b"#(ds,F,axbcy)#(ss,F,x,y)#(cs,F)#(cc,F)#(cn,F,-1)#(in,F,c)#(cm,;)'#(rc)xy#(tn)#(tf)z#(hl);w;";
 
-// Three print `AB`: in one part, in two, and by calls on a form. The last one puts three forms aside and brings them back.
+// Three print `AB`: in one part, in two, and by calls on a form. The last one puts three forms
+// aside and brings them back.
 const SHORT_RUNS: &[(&[u8], &[u8])] = &[
     EACH_PRIMITIVE,
     (b"AB'", b"AB"),
@@ -117,8 +118,8 @@ fn feed(session: &mut Session<Memory<'_>>, input: &[u8]) -> Result<(), Refusal> 
     session.feed(input)
 }
 
-// All of the input is fed, and then it ends. One request may be refused: that is answered as such, the tape is as before, and
-// the next try is accepted.
+// All of the input is fed, and then it ends. One request may be refused: that is answered as such, the tape is as
+// before, and the next try is accepted.
 fn feed_all(rt: &impl Abort, run: &Run<'_>, session: &mut Session<Memory<'_>>) {
     let refusals = run.memory.refusals();
     if let Err(refusal) = feed(session, run.input) {
@@ -174,8 +175,8 @@ fn commit(
     }
 }
 
-// Takes a step from this state, where one request may be refused: that is answered as such, nothing has changed then, and the
-// next try is accepted. Returns why no step is taken.
+// Takes a step from this state, where one request may be refused: that is answered as such, nothing has changed then,
+// and the next try is accepted. Returns why no step is taken.
 fn step_from(
     rt: &impl Abort,
     run: &Run<'_>,
@@ -214,8 +215,8 @@ fn to_end(
     panic!(rt; "too few steps");
 }
 
-// All the way back, step by step, while every request for memory is refused: none is made. The first state has no output, and
-// has read nothing.
+// All the way back, step by step, while every request for memory is refused: none is made. The first state has
+// no output, and has read nothing.
 fn to_start(
     rt: &impl Abort,
     run: &Run<'_>,
@@ -285,8 +286,8 @@ fn expect_states(rt: &impl Abort, run: &Run<'_>, states: &[Vec<u8>]) {
     assert!(rt; states_of(rt, run).as_slice() == states);
 }
 
-// The run again and again, with one more request accepted before the refused one each time, until none is refused. A moved
-// byte takes no memory, so there may be fewer requests than steps.
+// The run again and again, with one more request accepted before the refused one each time, until none is refused. A
+// moved byte takes no memory, so there may be fewer requests than steps.
 fn expect_each_request(rt: &impl Abort, run: &Run<'_>, states: &[Vec<u8>]) {
     for nth in 1..10_000 {
         let refusals = run.memory.refusals();

@@ -24,7 +24,8 @@ escaped_items items = flat_map escaped_item items
 
 -- a form's items, with `<^>` at the place of its pointer, in brackets
 abbrev pub bracketed_form : Form → List ℕ
-bracketed_form form = codes "[" ++ (escaped_items form.before ++ (codes "<^>" ++ (escaped_items form.after ++ codes "]")))
+bracketed_form form =
+    codes "[" ++ (escaped_items form.before ++ (codes "<^>" ++ (escaped_items form.after ++ codes "]")))
 
 -- ---- lines of a state
 
@@ -61,11 +62,13 @@ trace_line false = codes "trace off" ++ feed
 
 -- active text, base text, and the begun functions from the outermost on
 abbrev pub texts_text : State → List ℕ
-texts_text s = text_line (codes "active") s.active ++ text_line (codes "base") s.base ++ flat_map frame_line (reverse s.frames)
+texts_text s =
+    text_line (codes "active") s.active ++ text_line (codes "base") s.base ++ flat_map frame_line (reverse s.frames)
 
 -- the forms by their names, which rise by their bytes, and the blocks by their numbers
 abbrev pub storage_text : Forms → List Block → List ℕ
-storage_text forms blocks = flat_map (form_line (codes "form")) (map.entries forms) ++ flat_map block_lines (enumerate_from 0 blocks)
+storage_text forms blocks =
+    flat_map (form_line (codes "form")) (map.entries forms) ++ flat_map block_lines (enumerate_from 0 blocks)
 
 -- meta character, trace, position and output
 abbrev pub settings_text : State → List ℕ

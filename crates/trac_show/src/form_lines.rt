@@ -32,7 +32,8 @@ fn items_into<A: Allocator + Copy, B: Allocator>(
 ) -> Result<(), AllocError>
     requires rising { from ≤ to }
     requires within { to ≤ length (all_items form.now) }
-    ensures { OnOk result (out.new.items ≡ out.old.items ++ escaped_items (take (to - from) (drop from (all_items form.now)))) }
+    ensures { OnOk result
+        (out.new.items ≡ out.old.items ++ escaped_items (take (to - from) (drop from (all_items form.now)))) }
 {
     for place in from..to {
         let Some(item) = form.item(place) else {

@@ -1,4 +1,4 @@
-//! The state of a machine, as `trac debug` shows it.
+//! The state of a machine, as `trac debug` shows it. All of it is this project's profile.
 #![tactic(auto)]
 
 mod form_lines;

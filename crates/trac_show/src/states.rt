@@ -2,7 +2,8 @@
 ghost use Rattle.std.specs.Prelude.{◌≡◌, ◌++◌, ◌∷◌, reverse, IfOk, OnOk, None, Some, codes, option_map};
 ghost use Rattle.std.specs.FinMap as finite;
 ghost use Rattle.std.specs.List.{enumerate_from, flat_map};
-ghost use Rattle.trac_show.specs.StateLines.{arguments_line, block_lines, form_line, frame_line, lines_of_block, machine_text, settings_text, sharps, storage_text, texts_text, trace_line};
+ghost use Rattle.trac_show.specs.StateLines.{arguments_line, block_lines, form_line, frame_line, lines_of_block};
+ghost use Rattle.trac_show.specs.StateLines.{machine_text, settings_text, sharps, storage_text, texts_text, trace_line};
 ghost use Rattle.trac_streams.specs.Escapes.{bracketed, number_line};
 
 use crate::form_lines::form_line_into;
@@ -12,14 +13,14 @@ use trac_gap::TwoEnds;
 use trac_step::{Args, Core, Kind, Machine, Mark};
 use trac_streams::{number_into, number_line_into, text_into, text_line_into};
 
-/// All parts of a machine's state, and that there are so many records, as lines (this project's profile).
-/// The error is that memory was refused.
+/// All parts of a machine's state, and that there are so many records, as lines. The error is that memory was refused.
 pub fn machine_lines<A: Allocator + Copy>(
     alloc: A,
     machine: &Machine<A>,
     records: usize,
 ) -> Result<Vec<u8, A>, AllocError>
-    ensures { IfOk result (λ text. text.items ≡ machine_text machine.now.state ++ number_line (codes "journal") records) }
+    ensures { IfOk result
+        (λ text. text.items ≡ machine_text machine.now.state ++ number_line (codes "journal") records) }
 {
     let mut out = Vec::new(alloc);
     machine_into(machine, &mut out)?;
@@ -27,8 +28,8 @@ pub fn machine_lines<A: Allocator + Copy>(
     Ok(out)
 }
 
-// All parts of a machine's state, as lines. Here and below the machine may be of any representation: that the gap buffer is
-// one is shown once, where a session's machine is passed on, and not at each call.
+// All parts of a machine's state, as lines. Here and below the machine may be of any representation: that the gap
+// buffer is one is shown once, where a session's machine is passed on, and not at each call.
 fn machine_into<E: TwoEnds<u8, A>, M: TwoEnds<Mark, A>, A: Allocator + Copy, B: Allocator>(
     machine: &Core<E, M, A>,
     out: &mut Vec<u8, B>,
@@ -143,7 +144,8 @@ fn forms_into<A: Allocator + Copy, B: Allocator>(
     store: &Store<A>,
     out: &mut Vec<u8, B>,
 ) -> Result<(), AllocError>
-    ensures { OnOk result (out.new.items ≡ out.old.items ++ flat_map (form_line (codes "form")) (finite.entries store.now.forms)) }
+    ensures { OnOk result
+        (out.new.items ≡ out.old.items ++ flat_map (form_line (codes "form")) (finite.entries store.now.forms)) }
 {
     let Ok(names) = store.names() else {
         return Err(AllocError);
@@ -176,7 +178,8 @@ fn numbered_block_into<A: Allocator + Copy, B: Allocator>(
     block: Option<&Block<A>>,
     out: &mut Vec<u8, B>,
 ) -> Result<(), AllocError>
-    ensures { OnOk result (out.new.items ≡ out.old.items ++ lines_of_block i (option_map (λ b. b.now.held) block.entry)) }
+    ensures { OnOk result
+        (out.new.items ≡ out.old.items ++ lines_of_block i (option_map (λ b. b.now.held) block.entry)) }
 {
     match block {
         Some(block) => block_into(i, block, out),

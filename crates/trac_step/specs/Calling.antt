@@ -54,7 +54,8 @@ effect_with plan made storage = record {
 -- the state after the call that scanning asks for, where this is planned
 abbrev pub state_after : {A : Type 0} → Plan → Made A → Change A → Scanned → State
 state_after plan made change (Moves t) = t
-state_after plan made change (Calls call) = after_call call (effect_with plan made (changed call.arguments change (storage_of call.state)))
+state_after plan made change (Calls call) =
+    after_call call (effect_with plan made (changed call.arguments change (storage_of call.state)))
 
 -- the same where forms and blocks are changed already
 abbrev pub state_ended : {A : Type 0} → Plan → Made A → Scanned → State

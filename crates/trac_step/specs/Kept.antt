@@ -13,7 +13,8 @@ use Rattle.trac_rules.specs.Weights.{loss, weight}
 use Rattle.trac_step.specs.Layout.{Shown}
 use Rattle.trac_step.specs.Room.{HasRoom}
 
--- the record of a call with this beside its arguments, these, and what it destroyed of forms and blocks, fits the entries of a journal
+-- the record of a call with this beside its arguments, these, and what it destroyed of forms and
+-- blocks, fits the entries of a journal
 pub record FitsJournal (called : Called) (arguments : List (List ℕ)) (undone : Undone) : Type 0 where
   pub small : AreSmall called (length (concat arguments)) (length arguments)
   pub light : IsLight (CallOf (record_with called arguments undone))
@@ -23,7 +24,8 @@ abbrev pub IsAdded : Option Record → List Record → List Record → Type 0
 IsAdded None old new = ⊥
 IsAdded (Some newest) old new = new ≡ newest ∷ old
 
--- the records have one more, the newest: that of the step from one state to another, which leads back, and weighs no more than the step lost
+-- the records have one more, the newest: that of the step from one state to another, which leads back, and
+-- weighs no more than the step lost
 pub record IsKept (environment : Environment) (before after : State) (old new : List Record) : Type 0 where
   pub newest : Record
   pub of_step : record_of environment before ≡ Some newest

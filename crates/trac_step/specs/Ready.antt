@@ -20,7 +20,8 @@ use Rattle.trac_step.specs.Layout.{Shown}
 
 -- the record of the call at which a state stands, where it is planned so
 abbrev pub recorded_after : {A : Type 0} → Plan → Change A → State → Record
-recorded_after plan change s = Called (record_with plan.called (arguments_in (scan s)) (undone_of change (storage_of s)))
+recorded_after plan change s =
+    Called (record_with plan.called (arguments_in (scan s)) (undone_of change (storage_of s)))
 
 -- a state stands at a call, of which this is planned: it may be performed
 pub record IsReady {A : Type 0} (s : State) (made : Made A) (plan : Plan) (change : Change A) : Type 0 where
@@ -33,7 +34,8 @@ pub record IsReady {A : Type 0} (s : State) (made : Made A) (plan : Plan) (chang
   pub proper : IsProper (state_after plan made change (scan s))
 
 -- and then the step leads where the rules say, and its record is that of the rules
-pub record IsPlanned {A : Type 0} (environment : Environment) (s : State) (made : Made A) (plan : Plan) (change : Change A) : Type 0 where
+pub record IsPlanned {A : Type 0} (environment : Environment) (s : State) (made : Made A) (plan : Plan)
+    (change : Change A) : Type 0 where
   pub ready : IsReady s made plan change
   pub taken : step environment s ≡ Ok (state_after plan made change (scan s))
   pub recorded : record_of environment s ≡ Some (recorded_after plan change s)

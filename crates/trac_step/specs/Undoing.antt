@@ -18,7 +18,8 @@ use Rattle.trac_step.specs.Room.{HasRoom}
 abbrev pub CanShow : Shown → Option State → Type 0
 CanShow m o = IsSomeAnd o (λ s. HasRoom m s × IsProper s)
 
--- a machine has gone back over a call of these arguments but for what it destroyed of forms and blocks, and stands at that call
+-- a machine has gone back over a call of these arguments but for what it destroyed of forms and
+-- blocks, and stands at that call
 pub record IsBegunAgain (called : Called) (arguments : List (List ℕ)) (old new : Shown) : Type 0 where
   pub state : restored (CallOf (record_with called arguments Nothing)) old.state ≡ Some new.state
   pub others : new ≡ record old { state = new.state }
@@ -30,7 +31,8 @@ pub record IsBegunAgain (called : Called) (arguments : List (List ℕ)) (old new
 pub record CanRestore (undone : Undone) (m : Shown) : Type 0 where
   pub front : front_of m.state.active ≡ Closing
   pub inside : 0 < length m.state.frames
-  pub there : IsSomeAnd (storage_before (arguments_in (scan m.state)) undone (storage_of m.state)) (λ storage. KnowsAll m.known storage.forms × IsProperStorage storage)
+  pub there : IsSomeAnd (storage_before (arguments_in (scan m.state)) undone (storage_of m.state))
+      (λ storage. KnowsAll m.known storage.forms × IsProperStorage storage)
 
 -- it shows forms and blocks as they were before the call at which it stands, and all else as it was
 pub record IsRestored (undone : Undone) (old new : Shown) : Type 0 where

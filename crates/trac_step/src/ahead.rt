@@ -11,9 +11,10 @@ use trac_text::{Args, Kind, Mark};
 
 impl<E: TwoEnds<u8, A>, M: TwoEnds<Mark, A>, A: Allocator + Copy> Core<E, M, A> {
     /// The call that the next step would perform: its kind, and all its arguments, its name first; none where it would
-    /// perform none. It takes no memory, and no time for the functions that are begun around it (this project's profile).
+    /// perform none. It takes no memory, and no time for the functions that are begun around it.
     pub fn next_call(&self) -> Option<(Kind, Args<'_>)>
-        ensures { MatchOption result (next_call self.now.state ≡ None) (λ r. IsCall (next_call self.now.state) r.0 r.1) }
+        ensures { MatchOption result (next_call self.now.state ≡ None)
+            (λ r. IsCall (next_call self.now.state) r.0 r.1) }
     {
         if front_at(self.active()) != Front::Closing {
             return None;

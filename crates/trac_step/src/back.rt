@@ -27,16 +27,18 @@ impl<E: TwoEnds<u8, A>, M: TwoEnds<Mark, A>, A: Allocator + Copy> Core<E, M, A> 
         }
     }
 
-    /// Goes back over the newest record of a journal, as `undo` does, and takes it out; returns whether there was one. The
-    /// texts of a call are put back from where the journal keeps them. It takes no memory and cannot fail, lessens no room and
-    /// forgets no name. The newest record has to lead back to a state for which the machine has room, as it does after its
-    /// step.
+    /// Goes back over the newest record of a journal, as `undo` does, and takes it out; returns whether there was
+    /// one. The texts of a call are put back from where the journal keeps them. It takes no memory and cannot fail,
+    /// lessens no room and forgets no name. The newest record has to lead back to a state for which the machine has
+    /// room, as it does after its step.
     // A session has it in its own `step_back`, so a step of a walk back takes one call.
     #[inline(always)]
     pub fn step_back(&mut self, journal: &mut Journal<A>) -> bool
         requires { CanGoBack self.old journal.old.records }
-        ensures back { IsTrue result → HasGoneBack self.old.state self.new.state journal.old.records journal.new.records }
-        ensures none { result ≡ false → (journal.old.records ≡ []) × ((journal.new.records ≡ []) × (self.new ≡ self.old)) }
+        ensures back { IsTrue result →
+            HasGoneBack self.old.state self.new.state journal.old.records journal.new.records }
+        ensures none { result ≡ false →
+            (journal.old.records ≡ []) × ((journal.new.records ≡ []) × (self.new ≡ self.old)) }
         ensures room { IsNoLess self.old self.new }
     {
         self.is_in_its_room();

@@ -1,5 +1,6 @@
 //! The steps that perform a function.
-ghost use Rattle.std.specs.Prelude.{◌≡◌, ◌<◌, ◌≤◌, ◌+◌, ◌-◌, ◌++◌, ◌^◌, ◌∷◌, length, take, drop, option_map, IfErr, IfOk, IsOkUnless, OnErr, OnOk, Ok, Some};
+ghost use Rattle.std.specs.Prelude.{◌≡◌, ◌<◌, ◌≤◌, ◌+◌, ◌-◌, ◌++◌, ◌^◌, ◌∷◌, length, take, drop, option_map, IfErr};
+ghost use Rattle.std.specs.Prelude.{IfOk, IsOkUnless, OnErr, OnOk, Ok, Some};
 ghost use Rattle.std.specs.List.{concat};
 ghost use Rattle.trac_gap.specs.Ends.{item_count};
 ghost use Rattle.trac_rules.specs.declared.limit.TheConstants.{JOURNAL_LIMIT};
@@ -19,7 +20,8 @@ ghost use Rattle.trac_text.specs.Pieces.{all_texts};
 ghost use Rattle.trac_journal.specs.Journaled.{HasPlaceForCall};
 ghost use Rattle.trac_journal.specs.Told.{record_with};
 ghost use Rattle.trac_change.specs.Undone.{undone_in};
-ghost use Rattle.trac_step.specs.Calling.{BeginsInnermost, HasRoomFor, IsBegun, arguments_in, state_after, state_ended, with_storage};
+ghost use Rattle.trac_step.specs.Calling.{BeginsInnermost, HasRoomFor, IsBegun, arguments_in, state_after, state_ended};
+ghost use Rattle.trac_step.specs.Calling.{with_storage};
 ghost use Rattle.trac_text.specs.Moving.{with_value};
 ghost use Rattle.trac_step.specs.Kept.{FitsJournal, IsAdded};
 ghost use Rattle.trac_step.specs.Ready.{CanChange, CanEnd, IsPlanned, IsReady, recorded_after};
@@ -86,7 +88,8 @@ fn arguments_at<'a, E: TwoEnds<u8, A>, M: TwoEnds<Mark, A>, A: Allocator + Copy>
     beginning: Beginning,
 ) -> Args<'a>
     requires { IsBegun (record { text = (E.ends text.now).left; marks = (M.ends marks.now).left }) beginning }
-    ensures { result ≡ cut beginning.place (drop (beginning.number + 1) (M.ends marks.now).left) (E.ends text.now).left }
+    ensures { result
+        ≡ cut beginning.place (drop (beginning.number + 1) (M.ends marks.now).left) (E.ends text.now).left }
 {
     let further = marks.left().split_at(beginning.number + 1).1;
     Args::new(text.left(), further, beginning.place)
@@ -104,8 +107,8 @@ fn put_printed<A: Allocator>(output: &mut SlidingBuf<u8, A>, printed: &[u8])
 }
 
 impl<E: TwoEnds<u8, A>, M: TwoEnds<Mark, A>, A: Allocator + Copy> Core<E, M, A> {
-    // Plans the call that the next step performs: its texts are made, and what becomes of forms and blocks is put in place of a
-    // change that keeps them. Or why it is refused.
+    // Plans the call that the next step performs: its texts are made, and what becomes of forms and blocks is put in
+    // place of a change that keeps them. Or why it is refused.
     fn planned(
         &self,
         tape: Tape<'_>,
@@ -116,7 +119,8 @@ impl<E: TwoEnds<u8, A>, M: TwoEnds<Mark, A>, A: Allocator + Copy> Core<E, M, A> 
         requires front { front_of self.now.state.active ≡ Front.Closing }
         requires inside { 0 < length self.now.state.frames }
         requires within { self.now.state.position ≤ length tape.bytes.now }
-        ensures planned { IfOk result (λ plan. IsPlanned (environment_of self.now.width tape.entry) self.now.state made.new plan change.new) }
+        ensures planned { IfOk result
+            (λ plan. IsPlanned (environment_of self.now.width tape.entry) self.now.state made.new plan change.new) }
         ensures refused { IfErr result (MayRefuse (step (environment_of self.now.width tape.entry) self.now.state)) }
     {
         let Some(function) = self.neutral().innermost() else {
@@ -177,15 +181,17 @@ impl<E: TwoEnds<u8, A>, M: TwoEnds<Mark, A>, A: Allocator + Copy> Core<E, M, A> 
         Ok(())
     }
 
-    // Changes forms and blocks as the call planned it, while its arguments still stand in the neutral text. Returns what was
-    // destroyed. It is refused memory alone, and then the state stays. What stands in `change` after it is not claimed.
+    // Changes forms and blocks as the call planned it, while its arguments still stand in the neutral text.
+    // Returns what was destroyed. It is refused memory alone, and then the state stays. What stands in
+    // `change` after it is not claimed.
     fn change_storage(
         &mut self,
         beginning: Beginning,
         change: &mut Change<A>,
     ) -> Result<Undone<A>, Refusal>
         requires { CanChange self.old.state beginning change.old }
-        ensures changed { OnOk result (self.new.state ≡ with_storage (changed (arguments_in (scan self.old.state)) change.old (storage_of self.old.state)) self.old.state) }
+        ensures changed { OnOk result (self.new.state ≡ with_storage
+            (changed (arguments_in (scan self.old.state)) change.old (storage_of self.old.state)) self.old.state) }
         ensures undone { IfOk result (λ undone. undone_in undone ≡ undone_of change.old (storage_of self.old.state)) }
         ensures unchanged { OnErr result (self.new.state ≡ self.old.state) }
         ensures room { IsNoLess self.old self.new }
@@ -196,8 +202,8 @@ impl<E: TwoEnds<u8, A>, M: TwoEnds<Mark, A>, A: Allocator + Copy> Core<E, M, A> 
         change_forms(&mut self.store, alloc, &arguments, change)
     }
 
-    // Ends the call whose change of forms and blocks is made: its function is gone, what it prints is printed, and its value
-    // is where it goes. It takes no memory.
+    // Ends the call whose change of forms and blocks is made: its function is gone, what it prints is printed, and its
+    // value is where it goes. It takes no memory.
     fn end_call(&mut self, plan: &Plan, made: &Made<A>)
         requires { CanEnd self.old made.now plan.now }
         ensures state { self.new.state ≡ state_ended plan.now made.now (scan self.old.state) }
@@ -256,9 +262,12 @@ impl<E: TwoEnds<u8, A>, M: TwoEnds<Mark, A>, A: Allocator + Copy> Core<E, M, A> 
         requires front { front_of self.old.state.active ≡ Front.Closing }
         requires inside { 0 < length self.old.state.frames }
         requires within { self.old.state.position ≤ length tape.bytes.now }
-        ensures taken { OnOk result (step (environment_of self.old.width tape.entry) self.old.state ≡ Ok self.new.state) }
-        ensures recorded { IfOk result (λ r. record_of (environment_of self.old.width tape.entry) self.old.state ≡ Some (recorded_by r)) }
-        ensures refused { IfErr result (λ e. (self.new.state ≡ self.old.state) × MayRefuse (step (environment_of self.old.width tape.entry) self.old.state) e) }
+        ensures taken { OnOk result
+            (step (environment_of self.old.width tape.entry) self.old.state ≡ Ok self.new.state) }
+        ensures recorded { IfOk result
+            (λ r. record_of (environment_of self.old.width tape.entry) self.old.state ≡ Some (recorded_by r)) }
+        ensures refused { IfErr result (λ e. (self.new.state ≡ self.old.state)
+            × MayRefuse (step (environment_of self.old.width tape.entry) self.old.state) e) }
         ensures lacking { LacksRoomAhead self.old }
         ensures room { IsNoLess self.old self.new }
     {
@@ -268,24 +277,27 @@ impl<E: TwoEnds<u8, A>, M: TwoEnds<Mark, A>, A: Allocator + Copy> Core<E, M, A> 
         self.perform(&plan, &made, &mut change)
     }
 
-    // Keeps the record of the call that the next step performs in the journal, which has room for it: its arguments are copied
-    // there. This is what it destroyed of forms and blocks.
+    // Keeps the record of the call that the next step performs in the journal, which has room for it: its arguments are
+    // copied there. This is what it destroyed of forms and blocks.
     #[inline(always)]
     fn keep_call(&self, journal: &mut Journal<A>, plan: &Plan, undone: Undone<A>)
         requires front { front_of self.now.state.active ≡ Front.Closing }
         requires begins { BeginsInnermost self.now.state plan.now.beginning }
         requires not_full { length journal.old.records < JOURNAL_LIMIT }
-        requires place { HasPlaceForCall (length (concat (arguments_in (scan self.now.state)))) (length (arguments_in (scan self.now.state)) - 1) journal.old }
+        requires place { HasPlaceForCall (length (concat (arguments_in (scan self.now.state))))
+            (length (arguments_in (scan self.now.state)) - 1) journal.old }
         requires fits { FitsJournal plan.now.called (arguments_in (scan self.now.state)) (undone_in undone) }
-        ensures { journal.new.records ≡ rules.Called (record_with plan.now.called (arguments_in (scan self.now.state)) (undone_in undone)) ∷ journal.old.records }
+        ensures { journal.new.records
+            ≡ rules.Called (record_with plan.now.called (arguments_in (scan self.now.state)) (undone_in undone))
+            ∷ journal.old.records }
     {
         let arguments = self.arguments(plan.beginning);
         journal.push_call(plan.called, &arguments, undone);
     }
 
-    // Changes forms and blocks as the call planned it, and keeps its record in the journal, which has room for it. It is refused
-    // memory alone, and then the state and the records stay. Most calls change nothing of forms and blocks, and for these the
-    // compiler makes a way of its own.
+    // Changes forms and blocks as the call planned it, and keeps its record in the journal, which has room for it. It
+    // is refused memory alone, and then the state and the records stay. Most calls change nothing of forms and blocks,
+    // and for these the compiler makes a way of its own.
     fn change_into(
         &mut self,
         journal: &mut Journal<A>,
@@ -294,11 +306,16 @@ impl<E: TwoEnds<u8, A>, M: TwoEnds<Mark, A>, A: Allocator + Copy> Core<E, M, A> 
     ) -> Result<(), Refusal>
         requires can { CanChange self.old.state plan.now.beginning change.old }
         requires not_full { length journal.old.records < JOURNAL_LIMIT }
-        requires place { HasPlaceForCall (length (concat (arguments_in (scan self.old.state)))) (length (arguments_in (scan self.old.state)) - 1) journal.old }
-        requires fits { FitsJournal plan.now.called (arguments_in (scan self.old.state)) (undone_of change.old (storage_of self.old.state)) }
-        ensures changed { OnOk result (self.new.state ≡ with_storage (changed (arguments_in (scan self.old.state)) change.old (storage_of self.old.state)) self.old.state) }
-        ensures kept { OnOk result (journal.new.records ≡ recorded_after plan.now change.old self.old.state ∷ journal.old.records) }
-        ensures unchanged { OnErr result ((self.new.state ≡ self.old.state) × (journal.new.records ≡ journal.old.records)) }
+        requires place { HasPlaceForCall (length (concat (arguments_in (scan self.old.state))))
+            (length (arguments_in (scan self.old.state)) - 1) journal.old }
+        requires fits { FitsJournal plan.now.called (arguments_in (scan self.old.state))
+            (undone_of change.old (storage_of self.old.state)) }
+        ensures changed { OnOk result (self.new.state ≡ with_storage
+            (changed (arguments_in (scan self.old.state)) change.old (storage_of self.old.state)) self.old.state) }
+        ensures kept { OnOk result
+            (journal.new.records ≡ recorded_after plan.now change.old self.old.state ∷ journal.old.records) }
+        ensures unchanged { OnErr result
+            ((self.new.state ≡ self.old.state) × (journal.new.records ≡ journal.old.records)) }
         ensures err { IsOkUnless result Refusal.Memory }
         ensures room { IsNoLess self.old self.new }
     {
@@ -309,7 +326,8 @@ impl<E: TwoEnds<u8, A>, M: TwoEnds<Mark, A>, A: Allocator + Copy> Core<E, M, A> 
         self.change_storage_into(journal, *plan, change)
     }
 
-    // The same, where something may change. It is lent no plan, so that this can stay in registers where nothing changes.
+    // The same, where something may change. It is lent no plan, so that this can stay in registers
+    // where nothing changes.
     #[inline(never)]
     fn change_storage_into(
         &mut self,
@@ -319,11 +337,16 @@ impl<E: TwoEnds<u8, A>, M: TwoEnds<Mark, A>, A: Allocator + Copy> Core<E, M, A> 
     ) -> Result<(), Refusal>
         requires can { CanChange self.old.state plan.beginning change.old }
         requires not_full { length journal.old.records < JOURNAL_LIMIT }
-        requires place { HasPlaceForCall (length (concat (arguments_in (scan self.old.state)))) (length (arguments_in (scan self.old.state)) - 1) journal.old }
-        requires fits { FitsJournal plan.called (arguments_in (scan self.old.state)) (undone_of change.old (storage_of self.old.state)) }
-        ensures changed { OnOk result (self.new.state ≡ with_storage (changed (arguments_in (scan self.old.state)) change.old (storage_of self.old.state)) self.old.state) }
-        ensures kept { OnOk result (journal.new.records ≡ recorded_after plan change.old self.old.state ∷ journal.old.records) }
-        ensures unchanged { OnErr result ((self.new.state ≡ self.old.state) × (journal.new.records ≡ journal.old.records)) }
+        requires place { HasPlaceForCall (length (concat (arguments_in (scan self.old.state))))
+            (length (arguments_in (scan self.old.state)) - 1) journal.old }
+        requires fits { FitsJournal plan.called (arguments_in (scan self.old.state))
+            (undone_of change.old (storage_of self.old.state)) }
+        ensures changed { OnOk result (self.new.state ≡ with_storage
+            (changed (arguments_in (scan self.old.state)) change.old (storage_of self.old.state)) self.old.state) }
+        ensures kept { OnOk result
+            (journal.new.records ≡ recorded_after plan change.old self.old.state ∷ journal.old.records) }
+        ensures unchanged { OnErr result
+            ((self.new.state ≡ self.old.state) × (journal.new.records ≡ journal.old.records)) }
         ensures err { IsOkUnless result Refusal.Memory }
         ensures room { IsNoLess self.old self.new }
     {
@@ -332,8 +355,8 @@ impl<E: TwoEnds<u8, A>, M: TwoEnds<Mark, A>, A: Allocator + Copy> Core<E, M, A> 
         Ok(())
     }
 
-    // Performs the call that is planned, and keeps its record. It is refused memory alone, and then the state and the records
-    // stay.
+    // Performs the call that is planned, and keeps its record. It is refused memory alone, and then
+    // the state and the records stay.
     fn perform_into(
         &mut self,
         journal: &mut Journal<A>,
@@ -343,10 +366,13 @@ impl<E: TwoEnds<u8, A>, M: TwoEnds<Mark, A>, A: Allocator + Copy> Core<E, M, A> 
     ) -> Result<(), Refusal>
         requires ready { IsReady self.old.state made.now plan.now change.old }
         requires not_full { length journal.old.records < JOURNAL_LIMIT }
-        requires fits { FitsJournal plan.now.called (arguments_in (scan self.old.state)) (undone_of change.old (storage_of self.old.state)) }
+        requires fits { FitsJournal plan.now.called (arguments_in (scan self.old.state))
+            (undone_of change.old (storage_of self.old.state)) }
         ensures done { OnOk result (self.new.state ≡ state_after plan.now made.now change.old (scan self.old.state)) }
-        ensures kept { OnOk result (journal.new.records ≡ recorded_after plan.now change.old self.old.state ∷ journal.old.records) }
-        ensures unchanged { OnErr result ((self.new.state ≡ self.old.state) × (journal.new.records ≡ journal.old.records)) }
+        ensures kept { OnOk result
+            (journal.new.records ≡ recorded_after plan.now change.old self.old.state ∷ journal.old.records) }
+        ensures unchanged { OnErr result
+            ((self.new.state ≡ self.old.state) × (journal.new.records ≡ journal.old.records)) }
         ensures err { IsOkUnless result Refusal.Memory }
         ensures room { IsNoLess self.old self.new }
     {
@@ -357,8 +383,8 @@ impl<E: TwoEnds<u8, A>, M: TwoEnds<Mark, A>, A: Allocator + Copy> Core<E, M, A> 
         Ok(())
     }
 
-    // The next step, where it performs a function, and its record is kept. Its texts are made in these buffers. The loop of a walk
-    // calls it, and has the steps of scanning in itself.
+    // The next step, where it performs a function, and its record is kept. Its texts are made in these buffers. The
+    // loop of a walk calls it, and has the steps of scanning in itself.
     #[inline(never)]
     pub(crate) fn call_step_into(
         &mut self,
@@ -372,10 +398,13 @@ impl<E: TwoEnds<u8, A>, M: TwoEnds<Mark, A>, A: Allocator + Copy> Core<E, M, A> 
         requires short { length tape.bytes.now < 2 ^ 32 }
         requires proper { IsProper self.old.state }
         requires not_full { length journal.old.records < JOURNAL_LIMIT }
-        ensures taken { OnOk result (step (environment_of self.old.width tape.entry) self.old.state ≡ Ok self.new.state) }
-        ensures kept { OnOk result (IsAdded (record_of (environment_of self.old.width tape.entry) self.old.state) journal.old.records journal.new.records) }
+        ensures taken { OnOk result
+            (step (environment_of self.old.width tape.entry) self.old.state ≡ Ok self.new.state) }
+        ensures kept { OnOk result (IsAdded (record_of (environment_of self.old.width tape.entry) self.old.state)
+            journal.old.records journal.new.records) }
         ensures refused { IfErr result (MayRefuse (step (environment_of self.old.width tape.entry) self.old.state)) }
-        ensures unchanged { OnErr result ((self.new.state ≡ self.old.state) × (journal.new.records ≡ journal.old.records)) }
+        ensures unchanged { OnErr result
+            ((self.new.state ≡ self.old.state) × (journal.new.records ≡ journal.old.records)) }
         ensures lacking { LacksRoomAhead self.old }
         ensures room { IsNoLess self.old self.new }
     {

@@ -15,11 +15,11 @@ use trac_rules::width::Width;
 use trac_text::texts::IDLE_PROGRAM;
 use trac_text::{Mark, ends};
 
-/// A machine over lists with two ends: its neutral text stands on the left of the one pair of lists, its active text on the
-/// right; its marks stand on the left of the other. It is seen as the state that it shows, which is always a proper one; how
-/// wide its numbers are, which nothing changes; how many bytes of texts, how many marks and how many bytes of output it has
-/// room for without more memory; and the names under which it can put a form, and how many blocks it can add, without more
-/// memory.
+/// A machine over lists with two ends: its neutral text stands on the left of the one pair of lists, its active text
+/// on the right; its marks stand on the left of the other. It is seen as the state that it shows, which is always a
+/// proper one; how wide its numbers are, which nothing changes; how many bytes of texts, how many marks and how many
+/// bytes of output it has room for without more memory; and the names under which it can put a form, and how many
+/// blocks it can add, without more memory.
 #[derive(Drop)]
 pub struct Core<E: TwoEnds<u8, A>, M: TwoEnds<Mark, A>, A: Allocator + Copy> {
     pub(crate) text: E,
@@ -35,7 +35,8 @@ pub struct Core<E: TwoEnds<u8, A>, M: TwoEnds<Mark, A>, A: Allocator + Copy> {
     pub(crate) width: Width,
 }
 
-/// The machine: its texts in one block of memory, with the gap between neutral and active text, and its marks in another.
+/// The machine: its texts in one block of memory, with the gap between neutral and active text, and
+/// its marks in another.
 pub type Machine<A = Global> = Core<GapBuf<u8, A>, GapBuf<Mark, A>, A>;
 
 impl<E: TwoEnds<u8, A>, M: TwoEnds<Mark, A>, A: Allocator + Copy> Model for Core<E, M, A> {
@@ -45,14 +46,16 @@ impl<E: TwoEnds<u8, A>, M: TwoEnds<Mark, A>, A: Allocator + Copy> Model for Core
 
     ghost coded = { shown_code };
 
-    ghost view = { λ m. shown_by m.width (parts_of (E.ends m.text) (M.ends m.marks) m.store m.meta m.trace m.position m.output) };
+    ghost view = { λ m.
+        shown_by m.width (parts_of (E.ends m.text) (M.ends m.marks) m.store m.meta m.trace m.position m.output) };
 
-    ghost invariant = { λ m. IsMachine m.functions (parts_of (E.ends m.text) (M.ends m.marks) m.store m.meta m.trace m.position m.output) };
+    ghost invariant = { λ m.
+        IsMachine m.functions (parts_of (E.ends m.text) (M.ends m.marks) m.store m.meta m.trace m.position m.output) };
 }
 
 impl<E: TwoEnds<u8, A>, M: TwoEnds<Mark, A>, A: Allocator + Copy> Core<E, M, A> {
-    /// A machine in the state in which a processor begins, with numbers of this width: it is about to run the idle program of
-    /// T-64.
+    /// A machine in the state in which a processor begins, with numbers of this width: it is about
+    /// to run the idle program of T-64.
     /// Refused with `Memory` where the allocator refuses.
     pub fn new(alloc: A, width: Width) -> Result<Self, Refusal>
         ensures made { IfOk result (λ m. m.state ≡ initial) }
@@ -76,10 +79,10 @@ impl<E: TwoEnds<u8, A>, M: TwoEnds<Mark, A>, A: Allocator + Copy> Core<E, M, A> 
     }
 
     /// Empties the output and begins to count the input anew: what is printed is released, and what is read is dropped.
-    /// Names without a form are forgotten, and all others stay known. It takes no memory, and keeps the machine's room
-    /// (this project's profile).
+    /// Names without a form are forgotten, and all others stay known. It takes no memory, and keeps the machine's room.
     pub fn settle(&mut self)
-        ensures { self.new ≡ record self.old { state = settled self.old.state; known = set.from_list (names_of self.old.state.forms) } }
+        ensures { self.new ≡
+            record self.old { state = settled self.old.state; known = set.from_list (names_of self.old.state.forms) } }
     {
         let printed = self.output.len();
         let read = self.position;
@@ -87,8 +90,8 @@ impl<E: TwoEnds<u8, A>, M: TwoEnds<Mark, A>, A: Allocator + Copy> Core<E, M, A> 
         self.store.sweep();
     }
 
-    /// Releases so many bytes of the front of the output, which has to be that long, and takes so many bytes of the tape,
-    /// which have to be read, as dropped. Names and rooms stay. It takes no memory (this project's profile).
+    /// Releases so many bytes of the front of the output, which has to be that long, and takes so many bytes of the
+    /// tape, which have to be read, as dropped. Names and rooms stay. It takes no memory.
     pub fn release(&mut self, output: usize, position: usize)
         requires printed { output ≤ length self.old.state.output }
         requires read { position ≤ self.old.state.position }

@@ -1,4 +1,5 @@
-//! The machine: a state of the language that takes one step at a time, and goes back over it.
+//! The machine: a state of the language that takes one step at a time, and goes back over it. Limits, refusals, what
+//! takes memory and what else T-64 does not name are this project's profile.
 #![tactic(auto)]
 
 mod ahead;

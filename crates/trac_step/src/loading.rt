@@ -30,13 +30,13 @@ fn output_of<A: Allocator + Copy>(alloc: A, parts: &Parts<A>) -> Result<SlidingB
 }
 
 impl<E: TwoEnds<u8, A>, M: TwoEnds<Mark, A>, A: Allocator + Copy> Core<E, M, A> {
-    /// A machine that shows the state of the parts, with numbers of this width. It has at least the rooms that they ask for,
-    /// and knows their names and those of all forms. It has memory of its own, and a room that is less than the state needs is
-    /// made as large as that (this project's profile). Each begun function has to have an argument, the one that is being
-    /// gathered.
+    /// A machine that shows the state of the parts, with numbers of this width. It has at least the rooms
+    /// that they ask for, and knows their names and those of all forms. It has memory of its own, and a room
+    /// that is less than the state needs is made as large as that. Each begun function has to have an
+    /// argument, the one that is being gathered.
     ///
-    /// Refused with `TooLong` where the state, a room or a name passes a limit (this project's profile), and with `Memory`
-    /// where the allocator refuses, which may come first where there are too many forms: they are counted in their store.
+    /// Refused with `TooLong` where the state, a room or a name passes a limit, and with `Memory` where the allocator
+    /// refuses, which may come first where there are too many forms: they are counted in their store.
     pub fn load(alloc: A, parts: &Parts<A>, width: Width) -> Result<Self, Refusal>
         requires { EachGathers parts.now.frames.items }
         ensures answer { MayAnswer (λ m. m.state) (loaded parts.now) result }

@@ -100,7 +100,8 @@ impl<E: TwoEnds<u8, A>, M: TwoEnds<Mark, A>, A: Allocator + Copy> Core<E, M, A> 
         requires moves { IsMove (scan self.old.state) }
         ensures taken { OnOk result ((environment : _) → step environment self.old.state ≡ Ok self.new.state) }
         ensures recorded { IfOk result (λ r. recorded_by r ≡ recorded self.old.state) }
-        ensures refused { IfErr result (λ e. (self.new.state ≡ self.old.state) × ((environment : _) → MayRefuse (step environment self.old.state) e)) }
+        ensures refused { IfErr result (λ e.
+            (self.new.state ≡ self.old.state) × ((environment : _) → MayRefuse (step environment self.old.state) e)) }
         ensures lacking { IfErr result (λ e. e ≡ Refusal.Memory → LacksRoomAhead self.old) }
         ensures room { IsNoLess self.old self.new }
     {
@@ -124,7 +125,8 @@ impl<E: TwoEnds<u8, A>, M: TwoEnds<Mark, A>, A: Allocator + Copy> Core<E, M, A> 
         ensures taken { OnOk result ((environment : _) → step environment self.old.state ≡ Ok self.new.state) }
         ensures kept { OnOk result (journal.new.records ≡ recorded self.old.state ∷ journal.old.records) }
         ensures refused { IfErr result (λ e. (environment : _) → MayRefuse (step environment self.old.state) e) }
-        ensures unchanged { OnErr result ((self.new.state ≡ self.old.state) × (journal.new.records ≡ journal.old.records)) }
+        ensures unchanged { OnErr result
+            ((self.new.state ≡ self.old.state) × (journal.new.records ≡ journal.old.records)) }
         ensures lacking { IfErr result (λ e. e ≡ Refusal.Memory → 1 ≤ journal.old.places → LacksRoomAhead self.old) }
         ensures room { IsNoLess self.old self.new }
     {
@@ -147,7 +149,8 @@ impl<E: TwoEnds<u8, A>, M: TwoEnds<Mark, A>, A: Allocator + Copy> Core<E, M, A> 
         }
     }
 
-    // Carries out the rule for this front, which asks for no call and does not empty all texts, and keeps what it destroys.
+    // Carries out the rule for this front, which asks for no call and does not empty all texts, and
+    // keeps what it destroys.
     fn move_briefly_into(&mut self, journal: &mut Journal<A>, front: Front) -> Result<(), Refusal>
         requires front { front ≡ front_of self.old.state.active }
         requires moves { IsMove (scan self.old.state) }

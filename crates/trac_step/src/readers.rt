@@ -28,8 +28,8 @@ impl<E: TwoEnds<u8, A>, M: TwoEnds<Mark, A>, A: Allocator + Copy> Core<E, M, A> 
         NeutralText::new(self.text.left(), self.marks.left(), self.functions)
     }
 
-    /// How many bytes base text and the arguments of all begun functions hold together. It takes the same time however many
-    /// these are (this project's profile).
+    /// How many bytes base text and the arguments of all begun functions hold together. It takes the
+    /// same time however many these are.
     pub fn neutral_len(&self) -> usize
         ensures { result ≡ length self.now.state.base + argument_bytes self.now.state.frames }
     {
@@ -43,8 +43,8 @@ impl<E: TwoEnds<u8, A>, M: TwoEnds<Mark, A>, A: Allocator + Copy> Core<E, M, A> 
         self.neutral().base()
     }
 
-    /// How many functions are begun, by T-64's rules of scanning, and not ended. A machine keeps the number, so this takes
-    /// the same time however many these are (this project's profile).
+    /// How many functions are begun, by T-64's rules of scanning, and not ended. A machine keeps the number, so this
+    /// takes the same time however many these are.
     pub fn depth(&self) -> usize
         ensures { result ≡ length self.now.state.frames }
     {
@@ -52,24 +52,24 @@ impl<E: TwoEnds<u8, A>, M: TwoEnds<Mark, A>, A: Allocator + Copy> Core<E, M, A> 
     }
 
     /// The begun function of this number, the outermost being number 0: its kind, and all its arguments, of which the
-    /// last is being gathered. None past the innermost. It takes time for the marks of this function and of those inside it
-    /// alone. That they are counted from outside is this project's profile.
+    /// last is being gathered. None past the innermost. It takes time for the marks of this
+    /// function and of those inside it alone.
     pub fn frame(&self, i: usize) -> Option<(Kind, Args<'_>)>
-        ensures { MatchOption result (length self.now.state.frames ≤ i) (λ r. IsFrame (slice_get (reverse self.now.state.frames) i) r.0 r.1) }
+        ensures { MatchOption result (length self.now.state.frames ≤ i)
+            (λ r. IsFrame (slice_get (reverse self.now.state.frames) i) r.0 r.1) }
     {
         self.neutral().frame(i)
     }
 
     /// The begun functions, one after another from the outermost on: a walk over all of them takes time for all marks
-    /// together, where `frame` looks for each from the innermost on (this project's profile).
+    /// together, where `frame` looks for each from the innermost on.
     pub fn begun_functions(&self) -> BegunFunctions<'_>
         ensures { result ≡ reverse self.now.state.frames }
     {
         self.neutral().begun_functions()
     }
 
-    /// The name of the function that the next step would perform; none where it would perform none. It takes no memory
-    /// (this project's profile).
+    /// The name of the function that the next step would perform; none where it would perform none. It takes no memory.
     pub fn at_call(&self) -> Option<&[u8]>
         ensures { MatchOption result (call_at self.now.state ≡ None) (λ name. call_at self.now.state ≡ Some name.now) }
     {
@@ -77,10 +77,14 @@ impl<E: TwoEnds<u8, A>, M: TwoEnds<Mark, A>, A: Allocator + Copy> Core<E, M, A> 
         Some(arguments.get(0))
     }
 
-    /// The forms by their names, the blocks, the names that have a place, and how many more blocks have one
-    /// (this project's profile).
+    /// The forms by their names, the blocks, the names that have a place, and how many more blocks have one.
     pub fn store(&self) -> &Store<A>
-        ensures { result.now ≡ record { forms = self.now.state.forms; blocks = self.now.state.blocks; known = self.now.known; spare = self.now.spare } }
+        ensures { result.now ≡ record {
+          forms = self.now.state.forms;
+          blocks = self.now.state.blocks;
+          known = self.now.known;
+          spare = self.now.spare;
+        } }
     {
         &self.store
     }
@@ -99,22 +103,22 @@ impl<E: TwoEnds<u8, A>, M: TwoEnds<Mark, A>, A: Allocator + Copy> Core<E, M, A> 
         self.trace
     }
 
-    /// How many bytes of the tape are read (this project's profile).
+    /// How many bytes of the tape are read.
     pub fn position(&self) -> usize
         ensures { result ≡ self.now.state.position }
     {
         self.position
     }
 
-    /// What is printed and not released yet (this project's profile).
+    /// What is printed and not released yet.
     pub fn output(&self) -> &[u8]
         ensures { result.now ≡ self.now.state.output }
     {
         self.output.as_slice()
     }
 
-    /// How wide numbers are: as the machine was made, and nothing changes it. Whatever state it shows, a machine has room
-    /// for that, and knows the names of its forms (this project's profile).
+    /// How wide numbers are: as the machine was made, and nothing changes it. Whatever state it shows, a machine has
+    /// room for that, and knows the names of its forms.
     pub fn width(&self) -> Width
         ensures width { result ≡ self.now.width }
         ensures room { HasRoom self.now self.now.state }

@@ -16,7 +16,7 @@ use trac_text::{Kind, Mark, Pieces};
 
 /// What one step of a machine destroyed, by which any machine that shows the state after it can go back. What a
 /// step only moved is not kept: a record says how much it was, counted from the end of the text to which it
-/// went (this project's profile).
+/// went.
 #[derive(Drop)]
 pub enum Record<A: Allocator + Copy = Global> {
     /// A byte went to the current text.
@@ -79,7 +79,8 @@ impl<A: Allocator + Copy> Record<A> {
         }
     }
 
-    // The record of a call, from what it says beside its arguments, these, and what the call destroyed of forms and blocks.
+    // The record of a call, from what it says beside its arguments, these, and what the call
+    // destroyed of forms and blocks.
     pub(crate) fn of_call(called: Called, arguments: Pieces<A>, undone: Undone<A>) -> Self
         ensures { recorded_by result ≡ rules.Called (record_with called (all_texts arguments) (undone_in undone)) }
     {
@@ -97,9 +98,9 @@ impl<A: Allocator + Copy> Record<A> {
     }
 
     /// What the record keeps: bytes of texts and names, items of forms, and one for each gap that was made, `,`, begun
-    /// function, name and meta character. Lengths, old pointers, numbers of blocks and flags are not weighed. This is this
-    /// project's profile. The sum has to fit a `usize`, as it does for every record of a step. It takes no memory, and time for
-    /// the begun functions and the forms alone, whatever their length.
+    /// function, name and meta character. Lengths, old pointers, numbers of blocks and flags are not weighed. The sum
+    /// has to fit a `usize`, as it does for every record of a step. It takes no memory, and time for the begun
+    /// functions and the forms alone, whatever their length.
     pub fn weight(&self) -> usize
         requires { weight (recorded_by self.now) < 2 ^ 64 }
         ensures { result ≡ weight (recorded_by self.now) }
@@ -121,8 +122,8 @@ impl<A: Allocator + Copy> Record<A> {
 impl<E: TwoEnds<u8, A>, M: TwoEnds<Mark, A>, A: Allocator + Copy> Core<E, M, A> {
     /// Goes back over a step: the machine shows the state before it again, all parts as they were, in its own room. All
     /// that was lost comes from the record, so any machine that shows the state after the step can go back over it. It
-    /// takes no memory and cannot fail, lessens no room and forgets no name (this project's profile). The record has to say
-    /// a state before the one that the machine shows, and the machine has to have room for it and to know the names of its
+    /// takes no memory and cannot fail, lessens no room and forgets no name. The record has to say a state before
+    /// the one that the machine shows, and the machine has to have room for it and to know the names of its
     /// forms, as it does after the step.
     pub fn undo(&mut self, taken: Record<A>)
         requires { IsSomeAnd (before taken self.old.state) (λ s. HasRoom self.old s) }

@@ -1,5 +1,6 @@
 //! The rules of scanning that perform no function, each on the machine's own parts.
-ghost use Rattle.std.specs.Prelude.{◌≡◌, ◌<◌, ◌≤◌, ◌+◌, ◌++◌, false, get_or, is_some, length, take, drop, None, IfOk, IsOkUnless, OnErr, OnOk, ℕ};
+ghost use Rattle.std.specs.Prelude.{◌≡◌, ◌<◌, ◌≤◌, ◌+◌, ◌++◌, false, get_or, is_some, length, take, drop, None, IfOk};
+ghost use Rattle.std.specs.Prelude.{IsOkUnless, OnErr, OnOk, ℕ};
 ghost use Rattle.trac_rules.specs.Matching.{match_of, protected};
 ghost use Rattle.trac_rules.specs.Scanning.{protect, deleted, comma_in, gather_first};
 ghost use Rattle.trac_rules.specs.Limits.{marks};
@@ -25,7 +26,10 @@ use trac_text::texts::{push_mark, take_first, take_protected};
 #[inline(always)]
 fn gather_plain<E: TwoEnds<u8, A>, A: Allocator + Copy>(text: &mut E, count: usize)
     requires { count ≤ length (E.ends text.old).right }
-    ensures { E.ends text.new ≡ record (E.ends text.old) { left = (E.ends text.old).left ++ take count (E.ends text.old).right; right = drop count (E.ends text.old).right } }
+    ensures { E.ends text.new ≡ record (E.ends text.old) {
+      left = (E.ends text.old).left ++ take count (E.ends text.old).right;
+      right = drop count (E.ends text.old).right;
+    } }
 {
     if count > 0 {
         text.shift_left(count);
@@ -36,7 +40,8 @@ impl<E: TwoEnds<u8, A>, M: TwoEnds<Mark, A>, A: Allocator + Copy> Core<E, M, A> 
     // A `(`: what it protects goes to the current text. Returns how many bytes that is, and whether there was a match.
     pub(crate) fn protect(&mut self) -> (usize, bool)
         requires { 0 < length self.old.state.active }
-        ensures shown { self.new ≡ record self.old { state = protect (protected (drop 1 self.old.state.active)) self.old.state } }
+        ensures shown { self.new
+            ≡ record self.old { state = protect (protected (drop 1 self.old.state.active)) self.old.state } }
         ensures inner { result.0 ≡ length (protected (drop 1 self.old.state.active)).inner }
         ensures closed { result.1 ≡ is_some (match_of (drop 1 self.old.state.active)) }
     {
@@ -60,7 +65,8 @@ impl<E: TwoEnds<u8, A>, M: TwoEnds<Mark, A>, A: Allocator + Copy> Core<E, M, A> 
         ensures recorded { IfOk result (λ r. said_by r ≡ comma_recorded self.old.state.frames self.old.state) }
         ensures room { IsNoLess self.old self.new }
         ensures unchanged { OnErr result (self.new ≡ self.old) }
-        ensures full { OnErr result ((0 < length self.old.state.frames) × (self.old.mark_room ≤ marks self.old.state.frames)) }
+        ensures full { OnErr result
+            ((0 < length self.old.state.frames) × (self.old.mark_room ≤ marks self.old.state.frames)) }
         ensures err { IsOkUnless result Refusal.Memory }
     {
         if self.marks.left().is_empty() {
@@ -70,8 +76,8 @@ impl<E: TwoEnds<u8, A>, M: TwoEnds<Mark, A>, A: Allocator + Copy> Core<E, M, A> 
         Ok(Short::Comma)
     }
 
-    // The first n bytes of the active text are deleted, and a function of this kind is begun, or, where none is named, a
-    // further argument of the innermost one.
+    // The first n bytes of the active text are deleted, and a function of this kind is begun, or, where none is named,
+    // a further argument of the innermost one.
     #[inline]
     pub(crate) fn mark(&mut self, n: usize, frame: Option<Kind>) -> Result<(), Refusal>
         requires front { n ≤ length self.old.state.active }
@@ -96,9 +102,9 @@ impl<E: TwoEnds<u8, A>, M: TwoEnds<Mark, A>, A: Allocator + Copy> Core<E, M, A> 
         self.text.shift_left(1);
     }
 
-    /// Moves the plain bytes with which the active text begins, counted up to `most`, to the current text, and returns how
-    /// many these are: as many steps of T-64's rules of scanning, each of which would answer the record `Moved`. It takes no
-    /// memory, and the machine has room for each state on the way (this project's profile).
+    /// Moves the plain bytes with which the active text begins, counted up to `most`, to the current text, and returns
+    /// how many these are: as many steps of T-64's rules of scanning, each of which would answer the record `Moved`. It
+    /// takes no memory, and the machine has room for each state on the way.
     #[inline(always)]
     pub fn move_plain(&mut self, most: usize) -> usize
         ensures moved { self.new ≡ record self.old { state = moved_on result self.old.state } }
@@ -106,7 +112,8 @@ impl<E: TwoEnds<u8, A>, M: TwoEnds<Mark, A>, A: Allocator + Copy> Core<E, M, A> 
         ensures most { result ≤ most }
         ensures proper { IsProper self.old.state }
         ensures held { (k : ℕ) → k ≤ result → HasRoom self.old (moved_on k self.old.state) }
-        ensures end { result < most → result < length self.old.state.active → is_plain (get_or self.old.state.active result 0) ≡ false }
+        ensures end { result < most → result < length self.old.state.active →
+            is_plain (get_or self.old.state.active result 0) ≡ false }
     {
         self.is_in_its_room();
         let count = plain_front(self.text.right(), most);

@@ -18,8 +18,8 @@ use trac_text::texts_back::{give_protected_back, pop_beginning, pop_mark};
 use trac_text::{Mark, NeutralText, PiecesRef};
 
 impl<E: TwoEnds<u8, A>, M: TwoEnds<Mark, A>, A: Allocator + Copy> Core<E, M, A> {
-    /// Moves the last n bytes of the current text back before the active text, as going back over as many records `Moved`
-    /// does. The current text has to hold so many. It takes no memory (this project's profile).
+    /// Moves the last n bytes of the current text back before the active text, as going back over as many records
+    /// `Moved` does. The current text has to hold so many. It takes no memory.
     pub fn move_back(&mut self, n: usize)
         requires { IsSome (moved_back n self.old.state) }
         ensures state { moved_back n self.old.state ≡ Some self.new.state }
@@ -65,10 +65,11 @@ impl<E: TwoEnds<u8, A>, M: TwoEnds<Mark, A>, A: Allocator + Copy> Core<E, M, A> 
         self.functions -= 1;
     }
 
-    // The function of a call is begun again, its value and what it printed are gone, and its `)` is back before the active text:
-    // all but forms and blocks is as it was.
+    // The function of a call is begun again, its value and what it printed are gone, and its `)` is back before the
+    // active text: all but forms and blocks is as it was.
     pub(crate) fn begin_again(&mut self, called: Called, arguments: &PiecesRef<'_>)
-        requires { CanShow self.old (restored (rules.Called (record_with called (all_texts arguments.now) Nothing)) self.old.state) }
+        requires { CanShow self.old
+            (restored (rules.Called (record_with called (all_texts arguments.now) Nothing)) self.old.state) }
         ensures { IsBegunAgain called (all_texts arguments.now) self.old self.new }
     {
         put_call(

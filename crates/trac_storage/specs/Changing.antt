@@ -1,5 +1,5 @@
--- What a change of forms and blocks does beside them: the names that are known after it, the places that are spare for blocks, and
--- whether it takes memory.
+-- What a change of forms and blocks does beside them: the names that are known after it, the places that are spare for
+-- blocks, and whether it takes memory.
 use Rattle.std.specs.Prelude.{◌≡◌, ◌≤◌, ◌+◌, ℕ, List, [], ◌∷◌, IsTrue}
 use Rattle.std.specs.FinSet as set
 use Rattle.trac_change.specs.declared.change.Change as code
@@ -34,7 +34,8 @@ names_put (MoveIn held name address) = name.items ∷ []
 names_put (Bring number forms) = names_in (named_forms forms.items)
 names_put change = []
 
--- the places for blocks that are spare before a change and after it: just as many, but where it puts a block, which takes one
+-- the places for blocks that are spare before a change and after it: just as many, but where it
+-- puts a block, which takes one
 abbrev pub HasPlaces : {A : Type 0} → code.Change A → ℕ → ℕ → Type 0
 HasPlaces (MoveIn held name address) before after = before ≤ after + 1
 HasPlaces change before after = after ≡ before

@@ -2,7 +2,8 @@
 use Rattle.std.specs.Prelude.{ℕ, ◌&&◌, nat_le, List, length, map, Bool, true, Option, None, Some, Vec, Result, Ok}
 use Rattle.std.specs.FinMap as finite
 use Rattle.std.specs.List.{All, list_all}
-use Rattle.trac_rules.specs.declared.limit.TheConstants.{BLOCK_LIMIT, FORM_COUNT_LIMIT, MARK_LIMIT, NAME_LIMIT, OUTPUT_LIMIT, TEXT_LIMIT}
+use Rattle.trac_rules.specs.declared.limit.TheConstants.{BLOCK_LIMIT, FORM_COUNT_LIMIT, MARK_LIMIT, NAME_LIMIT}
+use Rattle.trac_rules.specs.declared.limit.TheConstants.{OUTPUT_LIMIT, TEXT_LIMIT}
 use Rattle.trac_rules.specs.declared.refusal.Refusal.{Refusal}
 use Rattle.trac_rules.specs.Blocks.{moved_out, with_all}
 use Rattle.trac_rules.specs.Form.{Form}
@@ -48,7 +49,8 @@ state_in parts = record {
 
 -- whether the rooms that are wanted are within the limits
 abbrev pub rooms_fit : {A : Type 0} → code.Parts A → Bool
-rooms_fit parts = nat_le parts.text_room TEXT_LIMIT && nat_le parts.mark_room MARK_LIMIT && nat_le parts.output_room OUTPUT_LIMIT
+rooms_fit parts =
+    nat_le parts.text_room TEXT_LIMIT && nat_le parts.mark_room MARK_LIMIT && nat_le parts.output_room OUTPUT_LIMIT
 
 -- whether names are within the limit
 abbrev pub names_fit : List (List ℕ) → Bool
@@ -79,8 +81,8 @@ blocks_fit blocks = nat_le (length blocks) BLOCK_LIMIT && list_all block_entries
 
 -- all of these
 abbrev pub lengths_fit : {A : Type 0} → code.Parts A → Bool
-lengths_fit parts =
-    texts_fit (state_in parts) && rooms_fit parts && names_fit (texts_of parts.names.items) && entries_fit (named_forms parts.forms.items) && blocks_fit parts.blocks.items
+lengths_fit parts = texts_fit (state_in parts) && rooms_fit parts && names_fit (texts_of parts.names.items)
+    && entries_fit (named_forms parts.forms.items) && blocks_fit parts.blocks.items
 
 -- forms and their names are within the limits, and each gap is at least one byte wide
 abbrev pub AreProperEntries : Held → Type 0

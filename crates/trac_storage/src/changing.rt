@@ -1,5 +1,6 @@
 //! Changing forms and blocks as a call planned it.
-ghost use Rattle.std.specs.Prelude.{◌≡◌, ◌≤◌, ◌+◌, drop, is_some, IfOk, IfSome, IsOk, IsOkUnless, IsTrue, OnErr, OnOk, Some};
+ghost use Rattle.std.specs.Prelude.{◌≡◌, ◌≤◌, ◌+◌, drop, is_some, IfOk, IfSome, IsOk, IsOkUnless, IsTrue, OnErr, OnOk};
+ghost use Rattle.std.specs.Prelude.{Some};
 ghost use Rattle.std.specs.FinMap as finite;
 ghost use Rattle.std.specs.FinSet as set;
 ghost use Rattle.trac_rules.specs.Blocks.{block_at, erased, put_aside};
@@ -23,12 +24,13 @@ use trac_forms::{Block, Cut, Form, Store};
 use trac_rules::refusal::Refusal;
 use trac_text::Args;
 
-/// Changes forms and blocks as a call of these arguments planned it, and returns what that destroyed. The names under which it
-/// puts forms are known then, and no other name becomes known or is forgotten (this project's profile). What stands in `change`
-/// after it is not claimed: what was planned may have been taken out of there, also where it is refused.
+/// Changes forms and blocks as a call of these arguments planned it, and returns what that destroyed. The names under
+/// which it puts forms are known then, and no other name becomes known or is forgotten. What stands in `change` after
+/// it is not claimed: what was planned may have been taken out of there, also where it is refused.
 ///
-/// Refused with `Memory` where the allocator refuses, and then forms and blocks are as before. Setting a pointer, cutting and
-/// erasing take no memory, and putting a form takes some only where its name is not known: else these are never refused.
+/// Refused with `Memory` where the allocator refuses, and then forms and blocks are as before. Setting a
+/// pointer, cutting and erasing take no memory, and putting a form takes some only where its name is not
+/// known: else these are never refused.
 pub fn change_forms<A: Allocator + Copy>(
     store: &mut Store<A>,
     alloc: A,
@@ -46,7 +48,8 @@ pub fn change_forms<A: Allocator + Copy>(
     ensures free { TakesNone store.old.known change.old → IsOk result }
     ensures err { IsOkUnless result Refusal.Memory }
 {
-    // Most changes set a pointer or define a form: these are made at once, and the first leaves the change where it stands.
+    // Most changes set a pointer or define a form: these are made at once, and the first leaves the
+    // change where it stands.
     if let Change::Point(name, place) = change {
         return Ok(set_pointer(store, name.as_slice(), *place));
     }
@@ -56,8 +59,8 @@ pub fn change_forms<A: Allocator + Copy>(
     }
 }
 
-// Makes any of the other changes, as `change_forms` says. It is compiled apart, since it is seldom called and clears room for all
-// that it may make.
+// Makes any of the other changes, as `change_forms` says. It is compiled apart, since it is seldom called and clears
+// room for all that it may make.
 #[inline(never)]
 fn change_other<A: Allocator + Copy>(
     store: &mut Store<A>,
@@ -99,7 +102,10 @@ fn put_form<A: Allocator + Copy>(
     name: &[u8],
     form: Form<A>,
 ) -> Result<Undone<A>, Refusal>
-    ensures put { OnOk result (store.new ≡ record store.old { forms = finite.insert store.old.forms name.now form; known = set.insert store.old.known name.now }) }
+    ensures put { OnOk result (store.new ≡ record store.old {
+      forms = finite.insert store.old.forms name.now form;
+      known = set.insert store.old.known name.now;
+    }) }
     ensures undone { IfOk result (λ undone. undone_in undone ≡ Swap (finite.get store.old.forms name.now)) }
     ensures unchanged { OnErr result (store.new ≡ store.old) }
     ensures places { store.new.spare ≡ store.old.spare }
@@ -118,7 +124,8 @@ fn cut_out<A: Allocator + Copy>(
     cut: Cut<A>,
 ) -> Undone<A>
     requires { IfSome (finite.get store.old.forms name.now) (λ form. cut ≡ cut_of (drop 2 arguments.now) form) }
-    ensures storage { storage_in store.new ≡ cut_in name.now (drop 2 arguments.now) (finite.get store.old.forms name.now) (storage_in store.old) }
+    ensures storage { storage_in store.new
+        ≡ cut_in name.now (drop 2 arguments.now) (finite.get store.old.forms name.now) (storage_in store.old) }
     ensures undone { undone_in result ≡ cut_lost cut (finite.get store.old.forms name.now) }
     ensures names { store.new.known ≡ store.old.known }
     ensures places { store.new.spare ≡ store.old.spare }
@@ -129,10 +136,11 @@ fn cut_out<A: Allocator + Copy>(
     }
 }
 
-// Sets the pointer of the form of this name, if there is one: before the item at this place, or at the end where the form has
-// none there. Returns what that destroyed, which is where the pointer stood.
+// Sets the pointer of the form of this name, if there is one: before the item at this place, or at the end where the
+// form has none there. Returns what that destroyed, which is where the pointer stood.
 fn set_pointer<A: Allocator + Copy>(store: &mut Store<A>, name: &[u8], place: usize) -> Undone<A>
-    ensures storage { storage_in store.new ≡ pointed name.now place (finite.get store.old.forms name.now) (storage_in store.old) }
+    ensures storage { storage_in store.new
+        ≡ pointed name.now place (finite.get store.old.forms name.now) (storage_in store.old) }
     ensures undone { undone_in result ≡ pointer_lost (finite.get store.old.forms name.now) }
     ensures names { store.new.known ≡ store.old.known }
     ensures places { store.new.spare ≡ store.old.spare }
@@ -143,9 +151,9 @@ fn set_pointer<A: Allocator + Copy>(store: &mut Store<A>, name: &[u8], place: us
     }
 }
 
-// Moves the forms of these names into a new block, and puts its address under a name. Returns what that destroyed, which is
-// what the address replaces. It takes memory for the block, for its place, and where the name is not known, all before any form
-// leaves.
+// Moves the forms of these names into a new block, and puts its address under a name. Returns what that destroyed,
+// which is what the address replaces. It takes memory for the block, for its place, and where the name is not
+// known, all before any form leaves.
 fn put_aside<A: Allocator + Copy>(
     store: &mut Store<A>,
     alloc: A,
@@ -153,8 +161,10 @@ fn put_aside<A: Allocator + Copy>(
     name: &[u8],
     address: Form<A>,
 ) -> Result<Undone<A>, Refusal>
-    ensures storage { OnOk result (storage_in store.new ≡ with_form name.now address (put_aside (texts_of held.items) (storage_in store.old))) }
-    ensures undone { IfOk result (λ undone. undone_in undone ≡ MoveOut (finite.get (without (texts_of held.items) store.old.forms) name.now)) }
+    ensures storage { OnOk result
+        (storage_in store.new ≡ with_form name.now address (put_aside (texts_of held.items) (storage_in store.old))) }
+    ensures undone { IfOk result
+        (λ undone. undone_in undone ≡ MoveOut (finite.get (without (texts_of held.items) store.old.forms) name.now)) }
     ensures unchanged { OnErr result (storage_in store.new ≡ storage_in store.old) }
     ensures names { OnOk result (store.new.known ≡ set.insert store.old.known name.now) }
     ensures same { OnErr result (store.new.known ≡ store.old.known) }
@@ -173,7 +183,8 @@ fn put_aside<A: Allocator + Copy>(
 fn erase<A: Allocator + Copy>(store: &mut Store<A>, number: usize, name: &[u8]) -> Undone<A>
     requires { IsTrue (is_some (block_at number store.old.blocks)) }
     ensures storage { storage_in store.new ≡ erased number name.now (storage_in store.old) }
-    ensures undone { undone_in result ≡ block_lost (Some number) (finite.get store.old.forms name.now) store.old.blocks }
+    ensures undone { undone_in result
+        ≡ block_lost (Some number) (finite.get store.old.forms name.now) store.old.blocks }
     ensures names { store.new.known ≡ store.old.known }
     ensures places { store.new.spare ≡ store.old.spare }
 {

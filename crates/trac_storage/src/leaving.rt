@@ -17,15 +17,17 @@ use trac_change::Undone;
 use trac_forms::{FormError, Store};
 use trac_rules::refusal::Refusal;
 
-// Deletes the forms of these names; a name without a form is passed over. Returns what that destroyed. It takes memory for the
-// list of these forms, before any of them leaves.
+// Deletes the forms of these names; a name without a form is passed over. Returns what that destroyed. It takes memory
+// for the list of these forms, before any of them leaves.
 pub(crate) fn delete_each<A: Allocator + Copy>(
     store: &mut Store<A>,
     alloc: A,
     names: Vec<Vec<u8, A>, A>,
 ) -> Result<Undone<A>, Refusal>
-    ensures storage { OnOk result (storage_in store.new ≡ keeping (without (texts_of names.items) store.old.forms) (storage_in store.old)) }
-    ensures undone { IfOk result (λ undone. undone_in undone ≡ Restore (moved_out (texts_of names.items) store.old.forms)) }
+    ensures storage { OnOk result
+        (storage_in store.new ≡ keeping (without (texts_of names.items) store.old.forms) (storage_in store.old)) }
+    ensures undone { IfOk result
+        (λ undone. undone_in undone ≡ Restore (moved_out (texts_of names.items) store.old.forms)) }
     ensures unchanged { OnErr result (storage_in store.new ≡ storage_in store.old) }
     ensures names { store.new.known ≡ store.old.known }
     ensures places { store.new.spare ≡ store.old.spare }
@@ -79,8 +81,8 @@ fn copies_of<A: Allocator + Copy>(
 }
 
 // Puts copies of the forms of the block of this number under their names, which are each different. Returns what that
-// destroyed, which are the forms that they replace. It takes memory for the list of these, and where a name is not known, all
-// before any form is put.
+// destroyed, which are the forms that they replace. It takes memory for the list of these, and where a name is not
+// known, all before any form is put.
 pub(crate) fn bring<A: Allocator + Copy>(
     store: &mut Store<A>,
     alloc: A,
@@ -88,8 +90,10 @@ pub(crate) fn bring<A: Allocator + Copy>(
     forms: Vec<Named<A>, A>,
 ) -> Result<Undone<A>, Refusal>
     requires { AreApart (named_forms forms.items) }
-    ensures storage { OnOk result (storage_in store.new ≡ keeping (with_all (named_forms forms.items) store.old.forms) (storage_in store.old)) }
-    ensures undone { IfOk result (λ undone. undone_in undone ≡ Unbring number (moved_out (names_in (named_forms forms.items)) store.old.forms)) }
+    ensures storage { OnOk result
+        (storage_in store.new ≡ keeping (with_all (named_forms forms.items) store.old.forms) (storage_in store.old)) }
+    ensures undone { IfOk result
+        (λ undone. undone_in undone ≡ Unbring number (moved_out (names_in (named_forms forms.items)) store.old.forms)) }
     ensures unchanged { OnErr result (storage_in store.new ≡ storage_in store.old) }
     ensures names { OnOk result (store.new.known ≡ knowing (names_in (named_forms forms.items)) store.old.known) }
     ensures some { OnErr result (KnowsSome (names_in (named_forms forms.items)) store.old.known store.new.known) }
@@ -102,8 +106,8 @@ pub(crate) fn bring<A: Allocator + Copy>(
     Ok(Undone::Unbring { number, replaced })
 }
 
-// Takes the forms of these names out of the store, and lists them with their names; a name without a form is passed over.
-// The list has room for so many, and is empty.
+// Takes the forms of these names out of the store, and lists them with their names; a name without a form is passed
+// over. The list has room for so many, and is empty.
 fn take_each<A: Allocator + Copy>(
     store: &mut Store<A>,
     names: Vec<Vec<u8, A>, A>,
@@ -122,8 +126,8 @@ fn take_each<A: Allocator + Copy>(
     taken
 }
 
-// Puts forms under their names, which are known and each different, and lists those that they replace, with their names. The
-// list has room for so many, and is empty.
+// Puts forms under their names, which are known and each different, and lists those that they replace, with their
+// names. The list has room for so many, and is empty.
 fn replace_each<A: Allocator + Copy>(
     store: &mut Store<A>,
     forms: Vec<Named<A>, A>,

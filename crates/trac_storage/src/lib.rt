@@ -1,4 +1,5 @@
-//! Forms and blocks without the machine: what a call changes of them, there and back, and the parts of which they are loaded.
+//! Forms and blocks without the machine: what a call changes of them, there and back, and the parts of which they are
+//! loaded. Limits, refusals, what takes memory and what else T-64 does not name are this project's profile.
 #![tactic(auto)]
 
 mod blocking;

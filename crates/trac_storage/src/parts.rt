@@ -5,7 +5,8 @@ ghost use Rattle.trac_rules.specs.Limits.{texts_fit};
 ghost use Rattle.trac_rules.specs.Proper.{IsProperForm};
 ghost use Rattle.trac_change.specs.Changed.{named_forms};
 ghost use Rattle.trac_text.specs.Framing.{texts_of, EachGathers};
-ghost use Rattle.trac_storage.specs.Loading.{AreProperEntries, IsProperList, block_entries_fit, blocks_fit, entries_fit, lengths_fit, names_fit, rooms_fit, state_in};
+ghost use Rattle.trac_storage.specs.Loading.{AreProperEntries, IsProperList, block_entries_fit, blocks_fit};
+ghost use Rattle.trac_storage.specs.Loading.{entries_fit, lengths_fit, names_fit, rooms_fit, state_in};
 
 use crate::blocking::Named;
 use std::alloc::{Allocator, Global};
@@ -14,20 +15,21 @@ use trac_rules::limit::{BLOCK_LIMIT, MARK_LIMIT, NAME_LIMIT, OUTPUT_LIMIT, TEXT_
 use trac_text::Kind;
 use trac_text::framing::{each_gathers, mark_count, text_len};
 
-/// The parts of a state, from which a machine is made that shows it, and the room that the machine is to have
-/// (this project's profile). Texts and names are any bytes.
+/// The parts of a state, from which a machine is made that shows it, and the room that the machine is to have.
+/// Texts and names are any bytes.
 #[derive(Drop)]
 pub struct Parts<A: Allocator + Copy = Global> {
     /// What is not scanned yet.
     pub active: Vec<u8, A>,
     /// The neutral text outside all begun functions.
     pub base: Vec<u8, A>,
-    /// The begun functions, from the outermost on: the kind of each, and its arguments, of which the last is being gathered.
+    /// The begun functions, from the outermost on: the kind of each, and its arguments, of which
+    /// the last is being gathered.
     pub frames: Vec<(Kind, Vec<Vec<u8, A>, A>), A>,
     /// The forms with their names. Where a name stands again, the later form replaces the earlier one.
     pub forms: Vec<(Vec<u8, A>, Form<A>), A>,
-    /// The blocks in the order of their numbers, from 0 on; an erased one is none. Where a name stands again in a block, the
-    /// later form stands in the place of the earlier one.
+    /// The blocks in the order of their numbers, from 0 on; an erased one is none. Where a name stands again in a
+    /// block, the later form stands in the place of the earlier one.
     pub blocks: Vec<Option<Vec<(Vec<u8, A>, Form<A>), A>>, A>,
     /// The byte that ends a text of the input.
     pub meta: u8,
@@ -48,7 +50,7 @@ pub struct Parts<A: Allocator + Copy = Global> {
 }
 
 impl<A: Allocator + Copy> Parts<A> {
-    /// Whether each begun function has an argument, as loading asks (this project's profile). It takes no memory.
+    /// Whether each begun function has an argument, as loading asks. It takes no memory.
     pub fn each_gathers(&self) -> bool
         ensures yes { IsTrue result → EachGathers self.now.frames.items }
         ensures no { EachGathers self.now.frames.items → IsTrue result }
@@ -150,7 +152,7 @@ fn blocks_within<A: Allocator + Copy>(blocks: &[Option<Vec<Named<A>, A>>]) -> bo
 }
 
 /// Whether all is within the limits but the number of forms, and that of the forms of a block, since only a store tells
-/// how many of them replace others (this project's profile). Each begun function has to have an argument. It takes no memory.
+/// how many of them replace others. Each begun function has to have an argument. It takes no memory.
 pub fn lengths_within<A: Allocator + Copy>(parts: &Parts<A>) -> bool
     requires { EachGathers parts.now.frames.items }
     ensures fits { result ≡ lengths_fit parts.now }

@@ -15,16 +15,16 @@ use trac_change::{Undone, after};
 use trac_forms::{Block, Form, Store};
 use trac_text::Args;
 
-/// Puts back what a call of these arguments destroyed of forms and blocks. It takes no memory, and forgets no name. There have
-/// to be forms and blocks before the call (`storage_before`), and the names of these forms have to be known (this project's
-/// profile: T-64 says nothing of ways back).
+/// Puts back what a call of these arguments destroyed of forms and blocks. It takes no memory, and forgets no name.
+/// There have to be forms and blocks before the call (`storage_before`), and the names of these forms have to be known.
 pub fn put_storage<A: Allocator + Copy>(
     store: &mut Store<A>,
     arguments: &Args<'_>,
     undone: Undone<A>,
 )
     requires { KnowsBefore store.old.known (storage_before arguments.now (undone_in undone) (storage_in store.old)) }
-    ensures storage { storage_before arguments.now (undone_in undone) (storage_in store.old) ≡ Some (storage_in store.new) }
+    ensures storage { storage_before arguments.now (undone_in undone) (storage_in store.old)
+        ≡ Some (storage_in store.new) }
     ensures names { store.new.known ≡ store.old.known }
 {
     let name = arguments.get(1);
@@ -48,7 +48,8 @@ pub fn put_storage<A: Allocator + Copy>(
 
 // Puts a form under a name again, or takes away the one that is there.
 fn swap<A: Allocator + Copy>(store: &mut Store<A>, name: &[u8], old: Option<Form<A>>)
-    requires { KnowsBefore store.old.known (Some (keeping (swapped_back name.now old store.old.forms) (storage_in store.old))) }
+    requires { KnowsBefore store.old.known
+        (Some (keeping (swapped_back name.now old store.old.forms) (storage_in store.old))) }
     ensures { store.new ≡ record store.old { forms = swapped_back name.now old store.old.forms } }
 {
     match old {
@@ -57,8 +58,8 @@ fn swap<A: Allocator + Copy>(store: &mut Store<A>, name: &[u8], old: Option<Form
     };
 }
 
-// Takes the last block off the list, puts a form again under the name that the arguments give, or takes it away, and then
-// puts back what the block holds.
+// Takes the last block off the list, puts a form again under the name that the arguments give, or takes it away, and
+// then puts back what the block holds.
 fn move_out<A: Allocator + Copy>(store: &mut Store<A>, arguments: &Args<'_>, old: Option<Form<A>>)
     requires { KnowsBefore store.old.known (storage_before arguments.now (MoveOut old) (storage_in store.old)) }
     ensures storage { storage_before arguments.now (MoveOut old) (storage_in store.old) ≡ Some (storage_in store.new) }
@@ -91,7 +92,8 @@ fn unbring<A: Allocator + Copy>(
     replaced: Vec<(Vec<u8, A>, Form<A>), A>,
 )
     requires { KnowsBefore store.old.known (unbrought number (named_forms replaced.items) (storage_in store.old)) }
-    ensures storage { unbrought number (named_forms replaced.items) (storage_in store.old) ≡ Some (storage_in store.new) }
+    ensures storage { unbrought number (named_forms replaced.items) (storage_in store.old)
+        ≡ Some (storage_in store.new) }
     ensures names { store.new.known ≡ store.old.known }
 {
     let Some(block) = store.take_block(number) else {

@@ -1,5 +1,6 @@
 //! A store from lists of forms, blocks and names.
-ghost use Rattle.std.specs.Prelude.{◌≡◌, ◌-◌, ◌++◌, ◌∷◌, ◌≤◌, [], map, option_map, IfErr, IfOk, IsOkUnless, IsTrue, Ok, OnOk, Some, None, true};
+ghost use Rattle.std.specs.Prelude.{◌≡◌, ◌-◌, ◌++◌, ◌∷◌, ◌≤◌, [], map, option_map, IfErr, IfOk, IsOkUnless, IsTrue, Ok};
+ghost use Rattle.std.specs.Prelude.{OnOk, Some, None, true};
 ghost use Rattle.std.specs.FinSet as set;
 ghost use Rattle.std.specs.List.{All, list_all};
 ghost use Rattle.trac_rules.specs.Blocks.{with_all};
@@ -25,7 +26,8 @@ fn put_copies<A: Allocator + Copy>(
     forms: &[Named<A>],
 ) -> Result<(), FormError>
     requires { KnowsNamed (named_forms forms.now) store.old.known }
-    ensures put { OnOk result (store.new ≡ record store.old { forms = with_all (named_forms forms.now) store.old.forms }) }
+    ensures put { OnOk result
+        (store.new ≡ record store.old { forms = with_all (named_forms forms.now) store.old.forms }) }
     ensures err { IsOkUnless result FormError.Memory }
 {
     for (name, form) in forms {
@@ -36,7 +38,8 @@ fn put_copies<A: Allocator + Copy>(
 
 // A store of copies of these forms, which knows their names.
 fn store_of<A: Allocator + Copy>(alloc: A, forms: &[Named<A>]) -> Result<Store<A>, FormError>
-    ensures forms { IfOk result (λ store. storage_in store ≡ record { forms = forms_of (named_forms forms.now); blocks = [] }) }
+    ensures forms { IfOk result
+        (λ store. storage_in store ≡ record { forms = forms_of (named_forms forms.now); blocks = [] }) }
     ensures names { IfOk result (λ store. KnowsNamed (named_forms forms.now) store.known) }
     ensures err { IsOkUnless result FormError.Memory }
 {
@@ -61,8 +64,8 @@ fn names_of<A: Allocator + Copy>(
     Ok(names)
 }
 
-// A block of copies of these forms. Where a name stands again, its last form stands in the first one's place: so all forms
-// go into a store first, and leave it in the order of their names.
+// A block of copies of these forms. Where a name stands again, its last form stands in the first one's place: so all
+// forms go into a store first, and leave it in the order of their names.
 fn block_with<A: Allocator + Copy>(alloc: A, forms: &[Named<A>]) -> Result<Block<A>, FormError>
     ensures held { IfOk result (λ block. block.held ≡ held_of (named_forms forms.now)) }
     ensures err { IsOkUnless result FormError.Memory }
@@ -98,7 +101,10 @@ fn push_any<A: Allocator + Copy>(
     block: Option<Block<A>>,
 ) -> Result<(), FormError>
     requires { 1 ≤ store.old.spare }
-    ensures pushed { OnOk result (store.new ≡ record store.old { blocks = store.old.blocks ++ option_map (λ b. b.held) block ∷ []; spare = store.old.spare - 1 }) }
+    ensures pushed { OnOk result (store.new ≡ record store.old {
+      blocks = store.old.blocks ++ option_map (λ b. b.held) block ∷ [];
+      spare = store.old.spare - 1;
+    }) }
     ensures err { IsOkUnless result FormError.Memory }
 {
     let Some(block) = block else {
@@ -117,7 +123,8 @@ fn push_copies<A: Allocator + Copy>(
     store: &mut Store<A>,
     blocks: &[Option<Vec<Named<A>, A>>],
 ) -> Result<(), Refusal>
-    ensures pushed { OnOk result (storage_in store.new ≡ record (storage_in store.old) { blocks = store.old.blocks ++ map block_of blocks.now }) }
+    ensures pushed { OnOk result (storage_in store.new
+        ≡ record (storage_in store.old) { blocks = store.old.blocks ++ map block_of blocks.now }) }
     ensures names { OnOk result (store.new.known ≡ store.old.known) }
     ensures few { OnOk result (list_all block_few (map block_of blocks.now) ≡ true) }
     ensures err { IfErr result (MayRefuse (limited (λ bs. list_all block_few bs) (Ok (map block_of blocks.now)))) }
@@ -146,15 +153,16 @@ fn know_names<A: Allocator + Copy>(
     Ok(())
 }
 
-/// A store of copies of the forms and blocks of parts, which knows the names of the forms and the further names (this
-/// project's profile).
+/// A store of copies of the forms and blocks of parts, which knows the names of the forms and the further names.
 ///
 /// Refused with `TooLong` where there are too many forms, or too many in a block, and with `Memory` where the allocator
 /// refuses, which may come first.
 pub fn stored<A: Allocator + Copy>(alloc: A, parts: &Parts<A>) -> Result<Store<A>, Refusal>
-    ensures answer { MayAnswer (λ store. storage_in store) (limited counts_fit (Ok (storage_of (state_in parts.now)))) result }
+    ensures answer { MayAnswer (λ store. storage_in store)
+        (limited counts_fit (Ok (storage_of (state_in parts.now)))) result }
     ensures names { IfOk result (λ store. KnowsAll store.known store.forms) }
-    ensures further { IfOk result (λ store. All (λ name. IsTrue (set.contains store.known name)) (texts_of parts.now.names.items)) }
+    ensures further { IfOk result
+        (λ store. All (λ name. IsTrue (set.contains store.known name)) (texts_of parts.now.names.items)) }
 {
     let mut store = store_of(alloc, parts.forms.as_slice())?;
     if store.form_count() > FORM_COUNT_LIMIT {

@@ -1,7 +1,8 @@
 -- How a run, the debugger and a walk end.
 use Rattle.std.specs.Prelude.{ℕ}
 use Rattle.trac_streams.specs.declared.ending.Ending.{Ending}
-use Rattle.trac_streams.specs.declared.ending.Ending.TheVariants.{Ended, Budget, Limit, Memory, Read, Write, NotUnderstood}
+use Rattle.trac_streams.specs.declared.ending.Ending.TheVariants.{Ended, Budget, Limit, Memory, Read, Write}
+use Rattle.trac_streams.specs.declared.ending.Ending.TheVariants.{NotUnderstood}
 
 -- the exit status of the program
 abbrev pub status_of : Ending → ℕ

@@ -1,5 +1,6 @@
 -- How bytes, texts and numbers are shown.
-use Rattle.std.specs.Prelude.{ℕ, ◌/◌, ◌%◌, ◌==◌, ◌&&◌, ◌||◌, not, nat_le, List, [], ◌∷◌, ◌++◌, if◌then◌else◌, Bool, codes, decimal}
+use Rattle.std.specs.Prelude.{ℕ, ◌/◌, ◌%◌, ◌==◌, ◌&&◌, ◌||◌, not, nat_le, List, [], ◌∷◌, ◌++◌, if◌then◌else◌, Bool}
+use Rattle.std.specs.Prelude.{codes, decimal}
 use Rattle.std.specs.Char.{digit_char}
 use Rattle.std.specs.List.{flat_map}
 use Rattle.trac_rules.specs.declared.byte.TheConstants.{LINE_FEED}

@@ -4,8 +4,8 @@ use Rattle.std.specs.List.{ends_with, onto_first}
 use Rattle.trac_rules.specs.declared.byte.TheConstants.{CARRIAGE_RETURN, LINE_FEED}
 use Rattle.trac_streams.specs.declared.lines.TheConstants.{LINE_LIMIT}
 
--- what stands between line feeds. A line feed ends a line, and so does the end of the text; a line feed at the very end begins no
--- line. `onto_first` puts a byte before the first line, and makes a line of it where there is none
+-- what stands between line feeds. A line feed ends a line, and so does the end of the text; a line feed at the very end
+-- begins no line. `onto_first` puts a byte before the first line, and makes a line of it where there is none
 abbrev pub between_feeds : List ℕ → List (List ℕ)
 between_feeds [] = []
 between_feeds (b ∷ rest) = if b == LINE_FEED then [] ∷ between_feeds rest else onto_first b (between_feeds rest)

@@ -9,4 +9,5 @@ pub record Pending : Type 0 where
   pub ended : Bool
 
 abbrev pub pending_code : Coded Pending
-pending_code = code_by (List ℕ × Bool) (coded× text_code coded_bool) (λ p. (p.bytes, p.ended)) (λ p. record { bytes = p.0; ended = p.1 }) (λ _. refl)
+pending_code = code_by (List ℕ × Bool) (coded× text_code coded_bool) (λ p. (p.bytes, p.ended))
+    (λ p. record { bytes = p.0; ended = p.1 }) (λ _. refl)

@@ -1,5 +1,6 @@
 -- What stands at the front of bytes that were read, and what reads do.
-use Rattle.std.specs.Prelude.{◌≡◌, ◌⊎◌, ℕ, ◌+◌, ◌*◌, ◌<◌, ◌≤◌, ◌==◌, List, [], ◌∷◌, ◌++◌, length, take, drop, Bool, true, false, Option, None, Some}
+use Rattle.std.specs.Prelude.{◌≡◌, ◌⊎◌, ℕ, ◌+◌, ◌*◌, ◌<◌, ◌≤◌, ◌==◌, List, [], ◌∷◌, ◌++◌, length, take, drop, Bool}
+use Rattle.std.specs.Prelude.{true, false, Option, None, Some}
 use Rattle.std.specs.Io.KnownBytes.{Consumes, IsAtEnd}
 use Rattle.trac_streams.specs.declared.ending.Ending.{Ending}
 use Rattle.trac_streams.specs.declared.ending.Ending.TheVariants.{Memory, Read}
@@ -14,15 +15,14 @@ use Rattle.trac_streams.specs.Pending.{Pending}
 abbrev pub HELD_LIMIT : ℕ
 HELD_LIMIT = LINE_LIMIT + 1 + READ_SIZE
 
--- what stands at the front of these bytes, whatever more comes after them: nothing, where they have ended. What ends a line has two
--- bytes at most
+-- what stands at the front of these bytes, whatever more comes after them: nothing, where they have ended. What
+-- ends a line has two bytes at most
 abbrev pub IsFront : List ℕ → Bool → NextLine → Type 0
-IsFront bytes ended (Line len whole) =
-    (len ≤ length bytes) × (whole ≤ length bytes)
-    × ((more : List ℕ) → (ended ≡ true → more ≡ []) → lines_of (bytes ++ more) ≡ take len bytes ∷ lines_of (drop whole bytes ++ more))
-    × (whole ≤ len + 2)
-IsFront bytes ended TooLong =
-    (more : List ℕ) → (line : List ℕ) × (rest : List (List ℕ)) × (LINE_LIMIT < length line) × (lines_of (bytes ++ more) ≡ line ∷ rest)
+IsFront bytes ended (Line len whole) = (len ≤ length bytes) × (whole ≤ length bytes)
+    × ((more : List ℕ) → (ended ≡ true → more ≡ []) →
+    lines_of (bytes ++ more) ≡ take len bytes ∷ lines_of (drop whole bytes ++ more)) × (whole ≤ len + 2)
+IsFront bytes ended TooLong = (more : List ℕ) →
+    (line : List ℕ) × (rest : List (List ℕ)) × (LINE_LIMIT < length line) × (lines_of (bytes ++ more) ≡ line ∷ rest)
 IsFront bytes ended Part = (ended ≡ false) × (length bytes ≤ LINE_LIMIT + 1)
 IsFront bytes ended End = (ended ≡ true) × (bytes ≡ [])
 
@@ -41,8 +41,8 @@ HasNone test (b ∷ bs) = (test b ≡ false) × HasNone test bs
 -- the place of the first byte of this value
 abbrev pub IsPlace : ℕ → List ℕ → Option ℕ → Type 0
 IsPlace wanted bytes None = HasNone (λ b. b == wanted) bytes
-IsPlace wanted bytes (Some place) =
-    (place < length bytes) × HasNone (λ b. b == wanted) (take place bytes) × (bytes ≡ take place bytes ++ wanted ∷ drop (place + 1) bytes)
+IsPlace wanted bytes (Some place) = (place < length bytes) × HasNone (λ b. b == wanted) (take place bytes)
+    × (bytes ≡ take place bytes ++ wanted ∷ drop (place + 1) bytes)
 
 -- ---- how many reads there were
 
@@ -60,7 +60,8 @@ abbrev pub fault_reads : Ending → ℕ
 fault_reads Read = 1
 fault_reads ending = 0
 
--- how many reads gave nothing, by whether the end was seen and by how it ended: the read that saw the end, or that failed. It is the last
+-- how many reads gave nothing, by whether the end was seen and by how it ended: the read that saw the end,
+-- or that failed. It is the last
 abbrev pub empty_reads : Bool → Ending → ℕ
 empty_reads true ending = 1
 empty_reads false ending = fault_reads ending
@@ -71,7 +72,8 @@ CountsReads reads got saw_end ending = (full : ℕ) × CameBy full got × (reads
 
 -- ---- what reads do
 
--- the reader gave some bytes, which came after those that were there, and no more than may be held; and perhaps its end was seen
+-- the reader gave some bytes, which came after those that were there, and no more than may be held;
+-- and perhaps its end was seen
 pub record Gathers (in_old in_new : Option (List ℕ)) (old new : Pending) : Type 0 where
   pub got : List ℕ
   pub took : Consumes in_old in_new got
@@ -80,8 +82,8 @@ pub record Gathers (in_old in_new : Option (List ℕ)) (old new : Pending) : Typ
   pub at_end : new.ended ≡ true → IsAtEnd in_new
   pub few : (got ≡ []) ⊎ (length new.bytes ≤ HELD_LIMIT)
 
--- a read failed, or there was no memory for what it gave; the end was not seen. What earlier reads gave came after the bytes that were
--- there, and what the last one gave is lost: nothing, where it failed
+-- a read failed, or there was no memory for what it gave; the end was not seen. What earlier reads gave came after the
+-- bytes that were there, and what the last one gave is lost: nothing, where it failed
 pub record MayFail (in_old in_new : Option (List ℕ)) (old new : Pending) (ending : Ending) : Type 0 where
   pub kept : List ℕ
   pub lost : List ℕ
@@ -101,10 +103,12 @@ pub record GathersBy (in_old in_new : Option (List ℕ)) (reads_old reads_new : 
 -- the same of one read, which gave a byte at least, or saw the end
 pub record ReadsMore (in_old in_new : Option (List ℕ)) (reads_old reads_new : ℕ) (old new : Pending) : Type 0 where
   pub gathers : GathersBy in_old in_new reads_old reads_new old new
-  pub more : ((new.ended ≡ true) × (new.bytes ≡ old.bytes)) ⊎ ((new.ended ≡ false) × (length old.bytes < length new.bytes))
+  pub more : ((new.ended ≡ true) × (new.bytes ≡ old.bytes))
+      ⊎ ((new.ended ≡ false) × (length old.bytes < length new.bytes))
 
 -- a read failed or its bytes were lost, and the reads are counted, that one too
-pub record FailsBy (in_old in_new : Option (List ℕ)) (reads_old reads_new : ℕ) (old new : Pending) (ending : Ending) : Type 0 where
+pub record FailsBy
+    (in_old in_new : Option (List ℕ)) (reads_old reads_new : ℕ) (old new : Pending) (ending : Ending) : Type 0 where
   pub fails : MayFail in_old in_new old new ending
   pub full : ℕ
   pub came : CameBy full (fails.kept ++ fails.lost)

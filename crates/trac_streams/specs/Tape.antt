@@ -11,7 +11,8 @@ pub record IsTape (in_old in_new : Option (List ℕ)) (tape : List ℕ) : Type 0
   pub at_end : IsAtEnd in_new
   pub within : length tape ≤ TAPE_LIMIT
 
--- there is none: what was read is one byte too long; or the reader failed, or memory was refused, and no more was read than that
+-- there is none: what was read is one byte too long; or the reader failed, or memory was refused,
+-- and no more was read than that
 pub record IsNoTape (in_old in_new : Option (List ℕ)) (ending : Ending) : Type 0 where
   pub got : List ℕ
   pub took : Consumes in_old in_new got
@@ -20,7 +21,8 @@ pub record IsNoTape (in_old in_new : Option (List ℕ)) (ending : Ending) : Type
 
 -- why there is no session over a tape: the tape is too long; or it is not, and memory was refused
 abbrev pub MayRefuseTape : List ℕ → Ending → Type 0
-MayRefuseTape tape ending = ((ending ≡ Memory) × (length tape ≤ TAPE_LIMIT)) ⊎ ((ending ≡ Limit) × (TAPE_LIMIT < length tape))
+MayRefuseTape tape ending =
+    ((ending ≡ Memory) × (length tape ≤ TAPE_LIMIT)) ⊎ ((ending ≡ Limit) × (TAPE_LIMIT < length tape))
 
 -- ---- one read
 

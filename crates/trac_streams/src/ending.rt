@@ -1,7 +1,7 @@
 //! How a run ends.
 use std::fmt;
 
-/// Why a run, or a session of the debugger, ended (this project's profile).
+/// Why a run, or a session of the debugger, ended.
 #[derive(Clone, Copy, Debug, PartialEq, Eq)]
 pub enum Ending {
     /// The input has ended and is all read, or the program halted; the commands of the debugger
@@ -28,7 +28,7 @@ impl Ending {
     ghost use Rattle.std.specs.Prelude.{◌≡◌};
     ghost use Rattle.trac_streams.specs.Endings.{status_of};
 
-    /// The exit status of the program (this project's profile).
+    /// The exit status of the program.
     pub fn status(self) -> u8
         ensures { result ≡ status_of self }
     {

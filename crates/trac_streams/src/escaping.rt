@@ -39,7 +39,7 @@ pub fn byte_into<A: Allocator>(byte: u8, out: &mut Vec<u8, A>) -> Result<(), All
 }
 
 /// Puts a text in brackets at the end of another one, byte by byte: bytes 32 to 126 but for `[`, `\` and `]` as
-/// themselves, every other one as `\x` and two hexadecimal digits in lower case (this project's profile).
+/// themselves, every other one as `\x` and two hexadecimal digits in lower case.
 pub fn text_into<A: Allocator>(text: &[u8], out: &mut Vec<u8, A>) -> Result<(), AllocError>
     ensures { OnOk result (out.new.items ≡ out.old.items ++ bracketed text.now) }
 {

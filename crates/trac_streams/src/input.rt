@@ -7,13 +7,14 @@ use std::alloc::Allocator;
 use std::io::Read;
 use trac_rules::limit::TAPE_LIMIT;
 
-/// How many bytes one read may give (this project's profile).
+/// How many bytes one read may give.
 pub const READ_SIZE: usize = 4096;
 
 /// All bytes of a reader, as the tape of a session. Each read asks for at most 4,096 bytes, and none is read after the
-/// first that is too many (this project's profile).
+/// first that is too many.
 ///
-/// `Ending::Limit`: there are more than 33,554,432. `Ending::Read`: the reader failed. `Ending::Memory`: memory was refused.
+/// `Ending::Limit`: there are more than 33,554,432. `Ending::Read`: the reader failed.
+/// `Ending::Memory`: memory was refused.
 pub fn read_tape<R: Read, A: Allocator + Copy>(
     alloc: A,
     input: &mut R,
@@ -34,7 +35,8 @@ pub fn read_tape<R: Read, A: Allocator + Copy>(
 // Reads once, and returns how many bytes that gave; none at the end.
 fn read_part<R: Read, A: Allocator>(tape: &mut Vec<u8, A>, input: &mut R) -> Result<usize, Ending>
     requires { length tape.old.items ≤ TAPE_LIMIT }
-    ensures part { IfOk result (AddsPart (R.remaining input.old) (R.remaining input.new) tape.old.items tape.new.items) }
+    ensures part { IfOk result
+        (AddsPart (R.remaining input.old) (R.remaining input.new) tape.old.items tape.new.items) }
     ensures longer { IfOk result (λ count. length tape.new.items ≡ length tape.old.items + count) }
     ensures none { IfErr result (IsNoPart (R.remaining input.old) (R.remaining input.new) tape.old.items) }
 {

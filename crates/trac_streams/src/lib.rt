@@ -1,5 +1,5 @@
-//! What a run, the debugger and a walk have in common: options, tapes and lines from a reader, whole texts to a writer, bytes and
-//! numbers as they are shown, and how it ended.
+//! What a run, the debugger and a walk have in common: options, tapes and lines from a reader, whole texts to a writer,
+//! bytes and numbers as they are shown, and how it ended. All of it is this project's profile.
 #![tactic(auto)]
 
 mod ending;

@@ -1,5 +1,6 @@
 //! The lines of a text that comes in pieces.
-ghost use Rattle.std.specs.Prelude.{◌≡◌, ◌+◌, ◌*◌, ◌++◌, ◌<◌, ◌≤◌, true, false, [], length, take, drop, not, ◌==◌, IfOk, IfErr, OnOk};
+ghost use Rattle.std.specs.Prelude.{◌≡◌, ◌+◌, ◌*◌, ◌++◌, ◌<◌, ◌≤◌, true, false, [], length, take, drop, not, ◌==◌};
+ghost use Rattle.std.specs.Prelude.{IfOk, IfErr, OnOk};
 ghost use Rattle.std.specs.Io.KnownBytes.{IsAtEnd};
 ghost use Rattle.trac_streams.specs.Lines.{without_return};
 ghost use Rattle.trac_streams.specs.Reading.{IsFront, IsWhole, Gathers, GathersBy, ReadsMore, MayFail, FailsBy};
@@ -12,10 +13,10 @@ use std::io::Read;
 use std::marker::Model;
 use trac_rules::byte::{CARRIAGE_RETURN, LINE_FEED};
 
-/// A line has at most so many bytes, what ends it not counted (this project's profile).
+/// A line has at most so many bytes, what ends it not counted.
 pub const LINE_LIMIT: usize = 4096;
 
-/// There are at most so many lines (this project's profile).
+/// There are at most so many lines.
 pub const LINE_COUNT_LIMIT: u64 = 1_048_576;
 
 /// Before a read that is counted there may have been so many.
@@ -39,8 +40,8 @@ pub enum NextLine {
     End,
 }
 
-/// Takes a text apart into its lines, as its bytes are read. It is seen as the bytes that were read and are not taken yet,
-/// and whether the text ends after them.
+/// Takes a text apart into its lines, as its bytes are read. It is seen as the bytes that were read and are not taken
+/// yet, and whether the text ends after them.
 #[derive(Drop)]
 pub struct Lines<A: Allocator + Copy> {
     // as they were read, from the last read on that found too few of them
@@ -75,11 +76,11 @@ impl<A: Allocator + Copy> Lines<A> {
         }
     }
 
-    /// What stands at the front of the text, after as many reads as it takes to see a whole line, or that it is too long, or
-    /// the end; each read asks for at most 4,096 bytes.
+    /// What stands at the front of the text, after as many reads as it takes to see a whole line, or that it is too
+    /// long, or the end; each read asks for at most 4,096 bytes.
     ///
-    /// `Ending::Read`: the reader failed. `Ending::Memory`: memory was refused. What was there stands then, with what was read
-    /// before the last read, and what that one gave is lost.
+    /// `Ending::Read`: the reader failed. `Ending::Memory`: memory was refused. What was there stands then, with what
+    /// was read before the last read, and what that one gave is lost.
     pub fn seek<R: Read>(&mut self, input: &mut R) -> Result<NextLine, Ending>
         requires at_end { self.old.ended ≡ true → IsAtEnd (R.remaining input.old) }
         ensures front { IfOk result (IsFront self.new.bytes self.new.ended) }
@@ -91,8 +92,8 @@ impl<A: Allocator + Copy> Lines<A> {
         self.seek_counted(input, &mut reads)
     }
 
-    /// What stands at the front of the text, as `seek` finds it. Adds how often it reads to a count, the read that sees the end or
-    /// fails too.
+    /// What stands at the front of the text, as `seek` finds it. Adds how often it reads to a count, the read
+    /// that sees the end or fails too.
     pub fn seek_counted<R: Read>(
         &mut self,
         input: &mut R,
@@ -102,8 +103,10 @@ impl<A: Allocator + Copy> Lines<A> {
         requires few_reads { reads.old ≤ READ_COUNT_LIMIT }
         ensures front { IfOk result (IsFront self.new.bytes self.new.ended) }
         ensures whole { IfOk result IsWhole }
-        ensures read { OnOk result (GathersBy (R.remaining input.old) (R.remaining input.new) reads.old reads.new self.old self.new) }
-        ensures failed { IfErr result (FailsBy (R.remaining input.old) (R.remaining input.new) reads.old reads.new self.old self.new) }
+        ensures read { OnOk result
+            (GathersBy (R.remaining input.old) (R.remaining input.new) reads.old reads.new self.old self.new) }
+        ensures failed { IfErr result
+            (FailsBy (R.remaining input.old) (R.remaining input.new) reads.old reads.new self.old self.new) }
     {
         loop {
             let front = front_of(self.rest(), self.ended);
@@ -116,14 +119,17 @@ impl<A: Allocator + Copy> Lines<A> {
 
     /// Whether there is any byte more, after one read where that is needed, which is added to a count.
     ///
-    /// `Ending::Read`: the reader failed. `Ending::Memory`: memory was refused. As after a refused `seek`, what was there stands.
+    /// `Ending::Read`: the reader failed. `Ending::Memory`: memory was refused. As after a refused
+    /// `seek`, what was there stands.
     pub fn has_more<R: Read>(&mut self, input: &mut R, reads: &mut u64) -> Result<bool, Ending>
         requires at_end { self.old.ended ≡ true → IsAtEnd (R.remaining input.old) }
         requires few_reads { reads.old ≤ READ_COUNT_LIMIT }
         ensures more { IfOk result (λ more. more ≡ not (length self.new.bytes == 0)) }
         ensures ended { IfOk result (λ more. more ≡ false → self.new.ended ≡ true) }
-        ensures read { OnOk result (GathersBy (R.remaining input.old) (R.remaining input.new) reads.old reads.new self.old self.new) }
-        ensures failed { IfErr result (FailsBy (R.remaining input.old) (R.remaining input.new) reads.old reads.new self.old self.new) }
+        ensures read { OnOk result
+            (GathersBy (R.remaining input.old) (R.remaining input.new) reads.old reads.new self.old self.new) }
+        ensures failed { IfErr result
+            (FailsBy (R.remaining input.old) (R.remaining input.new) reads.old reads.new self.old self.new) }
     {
         if self.rest().is_empty() && !self.ended {
             self.read_more(input, reads)?;
@@ -166,8 +172,10 @@ impl<A: Allocator + Copy> Lines<A> {
         requires open_ { self.old.ended ≡ false }
         requires short { length self.old.bytes ≤ LINE_LIMIT + 1 }
         requires few_reads { reads.old ≤ 2 * READ_COUNT_LIMIT }
-        ensures more { OnOk result (ReadsMore (R.remaining input.old) (R.remaining input.new) reads.old reads.new self.old self.new) }
-        ensures failed { IfErr result (FailsBy (R.remaining input.old) (R.remaining input.new) reads.old reads.new self.old self.new) }
+        ensures more { OnOk result
+            (ReadsMore (R.remaining input.old) (R.remaining input.new) reads.old reads.new self.old self.new) }
+        ensures failed { IfErr result
+            (FailsBy (R.remaining input.old) (R.remaining input.new) reads.old reads.new self.old self.new) }
     {
         let mut bytes = [0; READ_SIZE];
         *reads += 1;

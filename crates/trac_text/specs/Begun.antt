@@ -1,5 +1,6 @@
 -- What the walk over begun functions gives.
-use Rattle.std.specs.Prelude.{◌≡◌, ℕ, ◌<◌, ◌≤◌, true, List, [], ◌++◌, length, take, drop, get_or, reverse, Option, is_some, slice_get, MatchOption}
+use Rattle.std.specs.Prelude.{◌≡◌, ℕ, ◌<◌, ◌≤◌, true, List, [], ◌++◌, length, take, drop, get_or, reverse, Option}
+use Rattle.std.specs.Prelude.{is_some, slice_get, MatchOption}
 use Rattle.trac_rules.specs.declared.kind.Kind.{Kind}
 use Rattle.trac_rules.specs.State.{Frame}
 use Rattle.trac_text.specs.declared.mark.Mark.{Mark}
@@ -24,4 +25,5 @@ pub record IsFront (m : MarkedText) (number : ℕ) (front : MarkedText) : Type 0
 
 -- the first frame is given, its kind and all its arguments; none where none is left now or later
 abbrev pub GivesFrame : List Frame → Option (Kind × List (List ℕ)) → List Frame → Type 0
-GivesFrame old given new = MatchOption given ((old ≡ []) × (new ≡ [])) (λ f. IsFrame (slice_get old 0) f.0 f.1 × (new ≡ drop 1 old))
+GivesFrame old given new =
+    MatchOption given ((old ≡ []) × (new ≡ [])) (λ f. IsFrame (slice_get old 0) f.0 f.1 × (new ≡ drop 1 old))

@@ -1,5 +1,6 @@
 -- A text cut into arguments at the places of marks.
-use Rattle.std.specs.Prelude.{◌≡◌, ℕ, zero, suc, ◌+◌, ◌-◌, ◌<◌, ◌≤◌, List, [], ◌∷◌, length, take, drop, get_or, None, Some, is_some, count_by}
+use Rattle.std.specs.Prelude.{◌≡◌, ℕ, zero, suc, ◌+◌, ◌-◌, ◌<◌, ◌≤◌, List, [], ◌∷◌, length, take, drop, get_or, None}
+use Rattle.std.specs.Prelude.{Some, is_some, count_by}
 use Rattle.trac_rules.specs.declared.kind.Kind.{Kind}
 use Rattle.trac_text.specs.declared.mark.Mark.{Mark}
 

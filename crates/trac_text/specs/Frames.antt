@@ -13,7 +13,8 @@ abbrev pub IsFrame : Option Frame → Kind → List (List ℕ) → Type 0
 IsFrame None kind arguments = ⊥
 IsFrame (Some f) kind arguments = (f.kind ≡ kind) × (all_arguments f ≡ arguments)
 
--- the innermost function of a text: it begins at the mark of this number and at this place, where the text before it ends
+-- the innermost function of a text: it begins at the mark of this number and at this place, where
+-- the text before it ends
 pub record IsInnermost (m : MarkedText) (number place : ℕ) (kind : Kind) (arguments : List (List ℕ)) : Type 0 where
   pub within : number < length m.marks
   pub place_within : place ≤ length m.text

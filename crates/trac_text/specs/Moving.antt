@@ -18,7 +18,8 @@ adds_mark front marks = false
 abbrev pub with_protected : Protected → Ends ℕ → Ends ℕ
 with_protected p e = record e { left = e.left ++ p.inner; right = p.rest }
 
--- the texts with a value where it goes: after the neutral text for a neutral function, where it is not forced, else before the active text
+-- the texts with a value where it goes: after the neutral text for a neutral function, where it is not
+-- forced, else before the active text
 abbrev pub with_value : Kind → Bool → List ℕ → Ends ℕ → Ends ℕ
 with_value Active forced value e = record e { right = value ++ e.right }
 with_value Neutral true value e = record e { right = value ++ e.right }

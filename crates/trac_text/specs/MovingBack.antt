@@ -1,5 +1,6 @@
 -- What going back makes of the texts: the neutral text on the left, and the active text on the right.
-use Rattle.std.specs.Prelude.{ℕ, ◌-◌, ◌≤◌, ◌++◌, List, [], ◌∷◌, length, take, drop, Bool, true, false, Option, None, Some, codes}
+use Rattle.std.specs.Prelude.{ℕ, ◌-◌, ◌≤◌, ◌++◌, List, [], ◌∷◌, length, take, drop, Bool, true, false, Option, None}
+use Rattle.std.specs.Prelude.{Some, codes}
 use Rattle.std.specs.List.{concat}
 use Rattle.trac_gap.specs.Ends.{Ends}
 use Rattle.trac_rules.specs.declared.kind.Kind.{Kind}
@@ -11,17 +12,18 @@ use Rattle.trac_text.specs.declared.mark.Mark.{Mark}
 
 -- the texts with the last n bytes on the left before those on the right
 abbrev pub with_last_before : ℕ → Ends ℕ → Ends ℕ
-with_last_before n e = record e { left = take (length e.left - n) e.left; right = drop (length e.left - n) e.left ++ e.right }
+with_last_before n e =
+    record e { left = take (length e.left - n) e.left; right = drop (length e.left - n) e.left ++ e.right }
 
--- the texts with a protected text of this length, which is at the end of the one on the left, before the one on the right, with its `(`
--- and, where it had one, its match
+-- the texts with a protected text of this length, which is at the end of the one on the left, before the one on the
+-- right, with its `(` and, where it had one, its match
 abbrev pub without_protected : ℕ → Bool → Ends ℕ → Ends ℕ
 without_protected inner closed e =
     let moved = with_last_before inner (record e { right = ending_of closed ++ e.right }) in
     record moved { right = codes "(" ++ moved.right }
 
--- the kind of the function that the last mark begins, the marks being given from the last one on; none where it ends an argument, and
--- where there is no mark
+-- the kind of the function that the last mark begins, the marks being given from the last one on; none where it ends an
+-- argument, and where there is no mark
 abbrev pub last_begun : List Mark → Option Kind
 last_begun [] = None
 last_begun (m ∷ marks) = m.frame
@@ -43,7 +45,8 @@ abbrev pub without_value : Bool → ℕ → Ends ℕ → Ends ℕ
 without_value true n e = record e { right = drop n e.right }
 without_value false n e = record e { left = take (length e.left - n) e.left }
 
--- the texts without a value, with the arguments of a call at the end of the one on the left, and its `)` before the one on the right
+-- the texts without a value, with the arguments of a call at the end of the one on the left, and its
+-- `)` before the one on the right
 abbrev pub before_call : Bool → ℕ → List (List ℕ) → Ends ℕ → Ends ℕ
 before_call scanned n arguments e =
     let taken = without_value scanned n e in

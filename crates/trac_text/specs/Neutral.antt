@@ -42,12 +42,12 @@ pub record MarkedText : Type 0 where
   pub marks : List Mark
 
 abbrev pub mark_code : Coded Mark
-mark_code =
-    code_by (ℕ × Option Kind) (coded× coded_ℕ (coded_option kind_code)) (λ m. (m.place, m.frame)) (λ p. record { place = p.0; frame = p.1 }) (λ _. refl)
+mark_code = code_by (ℕ × Option Kind) (coded× coded_ℕ (coded_option kind_code)) (λ m. (m.place, m.frame))
+    (λ p. record { place = p.0; frame = p.1 }) (λ _. refl)
 
 abbrev pub marked_text_code : Coded MarkedText
-marked_text_code =
-    code_by (List ℕ × List Mark) (coded× text_code (coded_list mark_code)) (λ m. (m.text, m.marks)) (λ p. record { text = p.0; marks = p.1 }) (λ _. refl)
+marked_text_code = code_by (List ℕ × List Mark) (coded× text_code (coded_list mark_code)) (λ m. (m.text, m.marks))
+    (λ p. record { text = p.0; marks = p.1 }) (λ _. refl)
 
 -- what the text is read as
 abbrev pub neutral_of : MarkedText → Neutral

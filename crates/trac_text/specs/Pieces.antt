@@ -18,8 +18,10 @@ arguments_code =
 -- a text that holds them one after another, cut by the lengths of all but the last
 abbrev pub cut_at : List ℕ → List ℕ → Arguments
 cut_at [] text = record { finished = []; gathered = text }
-cut_at (n ∷ lengths) text =
-    record { finished = take n text ∷ (cut_at lengths (drop n text)).finished; gathered = (cut_at lengths (drop n text)).gathered }
+cut_at (n ∷ lengths) text = record {
+  finished = take n text ∷ (cut_at lengths (drop n text)).finished;
+  gathered = (cut_at lengths (drop n text)).gathered;
+}
 
 -- the texts of all of them
 abbrev pub all_texts : Arguments → List (List ℕ)

@@ -29,7 +29,7 @@ impl<'a> Model for Args<'a> {
 
 impl<'a> Args<'a> {
     /// The text from the place `from` on, cut at the places of the marks: one argument more than there are marks.
-    /// Places count bytes. They may not fall, nor pass the end of the text. Nothing is copied (this project's profile).
+    /// Places count bytes. They may not fall, nor pass the end of the text. Nothing is copied.
     pub fn new(text: &'a [u8], marks: &'a [Mark], from: usize) -> Args<'a>
         requires { AreCuts from marks.now (length text.now) }
         ensures { result ≡ cut from marks.now text.now }
@@ -63,8 +63,8 @@ impl<'a> Args<'a> {
         part(self.text, start, end)
     }
 
-    /// Puts the lengths of all arguments but the last at the end of a list that has room for them, in one pass over the marks. They
-    /// have fewer than 2^32 bytes together. It takes no memory (this project's profile).
+    /// Puts the lengths of all arguments but the last at the end of a list that has room for them, in one pass over the
+    /// marks. They have fewer than 2^32 bytes together. It takes no memory.
     pub fn put_lengths<A: Allocator>(&self, commas: &mut SlidingBuf<u32, A>)
         requires short { length (concat self.now) < 2 ^ 32 }
         requires room { length commas.old.items + (length self.now - 1) ≤ commas.old.capacity }
@@ -73,7 +73,7 @@ impl<'a> Args<'a> {
         put_lengths_between(self.from, self.marks, commas);
     }
 
-    /// The bytes of all arguments, one after another. Nothing is copied (this project's profile).
+    /// The bytes of all arguments, one after another. Nothing is copied.
     pub fn joined(&self) -> &'a [u8]
         ensures { result.now ≡ concat self.now }
     {
@@ -81,8 +81,8 @@ impl<'a> Args<'a> {
     }
 }
 
-// Puts the lengths between these marks, of which the first is that from a place on, at the end of a list that has room for
-// them.
+// Puts the lengths between these marks, of which the first is that from a place on, at the end of a
+// list that has room for them.
 fn put_lengths_between<A: Allocator>(from: usize, marks: &[Mark], commas: &mut SlidingBuf<u32, A>)
     requires short { AreCuts from marks.now (from + (2 ^ 32 - 1)) }
     requires room { length commas.old.items + length marks.now ≤ commas.old.capacity }

@@ -10,9 +10,8 @@ use crate::mark::Mark;
 use std::marker::Model;
 use trac_rules::kind::Kind;
 
-/// The begun functions of a neutral text that are still to come, from the outermost on: each its kind, and all its arguments,
-/// of which the last of the innermost is being gathered. Each takes time for its own marks alone. That they are counted from
-/// outside is this project's profile.
+/// The begun functions of a neutral text that are still to come, from the outermost on: each its kind, and all its
+/// arguments, of which the last of the innermost is being gathered. Each takes time for its own marks alone.
 #[derive(Drop)]
 pub struct BegunFunctions<'a> {
     text: &'a [u8],
@@ -35,11 +34,12 @@ impl<'a> Model for BegunFunctions<'a> {
 
     ghost view = { λ b. frames_from b.next (record { text = b.text.now; marks = b.marks.now }) };
 
-    ghost invariant = { λ b. (IsOrdered (record { text = b.text.now; marks = b.marks.now })) × (IsNextFunction b.marks.now b.next) };
+    ghost invariant = { λ b.
+        (IsOrdered (record { text = b.text.now; marks = b.marks.now })) × (IsNextFunction b.marks.now b.next) };
 }
 
 impl<'a> BegunFunctions<'a> {
-    /// Those of this text with these marks, in order, as `NeutralText::new` asks for them. Nothing is copied (this project's profile).
+    /// Those of this text with these marks, in order, as `NeutralText::new` asks for them. Nothing is copied.
     pub fn new(text: &'a [u8], marks: &'a [Mark]) -> BegunFunctions<'a>
         requires { AreMarks (length text.now) (reverse marks.now) }
         ensures { result ≡ reverse (neutral_of (record { text = text.now; marks = marks.now })).frames }
@@ -90,12 +90,14 @@ fn next_function(marks: &[Mark], from: usize) -> usize
     place
 }
 
-// The text before the mark of this number, which begins a function, and its marks; all of it where there is no such mark.
+// The text before the mark of this number, which begins a function, and its marks; all of it where
+// there is no such mark.
 fn front_of<'a>(text: &'a [u8], marks: &'a [Mark], number: usize) -> (&'a [u8], &'a [Mark])
     requires ordered { IsOrdered (record { text = text.now; marks = marks.now }) }
     requires next { IsNextFunction marks.now number }
     ensures ordered { IsOrdered (record { text = result.0.now; marks = result.1.now }) }
-    ensures front { IsFront (record { text = text.now; marks = marks.now }) number (record { text = result.0.now; marks = result.1.now }) }
+    ensures front { IsFront (record { text = text.now; marks = marks.now }) number
+        (record { text = result.0.now; marks = result.1.now }) }
 {
     let place = end_at(text.len(), marks, number);
     (text.split_at(place).0, marks.split_at(number).0)

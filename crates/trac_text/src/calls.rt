@@ -19,8 +19,8 @@ pub struct Beginning {
     pub kind: Kind,
 }
 
-/// Cuts off the function that begins here, at the end of the text on the left, with its marks, and its `)`, the first byte on
-/// the right. It takes no memory.
+/// Cuts off the function that begins here, at the end of the text on the left, with its marks, and its `)`, the first
+/// byte on the right. It takes no memory.
 pub fn cut_function<E: TwoEnds<u8, A>, M: TwoEnds<Mark, A>, A: Allocator + Copy>(
     text: &mut E,
     marks: &mut M,
@@ -29,16 +29,20 @@ pub fn cut_function<E: TwoEnds<u8, A>, M: TwoEnds<Mark, A>, A: Allocator + Copy>
     requires closing { 1 ≤ length (E.ends text.old).right }
     requires place { beginning.place ≤ length (E.ends text.old).left }
     requires number { beginning.number ≤ length (M.ends marks.old).left }
-    ensures text { E.ends text.new ≡ record (E.ends text.old) { left = take beginning.place (E.ends text.old).left; right = drop 1 (E.ends text.old).right } }
-    ensures marks { M.ends marks.new ≡ record (M.ends marks.old) { left = take beginning.number (M.ends marks.old).left } }
+    ensures text { E.ends text.new ≡ record (E.ends text.old) {
+      left = take beginning.place (E.ends text.old).left;
+      right = drop 1 (E.ends text.old).right;
+    } }
+    ensures marks { M.ends marks.new
+        ≡ record (M.ends marks.old) { left = take beginning.number (M.ends marks.old).left } }
 {
     text.cut_right(1);
     text.cut_left(text.left().len() - beginning.place);
     marks.cut_left(marks.left().len() - beginning.number);
 }
 
-/// Puts a value where it goes by T-64's rule: at the end of the text on the left for a neutral function, where it is not
-/// forced, else before the text on the right. There has to be room for it. It takes no memory.
+/// Puts a value where it goes by T-64's rule: at the end of the text on the left for a neutral function, where it is
+/// not forced, else before the text on the right. There has to be room for it. It takes no memory.
 pub fn put_value<E: TwoEnds<u8, A>, A: Allocator + Copy>(
     text: &mut E,
     kind: Kind,

@@ -27,8 +27,9 @@ fn take_value<E: TwoEnds<u8, A>, A: Allocator + Copy>(text: &mut E, scanned: boo
     text.cut_left(n);
 }
 
-/// Takes a value of n bytes off again, from where it went, and puts a `)` before the text on the right and the function that it
-/// ends, with its arguments, at the end of the one on the left. There has to be room for these. It takes no memory.
+/// Takes a value of n bytes off again, from where it went, and puts a `)` before the text on the right and
+/// the function that it ends, with its arguments, at the end of the one on the left. There has to be room
+/// for these. It takes no memory.
 pub fn put_call<E: TwoEnds<u8, A>, M: TwoEnds<Mark, A>, A: Allocator + Copy>(
     text: &mut E,
     marks: &mut M,
@@ -38,10 +39,13 @@ pub fn put_call<E: TwoEnds<u8, A>, M: TwoEnds<Mark, A>, A: Allocator + Copy>(
     n: usize,
 )
     requires value { HasValue scanned n (E.ends text.old) }
-    requires text_room { item_count (before_call scanned n (all_texts arguments.now) (E.ends text.old)) ≤ (E.ends text.old).capacity }
-    requires mark_room { length (M.ends marks.old).left + 1 + length arguments.now.finished ≤ (M.ends marks.old).capacity }
+    requires text_room { item_count (before_call scanned n (all_texts arguments.now) (E.ends text.old))
+        ≤ (E.ends text.old).capacity }
+    requires mark_room { length (M.ends marks.old).left + 1 + length arguments.now.finished
+        ≤ (M.ends marks.old).capacity }
     ensures text { E.ends text.new ≡ before_call scanned n (all_texts arguments.now) (E.ends text.old) }
-    ensures marks { (M.ends marks.new).left ≡ (M.ends marks.old).left ++ function_marks (length (without_value scanned n (E.ends text.old)).left) kind (map length arguments.now.finished) }
+    ensures marks { (M.ends marks.new).left ≡ (M.ends marks.old).left ++ function_marks
+        (length (without_value scanned n (E.ends text.old)).left) kind (map length arguments.now.finished) }
     ensures mark_room { (M.ends marks.new).capacity ≡ (M.ends marks.old).capacity }
 {
     take_value(text, scanned, n);

@@ -16,8 +16,8 @@ use trac_gap::TwoEnds;
 use trac_rules::kind::Kind;
 use trac_rules::refusal::Refusal;
 
-/// Copies of the base text and all begun functions of a neutral text, whose arguments have fewer than 2^32 bytes together.
-/// Refused with `Memory` where the allocator refuses (this project's profile).
+/// Copies of the base text and all begun functions of a neutral text, whose arguments have fewer than 2^32 bytes
+/// together. Refused with `Memory` where the allocator refuses.
 pub fn kept_of<A: Allocator + Copy>(
     alloc: A,
     text: NeutralText<'_>,
@@ -51,8 +51,8 @@ fn functions_of<A: Allocator + Copy>(
     Ok(functions)
 }
 
-/// Puts a base text and begun functions in the place of all that the lists hold. There has to be room for these. It takes no
-/// memory.
+/// Puts a base text and begun functions in the place of all that the lists hold. There has to be room
+/// for these. It takes no memory.
 pub fn put_functions<A: Allocator + Copy, E: TwoEnds<u8, A>, M: TwoEnds<Mark, A>>(
     text: &mut E,
     marks: &mut M,
@@ -61,7 +61,8 @@ pub fn put_functions<A: Allocator + Copy, E: TwoEnds<u8, A>, M: TwoEnds<Mark, A>
 )
     requires text_room { length base.now + argument_bytes (frames_in functions.items) ≤ (E.ends text.old).capacity }
     requires mark_room { mark_count (frames_in functions.items) ≤ (M.ends marks.old).capacity }
-    ensures same { neutral_of (record { text = (E.ends text.new).left; marks = (M.ends marks.new).left }) ≡ record { base = base.now; frames = frames_in functions.items } }
+    ensures same { neutral_of (record { text = (E.ends text.new).left; marks = (M.ends marks.new).left })
+        ≡ record { base = base.now; frames = frames_in functions.items } }
     ensures ordered { IsOrdered (record { text = (E.ends text.new).left; marks = (M.ends marks.new).left }) }
     ensures right { (E.ends text.new).right ≡ [] }
     ensures text_room { (E.ends text.new).capacity ≡ (E.ends text.old).capacity }
@@ -74,17 +75,24 @@ pub fn put_functions<A: Allocator + Copy, E: TwoEnds<u8, A>, M: TwoEnds<Mark, A>
     }
 }
 
-// Puts a begun function at the end of the text on the left: the mark at which it begins, its bytes, and a mark for each `,`.
+// Puts a begun function at the end of the text on the left: the mark at which it begins, its bytes,
+// and a mark for each `,`.
 pub(crate) fn put_function<A: Allocator + Copy, E: TwoEnds<u8, A>, M: TwoEnds<Mark, A>>(
     text: &mut E,
     marks: &mut M,
     kind: Kind,
     arguments: &PiecesRef<'_>,
 )
-    requires text_room { item_count (E.ends text.old) + length (concat (all_texts arguments.now)) ≤ (E.ends text.old).capacity }
-    requires mark_room { item_count (M.ends marks.old) + 1 + length arguments.now.finished ≤ (M.ends marks.old).capacity }
-    ensures text { E.ends text.new ≡ record (E.ends text.old) { left = (E.ends text.old).left ++ concat (all_texts arguments.now) } }
-    ensures marks { M.ends marks.new ≡ record (M.ends marks.old) { left = (M.ends marks.old).left ++ function_marks (length (E.ends text.old).left) kind (map length arguments.now.finished) } }
+    requires text_room { item_count (E.ends text.old) + length (concat (all_texts arguments.now))
+        ≤ (E.ends text.old).capacity }
+    requires mark_room { item_count (M.ends marks.old) + 1 + length arguments.now.finished
+        ≤ (M.ends marks.old).capacity }
+    ensures text { E.ends text.new
+        ≡ record (E.ends text.old) { left = (E.ends text.old).left ++ concat (all_texts arguments.now) } }
+    ensures marks { M.ends marks.new ≡ record (M.ends marks.old) {
+      left = (M.ends marks.old).left
+          ++ function_marks (length (E.ends text.old).left) kind (map length arguments.now.finished);
+    } }
 {
     let bytes = arguments.text();
     text.put_left(bytes);

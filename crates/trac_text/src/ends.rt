@@ -6,8 +6,8 @@ use std::alloc::Allocator;
 use trac_gap::TwoEnds;
 use trac_rules::refusal::Refusal;
 
-/// Makes room for n more items. What the lists hold stays. Refused with `Memory` where the allocator refuses, and then nothing
-/// changed (this project's profile).
+/// Makes room for n more items. What the lists hold stays. Refused with `Memory` where the allocator
+/// refuses, and then nothing changed.
 #[inline]
 pub fn reserve<T: Copy, A: Allocator + Copy, E: TwoEnds<T, A>>(
     list: &mut E,

@@ -10,8 +10,8 @@ use crate::mark::Mark;
 use std::marker::Model;
 use trac_rules::kind::Kind;
 
-/// A neutral text with its marks, borrowed: the marks are in order, and the first of them begins a function. It knows how many
-/// functions are begun. Base text and begun functions are read from it.
+/// A neutral text with its marks, borrowed: the marks are in order, and the first of them begins a function. It knows
+/// how many functions are begun. Base text and begun functions are read from it.
 #[derive(Drop)]
 pub struct NeutralText<'a> {
     text: &'a [u8],
@@ -29,7 +29,8 @@ impl<'a> Model for NeutralText<'a> {
 
     ghost view = { λ n. record { text = n.text.now; marks = n.marks.now } };
 
-    ghost invariant = { λ n. IsOrdered (record { text = n.text.now; marks = n.marks.now }) × IsDepth n.functions (record { text = n.text.now; marks = n.marks.now }) };
+    ghost invariant = { λ n. IsOrdered (record { text = n.text.now; marks = n.marks.now })
+        × IsDepth n.functions (record { text = n.text.now; marks = n.marks.now }) };
 }
 
 /// The innermost begun function.
@@ -46,9 +47,9 @@ pub struct Innermost<'a> {
 }
 
 impl<'a> NeutralText<'a> {
-    /// This text with these marks, so many of which have to begin functions. No place of a mark may be less than that of a
-    /// mark before it, or pass the end of the text, and the first of the marks has to begin a function. Nothing is copied
-    /// (this project's profile).
+    /// This text with these marks, so many of which have to begin functions. No place of a mark may be less
+    /// than that of a mark before it, or pass the end of the text, and the first of the marks has to begin
+    /// a function. Nothing is copied.
     pub fn new(text: &'a [u8], marks: &'a [Mark], functions: usize) -> NeutralText<'a>
         requires marks { AreMarks (length text.now) (reverse marks.now) }
         requires functions { IsDepth functions (record { text = text.now; marks = marks.now }) }
@@ -78,8 +79,8 @@ impl<'a> NeutralText<'a> {
         self.text.split_at(self.marks[0].place).0
     }
 
-    /// How many functions are begun, by T-64's rules of scanning, and not ended. It is known, so this takes the same time
-    /// however many these are (this project's profile).
+    /// How many functions are begun, by T-64's rules of scanning, and not ended. It is known, so this takes the
+    /// same time however many these are.
     pub fn depth(&self) -> usize
         ensures { result ≡ length (neutral_of self.now).frames }
     {
@@ -88,14 +89,16 @@ impl<'a> NeutralText<'a> {
 
     /// The innermost begun function, which the next `)` ends by T-64's rule; none where no function is begun.
     pub fn innermost(&self) -> Option<Innermost<'a>>
-        ensures { MatchOption result ((neutral_of self.now).frames ≡ []) (λ f. IsInnermost self.now f.number f.place f.kind f.arguments) }
+        ensures { MatchOption result ((neutral_of self.now).frames ≡ [])
+            (λ f. IsInnermost self.now f.number f.place f.kind f.arguments) }
     {
         innermost_in(self.text, self.marks)
     }
 
-    /// The text before its innermost function, which this one has to be. Nothing is copied (this project's profile).
+    /// The text before its innermost function, which this one has to be. Nothing is copied.
     pub fn before(&self, innermost: &Innermost<'a>) -> NeutralText<'a>
-        requires { IsInnermost self.now innermost.now.number innermost.now.place innermost.now.kind innermost.now.arguments }
+        requires { IsInnermost self.now innermost.now.number innermost.now.place innermost.now.kind
+            innermost.now.arguments }
         ensures { result ≡ cut_back innermost.now.number innermost.now.place self.now }
     {
         NeutralText {
@@ -106,10 +109,11 @@ impl<'a> NeutralText<'a> {
     }
 
     /// The begun function of this number, the outermost being number 0: its kind, and all its arguments, of which the
-    /// last is being gathered. None past the innermost. It takes time for the marks of this function and of those inside it
-    /// alone. That they are counted from outside is this project's profile.
+    /// last is being gathered. None past the innermost. It takes time for the marks of this
+    /// function and of those inside it alone.
     pub fn frame(&self, i: usize) -> Option<(Kind, Args<'a>)>
-        ensures { MatchOption result (length (neutral_of self.now).frames ≤ i) (λ r. IsFrame (slice_get (reverse (neutral_of self.now).frames) i) r.0 r.1) }
+        ensures { MatchOption result (length (neutral_of self.now).frames ≤ i)
+            (λ r. IsFrame (slice_get (reverse (neutral_of self.now).frames) i) r.0 r.1) }
     {
         if i >= self.functions {
             return None;
@@ -128,7 +132,7 @@ impl<'a> NeutralText<'a> {
         None
     }
 
-    /// The begun functions, one after another from the outermost on. Nothing is copied (this project's profile).
+    /// The begun functions, one after another from the outermost on. Nothing is copied.
     pub fn begun_functions(&self) -> BegunFunctions<'a>
         ensures { result ≡ reverse (neutral_of self.now).frames }
     {
@@ -139,7 +143,8 @@ impl<'a> NeutralText<'a> {
 // The innermost function of a text with these marks; none where no function is begun.
 pub(crate) fn innermost_in<'a>(text: &'a [u8], marks: &'a [Mark]) -> Option<Innermost<'a>>
     requires { IsOrdered (record { text = text.now; marks = marks.now }) }
-    ensures { MatchOption result ((neutral_of (record { text = text.now; marks = marks.now })).frames ≡ []) (λ f. IsInnermost (record { text = text.now; marks = marks.now }) f.number f.place f.kind f.arguments) }
+    ensures { MatchOption result ((neutral_of (record { text = text.now; marks = marks.now })).frames ≡ [])
+        (λ f. IsInnermost (record { text = text.now; marks = marks.now }) f.number f.place f.kind f.arguments) }
 {
     let (number, kind) = last_function(marks)?;
     let place = marks[number].place;

@@ -3,7 +3,8 @@ ghost use Rattle.std.specs.Prelude.{◌≡◌, ◌+◌, ◌-◌, ◌≤◌, ◌<
 ghost use Rattle.trac_gap.specs.Ends.{item_count};
 ghost use Rattle.trac_rules.specs.declared.limit.TheConstants.{MARK_LIMIT, TEXT_LIMIT};
 ghost use Rattle.trac_rules.specs.Limits.{total_length};
-ghost use Rattle.trac_text.specs.Framing.{EachGathers, HasGrown, argument_count, frames_of, function_bytes, functions_of, marked_in, texts_of, with_function, with_functions};
+ghost use Rattle.trac_text.specs.Framing.{EachGathers, HasGrown, argument_count, frames_of, function_bytes};
+ghost use Rattle.trac_text.specs.Framing.{functions_of, marked_in, texts_of, with_function, with_functions};
 ghost use Rattle.trac_text.specs.Marks.{mark_at};
 ghost use Rattle.trac_text.specs.Neutral.{IsOrdered, neutral_of};
 
@@ -39,9 +40,11 @@ fn argument_len<A: Allocator + Copy>(functions: &[Function<A>]) -> usize
     total
 }
 
-/// How many bytes active text, base text and the arguments of begun functions hold together; `usize::MAX` where there are more.
+/// How many bytes active text, base text and the arguments of begun functions hold together;
+/// `usize::MAX` where there are more.
 pub fn text_len<A: Allocator + Copy>(active: &[u8], base: &[u8], functions: &[Function<A>]) -> usize
-    ensures { result ≡ min (length active.now + length base.now + function_bytes (functions_of functions.now)) (2 ^ 64 - 1) }
+    ensures { result
+        ≡ min (length active.now + length base.now + function_bytes (functions_of functions.now)) (2 ^ 64 - 1) }
 {
     active
         .len()
@@ -60,8 +63,8 @@ pub fn mark_count<A: Allocator + Copy>(functions: &[Function<A>]) -> usize
     total
 }
 
-// Puts a mark at the end of the text on the left, and an argument after it: of a function of this kind, which is begun, or,
-// where none is named, a further one of the innermost.
+// Puts a mark at the end of the text on the left, and an argument after it: of a function of this kind, which is begun,
+// or, where none is named, a further one of the innermost.
 fn put_argument<A: Allocator + Copy, E: TwoEnds<u8, A>, M: TwoEnds<Mark, A>>(
     text: &mut E,
     marks: &mut M,
@@ -71,7 +74,9 @@ fn put_argument<A: Allocator + Copy, E: TwoEnds<u8, A>, M: TwoEnds<Mark, A>>(
     requires text { item_count (E.ends text.old) + length argument.now ≤ (E.ends text.old).capacity }
     requires marks { item_count (M.ends marks.old) < (M.ends marks.old).capacity }
     ensures text { E.ends text.new ≡ record (E.ends text.old) { left = (E.ends text.old).left ++ argument.now } }
-    ensures marks { M.ends marks.new ≡ record (M.ends marks.old) { left = (M.ends marks.old).left ++ mark_at (length (E.ends text.old).left) frame ∷ [] } }
+    ensures marks { M.ends marks.new ≡ record (M.ends marks.old) {
+      left = (M.ends marks.old).left ++ mark_at (length (E.ends text.old).left) frame ∷ [];
+    } }
 {
     marks.push_left(Mark {
         place: text.left().len(),
@@ -91,7 +96,8 @@ fn put_function<A: Allocator + Copy, E: TwoEnds<u8, A>, M: TwoEnds<Mark, A>>(
     requires ordered { IsOrdered (marked_in (E.ends text.old) (M.ends marks.old)) }
     requires text { item_count (E.ends text.old) + total_length (texts_of arguments.now) ≤ (E.ends text.old).capacity }
     requires marks { item_count (M.ends marks.old) + length arguments.now ≤ (M.ends marks.old).capacity }
-    ensures neutral { neutral_of (marked_in (E.ends text.new) (M.ends marks.new)) ≡ with_function (kind, texts_of arguments.now) (neutral_of (marked_in (E.ends text.old) (M.ends marks.old))) }
+    ensures neutral { neutral_of (marked_in (E.ends text.new) (M.ends marks.new))
+        ≡ with_function (kind, texts_of arguments.now) (neutral_of (marked_in (E.ends text.old) (M.ends marks.old))) }
     ensures ordered { IsOrdered (marked_in (E.ends text.new) (M.ends marks.new)) }
     ensures text { HasGrown (total_length (texts_of arguments.now)) (E.ends text.old) (E.ends text.new) }
     ensures marks { HasGrown (length arguments.now) (M.ends marks.old) (M.ends marks.new) }
@@ -111,9 +117,12 @@ fn put_functions<A: Allocator + Copy, E: TwoEnds<u8, A>, M: TwoEnds<Mark, A>>(
 )
     requires some { EachGathers functions.now }
     requires ordered { IsOrdered (marked_in (E.ends text.old) (M.ends marks.old)) }
-    requires text { item_count (E.ends text.old) + function_bytes (functions_of functions.now) ≤ (E.ends text.old).capacity }
-    requires marks { item_count (M.ends marks.old) + argument_count (functions_of functions.now) ≤ (M.ends marks.old).capacity }
-    ensures neutral { neutral_of (marked_in (E.ends text.new) (M.ends marks.new)) ≡ with_functions (functions_of functions.now) (neutral_of (marked_in (E.ends text.old) (M.ends marks.old))) }
+    requires text { item_count (E.ends text.old) + function_bytes (functions_of functions.now)
+        ≤ (E.ends text.old).capacity }
+    requires marks { item_count (M.ends marks.old) + argument_count (functions_of functions.now)
+        ≤ (M.ends marks.old).capacity }
+    ensures neutral { neutral_of (marked_in (E.ends text.new) (M.ends marks.new))
+        ≡ with_functions (functions_of functions.now) (neutral_of (marked_in (E.ends text.old) (M.ends marks.old))) }
     ensures ordered { IsOrdered (marked_in (E.ends text.new) (M.ends marks.new)) }
     ensures text { HasGrown (function_bytes (functions_of functions.now)) (E.ends text.old) (E.ends text.new) }
     ensures marks { HasGrown (argument_count (functions_of functions.now)) (M.ends marks.old) (M.ends marks.new) }
@@ -123,8 +132,8 @@ fn put_functions<A: Allocator + Copy, E: TwoEnds<u8, A>, M: TwoEnds<Mark, A>>(
     }
 }
 
-// Lists with the active text on the right, the base text on the left, and room for these and the arguments of the functions, and
-// for no less than is wanted.
+// Lists with the active text on the right, the base text on the left, and room for these and the arguments of the
+// functions, and for no less than is wanted.
 fn text_of<A: Allocator + Copy, E: TwoEnds<u8, A>>(
     alloc: A,
     active: &[u8],
@@ -135,7 +144,8 @@ fn text_of<A: Allocator + Copy, E: TwoEnds<u8, A>>(
     requires { length active.now + length base.now + function_bytes (functions_of functions.now) ≤ TEXT_LIMIT }
     ensures left { IfOk result (λ text. (E.ends text).left ≡ base.now) }
     ensures right { IfOk result (λ text. (E.ends text).right ≡ active.now) }
-    ensures holds { IfOk result (λ text. item_count (E.ends text) + function_bytes (functions_of functions.now) ≤ (E.ends text).capacity) }
+    ensures holds { IfOk result
+        (λ text. item_count (E.ends text) + function_bytes (functions_of functions.now) ≤ (E.ends text).capacity) }
     ensures room { IfOk result (λ text. room ≤ (E.ends text).capacity) }
     ensures err { IsOkUnless result Refusal.Memory }
 {
@@ -164,9 +174,9 @@ fn marks_of<A: Allocator + Copy, M: TwoEnds<Mark, A>>(
     Ok(marks)
 }
 
-/// Lists that hold these texts and begun functions, from the outermost on: active text, base text and arguments, and the marks;
-/// with room for at least so many bytes and marks. Each function has to have an argument, the one that is being gathered, and
-/// texts and marks may not pass the limits. Refused with `Memory` where the allocator refuses (this project's profile).
+/// Lists that hold these texts and begun functions, from the outermost on: active text, base text and arguments, and
+/// the marks; with room for at least so many bytes and marks. Each function has to have an argument, the one that is
+/// being gathered, and texts and marks may not pass the limits. Refused with `Memory` where the allocator refuses.
 pub fn texts_and_marks<A: Allocator + Copy, E: TwoEnds<u8, A>, M: TwoEnds<Mark, A>>(
     alloc: A,
     active: &[u8],
@@ -178,7 +188,8 @@ pub fn texts_and_marks<A: Allocator + Copy, E: TwoEnds<u8, A>, M: TwoEnds<Mark, 
     requires some { EachGathers functions.now }
     requires text { length active.now + length base.now + function_bytes (functions_of functions.now) ≤ TEXT_LIMIT }
     requires marks { argument_count (functions_of functions.now) ≤ MARK_LIMIT }
-    ensures neutral { IfOk result (λ r. neutral_of (marked_in (E.ends r.0) (M.ends r.1)) ≡ record { base = base.now; frames = frames_of (functions_of functions.now) }) }
+    ensures neutral { IfOk result (λ r. neutral_of (marked_in (E.ends r.0) (M.ends r.1))
+        ≡ record { base = base.now; frames = frames_of (functions_of functions.now) }) }
     ensures active { IfOk result (λ r. (E.ends r.0).right ≡ active.now) }
     ensures ordered { IfOk result (λ r. IsOrdered (marked_in (E.ends r.0) (M.ends r.1))) }
     ensures holds { IfOk result (λ r. item_count (E.ends r.0) ≤ (E.ends r.0).capacity) }
@@ -193,7 +204,7 @@ pub fn texts_and_marks<A: Allocator + Copy, E: TwoEnds<u8, A>, M: TwoEnds<Mark, 
     Ok((text, marks))
 }
 
-/// Whether each begun function has an argument, the one that is being gathered. It takes no memory (this project's profile).
+/// Whether each begun function has an argument, the one that is being gathered. It takes no memory.
 pub fn each_gathers<A: Allocator + Copy>(functions: &[Function<A>]) -> bool
     ensures yes { IsTrue result → EachGathers functions.now }
     ensures no { EachGathers functions.now → IsTrue result }

@@ -63,8 +63,8 @@ const NEAR: usize = 8;
 // How many bytes are looked at together, so that there is no jump for each.
 const GROUP: usize = 16;
 
-/// With how many plain bytes a text begins, counted up to `most`: bytes that go to the current text whatever stands after them
-/// (this project's profile).
+/// With how many plain bytes a text begins, counted up to `most`: bytes that go to the current text
+/// whatever stands after them.
 #[inline(always)]
 pub fn plain_front(text: &[u8], most: usize) -> usize
     ensures most { result ≤ most }
@@ -145,8 +145,8 @@ fn is_low(b: u8) -> bool
     (b < b'-') & (b != b' ')
 }
 
-/// Whether the rule for this front makes a mark, where there are so many marks: a function is begun, or, inside of one, a
-/// further argument.
+/// Whether the rule for this front makes a mark, where there are so many marks: a function is begun, or,
+/// inside of one, a further argument.
 pub fn makes_mark(front: Front, marks: usize) -> bool
     ensures { result ≡ adds_mark front marks }
 {

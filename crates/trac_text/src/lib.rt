@@ -1,5 +1,6 @@
-//! Texts and marks, without forms: the neutral text with its marks, read as base text and begun functions, and what scanning,
-//! calls and the ways back make of the two lists that hold it and the active text.
+//! Texts and marks, without forms: the neutral text with its marks, read as base text and begun functions, and what
+//! scanning, calls and the ways back make of the two lists that hold it and the active text. Limits, refusals, what
+//! takes memory and what else T-64 does not name are this project's profile.
 #![tactic(auto)]
 
 pub mod args;

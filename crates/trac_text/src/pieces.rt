@@ -57,9 +57,9 @@ impl<'a> Model for PiecesRef<'a> {
 pub type Functions<A = Global> = Vec<(Kind, Pieces<A>), A>;
 
 impl<A: Allocator + Copy> Pieces<A> {
-    /// A copy of these arguments, which have fewer than 2^32 bytes together. It is made in memory for exactly their bytes and a
-    /// length for each but the last: where there are no bytes, or no further argument, no block is taken. It takes time for the
-    /// bytes and the arguments. Refused with `Memory` where the allocator refuses (this project's profile).
+    /// A copy of these arguments, which have fewer than 2^32 bytes together. It is made in memory for exactly their
+    /// bytes and a length for each but the last: where there are no bytes, or no further argument, no block is taken.
+    /// It takes time for the bytes and the arguments. Refused with `Memory` where the allocator refuses.
     pub fn of(alloc: A, arguments: &Args<'_>) -> Result<Self, Refusal>
         requires short { length (concat arguments.now) < 2 ^ 32 }
         ensures same { IfOk result (λ p. all_texts p ≡ arguments.now) }
@@ -88,8 +88,8 @@ impl<A: Allocator + Copy> Pieces<A> {
 }
 
 impl<'a> PiecesRef<'a> {
-    /// Arguments of these bytes, one after another, of which all but the last have these lengths, together no more than there
-    /// are bytes. Nothing is copied (this project's profile).
+    /// Arguments of these bytes, one after another, of which all but the last have these lengths, together no more than
+    /// there are bytes. Nothing is copied.
     pub fn new(text: &'a [u8], commas: &'a [u32]) -> PiecesRef<'a>
         requires { sum commas.now ≤ length text.now }
         ensures { result ≡ cut_at commas.now text.now }

@@ -1,5 +1,6 @@
 //! The rules of scanning on the lists alone: the texts, and the marks.
-ghost use Rattle.std.specs.Prelude.{◌≡◌, ◌+◌, ◌<◌, ◌≤◌, [], ◌∷◌, ◌++◌, get_or, is_some, length, drop, IsOkUnless, OnErr, OnOk};
+ghost use Rattle.std.specs.Prelude.{◌≡◌, ◌+◌, ◌<◌, ◌≤◌, [], ◌∷◌, ◌++◌, get_or, is_some, length, drop, IsOkUnless};
+ghost use Rattle.std.specs.Prelude.{OnErr, OnOk};
 ghost use Rattle.trac_gap.specs.Ends.{item_count};
 ghost use Rattle.trac_rules.specs.Bytes.{idle_program};
 ghost use Rattle.trac_rules.specs.Matching.{match_of, protected};
@@ -17,8 +18,8 @@ use trac_rules::refusal::Refusal;
 /// What a processor with nothing to do runs: it reads a text of the input and prints its value.
 pub const IDLE_PROGRAM: &[u8; 11] = b"#(ps,#(rs))";
 
-/// Takes a `(` away, the first byte on the right: what it protects goes to the left, by T-64's rule. Returns how many bytes these
-/// are, and whether there was a match, which is taken away too. It takes no memory.
+/// Takes a `(` away, the first byte on the right: what it protects goes to the left, by T-64's rule. Returns how many
+/// bytes these are, and whether there was a match, which is taken away too. It takes no memory.
 pub fn take_protected<A: Allocator + Copy, E: TwoEnds<u8, A>>(text: &mut E) -> (usize, bool)
     requires { 0 < length (E.ends text.old).right }
     ensures taken { E.ends text.new ≡ with_protected (protected (drop 1 (E.ends text.old).right)) (E.ends text.old) }
@@ -47,9 +48,9 @@ pub fn take_first<A: Allocator + Copy, E: TwoEnds<u8, A>>(text: &mut E) -> u8
     first
 }
 
-/// Takes the first n bytes on the right away, and puts a mark after all others, at the end of the text on the left: of a function
-/// of this kind, or, where none is named, of a further argument. Refused with `Memory` where the marks have no room and the
-/// allocator refuses; then nothing changed but that no mark is left on the right (this project's profile).
+/// Takes the first n bytes on the right away, and puts a mark after all others, at the end of the text on the left: of
+/// a function of this kind, or, where none is named, of a further argument. Refused with `Memory` where the marks have
+/// no room and the allocator refuses; then nothing changed but that no mark is left on the right.
 #[inline]
 pub fn push_mark<A: Allocator + Copy, E: TwoEnds<u8, A>, M: TwoEnds<Mark, A>>(
     text: &mut E,
@@ -59,7 +60,8 @@ pub fn push_mark<A: Allocator + Copy, E: TwoEnds<u8, A>, M: TwoEnds<Mark, A>>(
 ) -> Result<(), Refusal>
     requires { n ≤ length (E.ends text.old).right }
     ensures text { OnOk result (E.ends text.new ≡ record (E.ends text.old) { right = drop n (E.ends text.old).right }) }
-    ensures marks { OnOk result ((M.ends marks.new).left ≡ (M.ends marks.old).left ++ mark_at (length (E.ends text.old).left) frame ∷ []) }
+    ensures marks { OnOk result
+        ((M.ends marks.new).left ≡ (M.ends marks.old).left ++ mark_at (length (E.ends text.old).left) frame ∷ []) }
     ensures holds { OnOk result (length (M.ends marks.old).left + 1 ≤ (M.ends marks.new).capacity) }
     ensures room { (M.ends marks.old).capacity ≤ (M.ends marks.new).capacity }
     ensures unchanged_text { OnErr result (E.ends text.new ≡ E.ends text.old) }
@@ -81,8 +83,8 @@ pub fn push_mark<A: Allocator + Copy, E: TwoEnds<u8, A>, M: TwoEnds<Mark, A>>(
     Ok(())
 }
 
-/// Empties both lists, and puts the idle program on the right, as T-64 does where the active text is empty. Refused with `Memory`
-/// where there is no room for it and the allocator refuses; then nothing changed (this project's profile).
+/// Empties both lists, and puts the idle program on the right, as T-64 does where the active text is empty. Refused
+/// with `Memory` where there is no room for it and the allocator refuses; then nothing changed.
 pub fn restart<A: Allocator + Copy, E: TwoEnds<u8, A>, M: TwoEnds<Mark, A>>(
     text: &mut E,
     marks: &mut M,

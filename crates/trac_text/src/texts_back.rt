@@ -11,8 +11,8 @@ use trac_gap::TwoEnds;
 use trac_rules::byte::{CLOSING, OPENING};
 use trac_rules::kind::Kind;
 
-/// Moves a protected text of this length, which is at the end of the left, back to the right, and puts its `(` before it and,
-/// where it was closed, a `)` after it. It takes no memory.
+/// Moves a protected text of this length, which is at the end of the left, back to the right, and puts its `(` before
+/// it and, where it was closed, a `)` after it. It takes no memory.
 pub fn give_protected_back<A: Allocator + Copy, E: TwoEnds<u8, A>>(
     text: &mut E,
     inner: usize,
@@ -38,7 +38,8 @@ pub fn pop_mark<A: Allocator + Copy, E: TwoEnds<u8, A>, M: TwoEnds<Mark, A>>(
     requires marks { 0 < length (M.ends marks.old).left }
     requires room { item_count (E.ends text.old) + length bytes.now ≤ (E.ends text.old).capacity }
     ensures text { E.ends text.new ≡ record (E.ends text.old) { right = bytes.now ++ (E.ends text.old).right } }
-    ensures marks { M.ends marks.new ≡ record (M.ends marks.old) { left = take (length (M.ends marks.old).left - 1) (M.ends marks.old).left } }
+    ensures marks { M.ends marks.new
+        ≡ record (M.ends marks.old) { left = take (length (M.ends marks.old).left - 1) (M.ends marks.old).left } }
 {
     marks.cut_left(1);
     text.put_right(bytes);
@@ -51,15 +52,20 @@ fn kind_of_last(marks: &[Mark]) -> Option<Kind>
     marks.last()?.frame
 }
 
-/// Takes the last mark away, which begins a function, and puts that beginning before the text on the right. It takes no memory.
+/// Takes the last mark away, which begins a function, and puts that beginning before the text on
+/// the right. It takes no memory.
 pub fn pop_beginning<A: Allocator + Copy, E: TwoEnds<u8, A>, M: TwoEnds<Mark, A>>(
     text: &mut E,
     marks: &mut M,
 )
     requires begins { IsSome (last_begun (reverse (M.ends marks.old).left)) }
-    requires room { item_count (E.ends text.old) + length (beginning_by (last_begun (reverse (M.ends marks.old).left))) ≤ (E.ends text.old).capacity }
-    ensures text { E.ends text.new ≡ record (E.ends text.old) { right = beginning_by (last_begun (reverse (M.ends marks.old).left)) ++ (E.ends text.old).right } }
-    ensures marks { M.ends marks.new ≡ record (M.ends marks.old) { left = take (length (M.ends marks.old).left - 1) (M.ends marks.old).left } }
+    requires room { item_count (E.ends text.old) + length (beginning_by (last_begun (reverse (M.ends marks.old).left)))
+        ≤ (E.ends text.old).capacity }
+    ensures text { E.ends text.new ≡ record (E.ends text.old) {
+      right = beginning_by (last_begun (reverse (M.ends marks.old).left)) ++ (E.ends text.old).right;
+    } }
+    ensures marks { M.ends marks.new
+        ≡ record (M.ends marks.old) { left = take (length (M.ends marks.old).left - 1) (M.ends marks.old).left } }
 {
     let Some(kind) = kind_of_last(marks.left()) else {
         unreachable!()

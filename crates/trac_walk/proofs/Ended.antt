@@ -39,3 +39,6 @@ refused_may_end program e (inr why) = subst MayEnd (sym why.0) tt
 pub refused_too_long : (program : List ℕ) (e : Ending) → MayRefuseTape program e → (e ≡ Limit) ↔ (TAPE_LIMIT < length program)
 refused_too_long program e (inl why) = (λ is. absurd (cc (why.0, is)), λ long. absurd (omega (arith, why.1, long)))
 refused_too_long program e (inr why) = (λ is. why.1, λ long. why.0)
+
+-- what the goals of `walk` use
+pub ruleset for_walk = (takes_none, gives_none, stop_may_end, stop_is_within, refused_may_end, refused_too_long)

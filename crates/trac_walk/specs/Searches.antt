@@ -23,8 +23,8 @@ IsAsToldOf other old new = Unit {0}
 
 -- ---- within the room that there is
 
--- why a search of at most so many steps ended, after so many: as it says, but it may lack room where it has steps left, and where the
--- output is too long
+-- why a search of at most so many steps ended, after so many: as it says, but it may lack room where it has steps left,
+-- and where the output is too long
 abbrev pub IsReason : ℕ → ℕ → Option Refusal → Option Refusal → Type 0
 IsReason steps most (Some NotMet) why = (steps < most → why ≡ Some JournalFull) × (steps ≡ most → why ≡ Some NotMet)
 IsReason steps most (Some TooLong) why = (why ≡ Some TooLong) ⊎ (why ≡ Some JournalFull)
@@ -35,8 +35,8 @@ abbrev pub HasWalked : ℕ → Goal → ℕ → PlainSession → ℕ → Option 
 HasWalked weight goal most old steps why new =
     (said : Option Refusal) × IsSearchWithin weight goal most old steps said new × IsReason steps most said why
 
--- what is answered of it, with where it came to: it stays there if it met its goal; that it lacked room is no answer, and then
--- nothing is said here
+-- what is answered of it, with where it came to: it stays there if it met its goal; that it lacked room is no
+-- answer, and then nothing is said here
 abbrev pub IsAnswered : ℕ → Option Refusal → PlainSession → Search → PlainSession → Type 0
 IsAnswered steps None there found new = (found ≡ Met) × (new ≡ there)
 IsAnswered steps (Some JournalFull) there found new = Unit {0}
@@ -44,5 +44,5 @@ IsAnswered steps (Some refusal) there found new = found ≡ Unmet refusal steps
 
 -- so a search ends for which there is room
 abbrev pub IsAsNear : ℕ → Goal → ℕ → PlainSession → Search → PlainSession → Type 0
-IsAsNear weight goal most old found new =
-    (steps : ℕ) × (why : Option Refusal) × (there : PlainSession) × HasWalked weight goal most old steps why there × IsAnswered steps why there found new
+IsAsNear weight goal most old found new = (steps : ℕ) × (why : Option Refusal) × (there : PlainSession)
+    × HasWalked weight goal most old steps why there × IsAnswered steps why there found new

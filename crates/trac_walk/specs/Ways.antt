@@ -1,5 +1,6 @@
 -- What is said of the way of a byte: the calls that passed it on, each with the number of its step and what it did.
-use Rattle.std.specs.Prelude.{◌≡◌, ◌≢◌, ◌+◌, ◌-◌, ◌^◌, ◌++◌, ℕ, List, [], ◌∷◌, length, map, min, nat_lt, take, if◌then◌else◌}
+use Rattle.std.specs.Prelude.{◌≡◌, ◌≢◌, ◌+◌, ◌-◌, ◌^◌, ◌++◌, ℕ, List, [], ◌∷◌, length, map, min, nat_lt, take}
+use Rattle.std.specs.Prelude.{if◌then◌else◌}
 use Rattle.trac_screen.specs.declared.way.Treatment.{Treatment}
 use Rattle.trac_screen.specs.declared.way.Treatment.TheVariants.{Prints, Puts, Gives}
 use Rattle.trac_origins.specs.Places.{Place, InForm, InHeld, InOutput}
@@ -34,13 +35,16 @@ deeds_said {A} way = map (λ (told : Told A). record { step = told.step; done = 
 abbrev pub shown : {X : Type 0} → ℕ → List X → List X
 shown count calls = if nat_lt count LINE_COUNT then calls else take FIRST_COUNT calls
 
--- after one call more it is counted, and said after those before; or, where they are too many, the first of these alone are
+-- after one call more it is counted, and said after those before; or, where they are too many, the
+-- first of these alone are
 pub record Tells {A : Type 0} (old : Way A) (call : Passing) (new : Way A) : Type 0 where
   pub begins : new.step ≡ old.step
   pub count : new.count ≡ min (old.count + 1) (2 ^ 64 - 1)
-  pub said : deeds_said new ≡ (if nat_lt new.count LINE_COUNT then deeds_said old ++ deed_of old.step call ∷ [] else take FIRST_COUNT (deeds_said old))
+  pub said : deeds_said new ≡ (if nat_lt new.count LINE_COUNT then deeds_said old ++ deed_of old.step call ∷ []
+      else take FIRST_COUNT (deeds_said old))
 
--- of these calls, on a way that begins at the step of this number, all are said, or the first of them; and how many there are
+-- of these calls, on a way that begins at the step of this number, all are said, or the first of
+-- them; and how many there are
 pub record HasTold {A : Type 0} (step : ℕ) (calls : List Passing) (way : Way A) : Type 0 where
   pub begins : way.step ≡ step
   pub count : way.count ≡ min (length calls) (2 ^ 64 - 1)

@@ -6,11 +6,11 @@ use std::alloc::{AllocError, Allocator};
 use trac_screen::{Before, ScreenLine, call_into, outcome_into, takes_default};
 use trac_session::Refusal;
 
-/// Puts a line for each of the last calls of the program's own at the end of a text, the earliest first: the number of its
-/// step, the call, and its value, cut to the screen unless they are wanted whole; and whether the value is its default
-/// argument. To find them it goes back, and then forward again to where it was. Where a step is refused on the way, for
-/// memory alone, the lines end there, and the refusal is returned; where that is refused too, it stands there. The error is
-/// that memory was refused for the lines, or to search a form for the text of `in`, here and below.
+/// Puts a line for each of the last calls of the program's own at the end of a text, the earliest first: the number of
+/// its step, the call, and its value, cut to the screen unless they are wanted whole; and whether the value is its
+/// default argument. To find them it goes back, and then forward again to where it was. Where a step is refused on the
+/// way, for memory alone, the lines end there, and the refusal is returned; where that is refused too, it stands there.
+/// The error is that memory was refused for the lines, or to search a form for the text of `in`, here and below.
 pub fn calls_into<A: Allocator + Copy>(
     alloc: A,
     walker: &mut Walker<A>,
@@ -25,8 +25,8 @@ pub fn calls_into<A: Allocator + Copy>(
     Ok(if met.is_some() { met } else { ahead })
 }
 
-// Goes back over so many calls, whose steps are put at the end of these, and forward again from each to the next, with a
-// line for it, until a step is refused.
+// Goes back over so many calls, whose steps are put at the end of these, and forward again from each to the next, with
+// a line for it, until a step is refused.
 fn lines_into<A: Allocator + Copy>(
     alloc: A,
     walker: &mut Walker<A>,
@@ -52,8 +52,8 @@ fn lines_into<A: Allocator + Copy>(
     Ok(None)
 }
 
-// Goes back over so many calls, or all that there are, and puts the numbers of their steps at the end of these, the latest
-// first. Returns why a step was refused on the way forward again from where no more is met, if one was.
+// Goes back over so many calls, or all that there are, and puts the numbers of their steps at the end of these, the
+// latest first. Returns why a step was refused on the way forward again from where no more is met, if one was.
 fn steps_into<A: Allocator + Copy>(
     walker: &mut Walker<A>,
     count: u64,

@@ -60,7 +60,8 @@ impl<A: Allocator + Copy> Witness<A> for Way<A> {
         from: Place<'_>,
     ) -> Result<(), AllocError> {
         let count = self.count.saturating_add(1);
-        // The end takes a line too: so with this call the way is too long, and the line of the one before is taken back.
+        // The end takes a line too: so with this call the way is too long, and the line of the one
+        // before is taken back.
         if count >= LINE_COUNT {
             self.told.truncate(FIRST_COUNT);
             self.count = count;
@@ -106,7 +107,8 @@ pub(crate) fn told_way<A: Allocator + Copy>(
     walker: &mut Walker<A>,
     place: Place<'_>,
 ) -> (Way<A>, Traced)
-    ensures { AreTold (number_of_step walker.old.window.forgotten (length walker.old.window.session.earlier)) (way_of walker.old.window.session (place_of place.entry) result.1.steps) result.1.end result.0 }
+    ensures { AreTold (number_of_step walker.old.window.forgotten (length walker.old.window.session.earlier))
+        (way_of walker.old.window.session (place_of place.entry) result.1.steps) result.1.end result.0 }
 {
     let mut way = Way {
         alloc,

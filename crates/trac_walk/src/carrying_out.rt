@@ -10,8 +10,8 @@ use trac_orders::Move;
 use trac_screen::{Glance, SEARCH_LIMIT, Stop};
 use trac_session::Refusal;
 
-/// Carries out a move, and says why it stopped before its goal, where it did. It takes no memory but for steps, and for a
-/// copy of the form of which the last change is looked for.
+/// Carries out a move, and says why it stopped before its goal, where it did. It takes no memory but for steps, and for
+/// a copy of the form of which the last change is looked for.
 pub fn carry_out<A: Allocator + Copy>(walker: &mut Walker<A>, way: Move<'_>) -> Option<Stop> {
     match way {
         Move::Forward(steps) => stop_ahead(walker.forward(steps)),
@@ -161,8 +161,8 @@ fn over_back<A: Allocator + Copy>(walker: &mut Walker<A>) -> Option<Stop> {
     }
 }
 
-// Back to the beginning of a function whose value ends at this step, that of the earliest where there are several: what is
-// left to scan here was left after the `)` that ended it, and until here no less was left.
+// Back to the beginning of a function whose value ends at this step, that of the earliest where there are several: what
+// is left to scan here was left after the `)` that ended it, and until here no less was left.
 fn to_beginning<A: Allocator + Copy>(walker: &mut Walker<A>, here: u64) -> Option<Stop> {
     let rest = walker.glance().rest;
     let unmet = match walker.return_to(Aim::Rest(rest)) {

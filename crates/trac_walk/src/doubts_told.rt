@@ -8,9 +8,9 @@ use trac_follow::{End, Place};
 use trac_screen::{Origin, ScreenLine, argument_doubted, doubt_into, left_out_into, origin_into};
 use trac_session::Doubt;
 
-/// Puts a line for each doubt of the next step at the end of a text: what is said of it, and the place from which it comes;
-/// at most 30, and how many are left out. For the places it goes back, and forward again. The error is that memory was
-/// refused, here and below.
+/// Puts a line for each doubt of the next step at the end of a text: what is said of it, and the place from which it
+/// comes; at most 30, and how many are left out. For the places it goes back, and forward again. The error is that
+/// memory was refused, here and below.
 pub fn doubts_into<A: Allocator + Copy>(
     alloc: A,
     walker: &mut Walker<A>,
@@ -69,7 +69,8 @@ fn place_into<A: Allocator + Copy>(
     }
 }
 
-/// The byte that a doubt of the next step is about: the first one of an argument or of a name, or the one that comes next.
+/// The byte that a doubt of the next step is about: the first one of an argument or of a name, or
+/// the one that comes next.
 pub fn place_of<'p, A: Allocator + Copy>(walker: &Walker<A>, doubt: Doubt) -> Place<'p> {
     let function = match doubt {
         Doubt::Unended(_) => 0,
@@ -100,8 +101,8 @@ fn written_at<A: Allocator + Copy>(walker: &Walker<A>, program: &[u8], end: End)
     }
 }
 
-// The number of the byte of all input with which the text begins that is read next: the first one that is no blank and no
-// line end.
+// The number of the byte of all input with which the text begins that is read next: the first one
+// that is no blank and no line end.
 fn text_begins<A: Allocator + Copy>(walker: &Walker<A>) -> u64 {
     walker
         .input_number(walker.sight().position)

@@ -7,9 +7,9 @@ use std::alloc::{AllocError, Allocator};
 use trac_screen::{Later, Stop, later_into, stop_into};
 use trac_session::Refusal;
 
-/// Puts a line at the end of a text that says which step prints this text first, after where the walker stands, or up to
-/// which step none does. It looks ahead as far as it can without forgetting a step, and comes back. The error is that memory
-/// was refused for the line.
+/// Puts a line at the end of a text that says which step prints this text first, after where the walker stands, or up
+/// to which step none does. It looks ahead as far as it can without forgetting a step, and comes back. The error is
+/// that memory was refused for the line.
 pub fn printed_later_into<A: Allocator + Copy>(
     alloc: A,
     walker: &mut Walker<A>,

@@ -1,5 +1,5 @@
-//! A debugger for a person at a terminal: a walker over a session, moves to a goal, what is replied to each line, and the
-//! way of a byte back to where it comes from.
+//! A debugger for a person at a terminal: a walker over a session, moves to a goal, what is replied to each line, and
+//! the way of a byte back to where it comes from.
 #![tactic(auto)]
 
 mod aim;

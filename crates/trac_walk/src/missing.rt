@@ -33,7 +33,8 @@ impl<A: Allocator + Copy> Witness<A> for InForms<A> {
     }
 }
 
-/// How many bytes this argument of the innermost begun function has. `Err`: no function is begun, or it has no such argument.
+/// How many bytes this argument of the innermost begun function has. `Err`: no function is begun,
+/// or it has no such argument.
 pub fn argument_len<A: Allocator + Copy>(walker: &Walker<A>, argument: u64) -> Result<u64, Stop> {
     match walker.sight().begun {
         None => Err(Stop::Outside),
@@ -44,9 +45,10 @@ pub fn argument_len<A: Allocator + Copy>(walker: &Walker<A>, argument: u64) -> R
     }
 }
 
-/// Goes back to what left this argument of the innermost begun function empty, and says so at the end of a text: the last
-/// call that stood there, whose value is empty; the gap of a form that a call filled with nothing, with the `ss` that made
-/// it; else the way of the byte after which nothing stands. The error is that memory was refused, here and below.
+/// Goes back to what left this argument of the innermost begun function empty, and says so at the end of a
+/// text: the last call that stood there, whose value is empty; the gap of a form that a call filled with
+/// nothing, with the `ss` that made it; else the way of the byte after which nothing stands. The error is that
+/// memory was refused, here and below.
 pub fn empty_argument_into<A: Allocator + Copy>(
     alloc: A,
     walker: &mut Walker<A>,
@@ -128,8 +130,8 @@ fn unwritten_into<A: Allocator + Copy>(
     followed_into(alloc, walker, program, Place::Active(place), out)
 }
 
-// Goes to the call that gave the byte at this place of the active text from a form in which a gap follows, which was filled
-// with nothing: which item the gap is, and its number. None where there is no such call.
+// Goes to the call that gave the byte at this place of the active text from a form in which a gap follows, which was
+// filled with nothing: which item the gap is, and its number. None where there is no such call.
 fn to_gap<A: Allocator + Copy>(
     alloc: A,
     walker: &mut Walker<A>,

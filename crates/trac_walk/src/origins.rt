@@ -31,10 +31,10 @@ impl<A: Allocator + Copy> Witness<A> for Unsaid {
     }
 }
 
-/// Goes back to the step that made a byte, or read it, and puts the way there at the end of a text: a line for each call
-/// that carried it, the latest first, and then where it stands. Of a byte of the program it says the line and the column. It
-/// takes memory for the lines alone. The error is that memory was refused, here and below, or that the name of a form could
-/// not be kept.
+/// Goes back to the step that made a byte, or read it, and puts the way there at the end of a text: a line for each
+/// call that carried it, the latest first, and then where it stands. Of a byte of the program it says the line and
+/// the column. It takes memory for the lines alone. The error is that memory was refused, here and below, or that the
+/// name of a form could not be kept.
 pub fn way_into<A: Allocator + Copy>(
     alloc: A,
     walker: &mut Walker<A>,
@@ -67,8 +67,8 @@ pub fn followed_into<A: Allocator + Copy>(
     way_told_into(alloc, walker, program, &way, found.end, out)
 }
 
-// The same of the first byte of the name of the call that comes next. Of one that is the idle program's it says so, and goes
-// forward again.
+// The same of the first byte of the name of the call that comes next. Of one that is the idle program's it
+// says so, and goes forward again.
 fn name_into<A: Allocator + Copy>(
     alloc: A,
     walker: &mut Walker<A>,
@@ -87,8 +87,8 @@ fn name_into<A: Allocator + Copy>(
     }
 }
 
-/// Whether a way that ended so, to which the walker has gone back, ended at a byte of the idle program: where that is loaded,
-/// or at the start.
+/// Whether a way that ended so, to which the walker has gone back, ended at a byte of the idle program: where
+/// that is loaded, or at the start.
 pub fn is_idle<A: Allocator + Copy>(walker: &Walker<A>, end: &End) -> bool {
     match end {
         End::Made => walker.sight().active.is_empty(),
@@ -127,9 +127,9 @@ fn calls_into<A: Allocator + Copy>(way: &Way<A>, out: &mut Vec<u8, A>) -> Result
     Ok(())
 }
 
-/// Puts a line at the end of a text that says where it stands, and where the name of the call that comes next was written.
-/// For that it goes back, as `way_into` does, and forward again; where a step is refused on the way there, for memory alone,
-/// that is said, and it stands there.
+/// Puts a line at the end of a text that says where it stands, and where the name of the call that comes next was
+/// written. For that it goes back, as `way_into` does, and forward again; where a step is refused on the way there, for
+/// memory alone, that is said, and it stands there.
 pub fn written_into<A: Allocator + Copy>(
     alloc: A,
     walker: &mut Walker<A>,

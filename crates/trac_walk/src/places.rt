@@ -30,7 +30,8 @@ impl<A: Allocator + Copy> Places<A> {
         Ok(self.steps.push(place)?)
     }
 
-    /// Takes out the latest place that is another step than this and not before the first one that is kept, with all after it.
+    /// Takes out the latest place that is another step than this and not before the first one that
+    /// is kept, with all after it.
     pub fn take(&mut self, step: u64, first_step: u64) -> Option<u64>
         ensures { IsTaken step first_step self.old.steps.items result self.new.steps.items }
     {

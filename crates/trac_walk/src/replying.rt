@@ -59,9 +59,10 @@ impl<'p, A: Allocator + Copy> Memo<'p, A> {
     }
 }
 
-/// Does what a line asks for, and puts what is to be said of it at the end of a text; whether the dialogue goes on. An empty
-/// line asks for the last move again, for a search whose steps were spent from where it ended, or to follow a byte as the last
-/// line that did; before the first of these it says where the walk stands. The error is that memory was refused, here and below.
+/// Does what a line asks for, and puts what is to be said of it at the end of a text; whether the dialogue goes on.
+/// An empty line asks for the last move again, for a search whose steps were spent from where it ended, or to follow
+/// a byte as the last line that did; before the first of these it says where the walk stands. The error is that
+/// memory was refused, here and below.
 pub fn reply_into<A: Allocator + Copy>(
     alloc: A,
     walker: &mut Walker<A>,
@@ -90,8 +91,8 @@ pub fn reply_into<A: Allocator + Copy>(
     obey_line(alloc, walker, memo, last.as_slice(), out)
 }
 
-// Goes to where the steps of a search were spent, if the last move was such a search, and keeps where the walk stood in place
-// of that.
+// Goes to where the steps of a search were spent, if the last move was such a search, and keeps where
+// the walk stood in place of that.
 fn go_on<A: Allocator + Copy>(
     walker: &mut Walker<A>,
     memo: &mut Memo<'_, A>,
@@ -258,7 +259,8 @@ fn is_printed(spot: Spot<'_>) -> bool {
     )
 }
 
-// Follows the byte back that the call was given to which a byte of the output led, if there is one; else says which there are.
+// Follows the byte back that the call was given to which a byte of the output led, if there is one;
+// else says which there are.
 fn follow_on<A: Allocator + Copy>(
     alloc: A,
     walker: &mut Walker<A>,
@@ -284,11 +286,7 @@ fn is_unmet(stop: Option<Stop>) -> bool {
     matches!(
         stop,
         Some(
-            Stop::Unmet(_)
-                | Stop::UnmetUpTo(_, _)
-                | Stop::NotMet
-                | Stop::Spent
-                | Stop::SpentUpTo(_)
+            Stop::Unmet(_) | Stop::UnmetUpTo(_, _) | Stop::NotMet | Stop::Spent | Stop::SpentUpTo(_)
         )
     )
 }
@@ -322,8 +320,8 @@ fn tell<A: Allocator + Copy>(
     window_into(alloc, first_step, walker.forgetting(), out)
 }
 
-// Feeds a line, and says where it stands, or why the line was refused. Where a text is read that neither the line nor what
-// was unread before it ends, it also says that.
+// Feeds a line, and says where it stands, or why the line was refused. Where a text is read that neither the line nor
+// what was unread before it ends, it also says that.
 fn feed<A: Allocator + Copy>(
     alloc: A,
     walker: &mut Walker<A>,

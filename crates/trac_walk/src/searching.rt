@@ -17,19 +17,20 @@ use trac_session::{Refusal, Session, Walk};
 pub enum Search {
     /// It stands at what was looked for.
     Met,
-    /// A step was refused so, after so many steps on which nothing was met; `NotMet` where all its steps were taken. It stands
-    /// where it began.
+    /// A step was refused so, after so many steps on which nothing was met; `NotMet` where all its steps were
+    /// taken. It stands where it began.
     Unmet(Refusal, u64),
 }
 
 impl<A: Allocator + Copy> Walker<A> {
-    /// Goes forward to a goal, by so many steps at most. Where it is not met, or a step is refused before, also for memory, all
-    /// that is kept is as it was. To go further than that leaves room for, the walker runs the program anew from its start,
-    /// beside it.
+    /// Goes forward to a goal, by so many steps at most. Where it is not met, or a step is refused before, also for
+    /// memory, all that is kept is as it was. To go further than that leaves room for, the walker runs the program
+    /// anew from its start, beside it.
     pub fn search(&mut self, aim: Aim<'_>, most: u64) -> Search
         ensures stayed { HasStayed result self.old.window self.new.window }
         ensures met { result ≡ Search.Met → goal_of_aim aim.entry self.new.window.session.last ≡ true }
-        ensures near { weights_from self.old.window.session.earlier ≤ self.old.weight → IsAsNear self.old.weight (goal_of_aim aim.entry) most self.old.window.session result self.new.window.session }
+        ensures near { weights_from self.old.window.session.earlier ≤ self.old.weight → IsAsNear self.old.weight
+            (goal_of_aim aim.entry) most self.old.window.session result self.new.window.session }
     {
         let weight = self.weight();
         match search_near(&mut self.window.session, aim, most, weight) {
@@ -39,8 +40,8 @@ impl<A: Allocator + Copy> Walker<A> {
         }
     }
 
-    // The same after so many steps on which nothing was met, in a run of the program anew. What that keeps takes the place of
-    // what was kept if it meets the goal.
+    // The same after so many steps on which nothing was met, in a run of the program anew. What that keeps takes the
+    // place of what was kept if it meets the goal.
     fn search_far(&mut self, aim: Aim<'_>, done: u64, most: u64) -> Search
         ensures stayed { HasStayed result self.old.window self.new.window }
         ensures met { result ≡ Search.Met → goal_of_aim aim.entry self.new.window.session.last ≡ true }
@@ -76,8 +77,8 @@ impl<A: Allocator + Copy> Walker<A> {
     }
 }
 
-// Goes forward to a goal, by so many steps at most, as far as there is room for their records: `JournalFull` where there is no
-// more.
+// Goes forward to a goal, by so many steps at most, as far as there is room for their records:
+// `JournalFull` where there is no more.
 #[tactic(auto, using(crate::proofs::SteppedBack::came_back))]
 fn search_near<A: Allocator + Copy>(
     session: &mut Session<A>,
@@ -87,7 +88,8 @@ fn search_near<A: Allocator + Copy>(
 ) -> Search
     ensures stayed { HasStayed result session.old session.new }
     ensures met { result ≡ Search.Met → goal_of_aim aim.entry session.new.last ≡ true }
-    ensures near { weights_from session.old.earlier ≤ weight → IsAsNear weight (goal_of_aim aim.entry) most session.old result session.new }
+    ensures near { weights_from session.old.earlier ≤ weight →
+        IsAsNear weight (goal_of_aim aim.entry) most session.old result session.new }
 {
     let walk = walk_near(session, aim, most, weight);
     let Some(refusal) = walk.why else {
@@ -106,7 +108,8 @@ fn walk_near<A: Allocator + Copy>(
 ) -> Walk
     ensures walked { repeated Step result.done session.old ≡ Some session.new }
     ensures met { result.why ≡ None → goal_of_aim aim.entry session.new.last ≡ true }
-    ensures near { weights_from session.old.earlier ≤ weight → HasWalked weight (goal_of_aim aim.entry) most session.old result.done result.why session.new }
+    ensures near { weights_from session.old.earlier ≤ weight →
+        HasWalked weight (goal_of_aim aim.entry) most session.old result.done result.why session.new }
 {
     if session.weight() > weight {
         return Walk {
@@ -121,8 +124,8 @@ fn walk_near<A: Allocator + Copy>(
     }
 }
 
-// Why a walk towards a goal ended. Where its records weigh too much before so many steps, or what is printed next has no room
-// beside what is kept, there is no room for the next step.
+// Why a walk towards a goal ended. Where its records weigh too much before so many steps, or what is printed next has
+// no room beside what is kept, there is no room for the next step.
 fn full_for<A: Allocator + Copy>(session: &Session<A>, walk: Walk, most: u64) -> Option<Refusal>
     ensures { IsReason walk.done most walk.why result }
 {

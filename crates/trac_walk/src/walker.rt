@@ -18,12 +18,13 @@ use trac_session::{Doubt, Goal, Machine, Refusal, Return, Session, Walk};
 use trac_streams::Ending;
 use trac_window::Window;
 
-// An item of a form takes 8 bytes in a record and weighs one, and lists may have as much room again as they need. So a record
-// takes at most so many bytes for each that it weighs.
+// An item of a form takes 8 bytes in a record and weighs one, and lists may have as much room again as they need. So a
+// record takes at most so many bytes for each that it weighs.
 const WEIGHED_BYTES: u64 = 12;
 
-/// A session over a program, and how far it is from the start. Where the journal is full or its records weigh too much, and
-/// where there is no room for more output, the walker forgets the older half of the steps, with what they printed, and goes on.
+/// A session over a program, and how far it is from the start. Where the journal is full or its records weigh
+/// too much, and where there is no room for more output, the walker forgets the older half of the steps, with
+/// what they printed, and goes on.
 #[derive(Drop)]
 pub struct Walker<A: Allocator + Copy> {
     // the session, and what of it is forgotten
@@ -42,8 +43,8 @@ pub struct Walker<A: Allocator + Copy> {
 }
 
 impl<A: Allocator + Copy> Walker<A> {
-    /// At the start of the program, which is the whole input so far. The records of the steps that are kept take some `keep`
-    /// bytes at most.
+    /// At the start of the program, which is the whole input so far. The records of the steps that are kept
+    /// take some `keep` bytes at most.
     ///
     /// `Ending::Limit`: the program has more than 33,554,432 bytes. `Ending::Memory`: memory was refused.
     pub fn new(alloc: A, tape: &[u8], limit: usize, keep: u64, width: Width) -> Result<Self, Ending>
@@ -200,10 +201,11 @@ impl<A: Allocator + Copy> Walker<A> {
         fed.saturating_sub(there).saturating_add(n as u64)
     }
 
-    /// Goes back to where the byte at a place comes from, or the item of a form, and tells a witness of each call on the
-    /// way.
+    /// Goes back to where the byte at a place comes from, or the item of a form, and tells a
+    /// witness of each call on the way.
     pub fn trace<W: Witness<A>>(&mut self, place: Place<'_>, witness: &mut W) -> Traced
-        ensures { IsTold W.passes W.refuses (way_of self.old.window.session (place_of place.entry) result.steps) result.steps result.end witness.old witness.new }
+        ensures { IsTold W.passes W.refuses (way_of self.old.window.session (place_of place.entry) result.steps)
+            result.steps result.end witness.old witness.new }
     {
         let most = self.window.session.len() as u64;
         trace(&mut self.window.session, place, most, witness)
@@ -220,8 +222,8 @@ impl<A: Allocator + Copy> Walker<A> {
         self.go(None, most)
     }
 
-    /// Goes forward to a goal, by so many steps at most, until one is refused, which is returned; `NotMet` where the steps
-    /// were taken and the goal was not met.
+    /// Goes forward to a goal, by so many steps at most, until one is refused, which is returned; `NotMet` where the
+    /// steps were taken and the goal was not met.
     pub fn forward_to(&mut self, aim: Aim<'_>, most: u64) -> Option<Refusal>
         ensures { result ≡ None → goal_of_aim aim.entry self.new.window.session.last ≡ true }
     {
@@ -266,8 +268,8 @@ impl<A: Allocator + Copy> Walker<A> {
         }
     }
 
-    // Whether a walk goes on that has ended so, with a goal or without one: the journal was full or weighed enough, there is
-    // room for the output now, or some steps of a search were taken.
+    // Whether a walk goes on that has ended so, with a goal or without one: the journal was full or weighed enough,
+    // there is room for the output now, or some steps of a search were taken.
     fn goes_on(&mut self, walk: Walk, has_aim: bool) -> bool
         ensures { walk.why ≡ None → (result ≡ not has_aim) × (self.new ≡ self.old) }
     {
@@ -285,14 +287,14 @@ impl<A: Allocator + Copy> Walker<A> {
         self.window.session.back(steps).why
     }
 
-    /// Goes back to a goal, and forward again where it is not met on the way back: then `NotMet` is returned. Where a step
-    /// was refused on the way forward again, the walker stands there, and that refusal is returned.
+    /// Goes back to a goal, and forward again where it is not met on the way back: then `NotMet` is returned. Where a
+    /// step was refused on the way forward again, the walker stands there, and that refusal is returned.
     pub fn return_to(&mut self, aim: Aim<'_>) -> Option<Refusal> {
         refusal_of(self.window.session.return_to(goal_for(aim)))
     }
 
-    /// Goes back to the call that changed the form of this name last, as `return_to` does. `Memory` also where there is none
-    /// for a copy of the form, and then it does not move.
+    /// Goes back to the call that changed the form of this name last, as `return_to` does. `Memory` also where there is
+    /// none for a copy of the form, and then it does not move.
     pub fn return_to_change(&mut self, name: &[u8]) -> Option<Refusal> {
         let Ok(form) = form_of(self.sight().store, name) else {
             return Some(Refusal::Memory);
@@ -314,8 +316,8 @@ impl<A: Allocator + Copy> Walker<A> {
         }
     }
 
-    // Forgets the older half of the journal where that is why the next step is refused: what it prints has no room. Whether
-    // it did; it may take several times, until the output of the steps that are left is short enough.
+    // Forgets the older half of the journal where that is why the next step is refused: what it prints has no room.
+    // Whether it did; it may take several times, until the output of the steps that are left is short enough.
     fn make_output_room(&mut self) -> bool {
         let len = self.window.session.len();
         if len == 0 || !lacks_output_room(self.window.session.machine()) {
@@ -327,10 +329,11 @@ impl<A: Allocator + Copy> Walker<A> {
     }
 }
 
-// The functions over a session here promise little of it, so that whoever calls them has few of its clauses in his proof.
+// The functions over a session here promise little of it, so that whoever calls them has few of its
+// clauses in his proof.
 
-// A walk forward by so many steps at most, towards a goal where there is one. It stops also where the records weigh more than
-// this.
+// A walk forward by so many steps at most, towards a goal where there is one. It stops also where
+// the records weigh more than this.
 fn walk_on<A: Allocator + Copy>(
     session: &mut Session<A>,
     aim: Option<Aim<'_>>,

@@ -48,14 +48,15 @@ impl<'p, A: Allocator + Copy> Replier<A> for Guide<'p, A> {
     }
 }
 
-/// Walks through a program, forwards and backwards, for a person: it reads lines, does what each asks for, and writes where
-/// it stands then, which is flushed before more is read. A line that is not understood gets one line, and changes nothing.
+/// Walks through a program, forwards and backwards, for a person: it reads lines, does what each asks for,
+/// and writes where it stands then, which is flushed before more is read. A line that is not understood gets
+/// one line, and changes nothing.
 ///
-/// It ends with `Ended` at the end of the lines, and where it is asked to; with `Limit`, and nothing read or written, where
-/// the program has more than 33,554,432 bytes; with `Read` and `Write` where the reader or the writer fails; with `Memory`
-/// where there is no memory for the session, for a line or for what is to be written; and with `Budget` after as many lines
-/// as a number of 64 bits counts.
-#[tactic(auto, using(crate::proofs::Ended::takes_none, crate::proofs::Ended::gives_none, crate::proofs::Ended::stop_may_end, crate::proofs::Ended::stop_is_within, crate::proofs::Ended::refused_may_end, crate::proofs::Ended::refused_too_long))]
+/// It ends with `Ended` at the end of the lines, and where it is asked to; with `Limit`, and nothing read or written,
+/// where the program has more than 33,554,432 bytes; with `Read` and `Write` where the reader or the writer fails; with
+/// `Memory` where there is no memory for the session, for a line or for what is to be written; and with `Budget` after
+/// as many lines as a number of 64 bits counts.
+#[tactic(auto, using(crate::proofs::Ended::for_walk))]
 pub fn walk<R: Read, W: Write, A: Allocator + Copy>(
     alloc: A,
     tape: &[u8],

@@ -48,8 +48,8 @@ pub(crate) fn lint_by(rt: &HostRuntime, words: &[&str]) -> ExitCode {
     }
 }
 
-// Looks through the programs in the files at these paths, each with the text in the file at that one after it, if there is
-// one; the highest of their statuses. Where the output cannot be written the others are not looked through.
+// Looks through the programs in the files at these paths, each with the text in the file at that one after it, if there
+// is one; the highest of their statuses. Where the output cannot be written the others are not looked through.
 fn lint_all(rt: &HostRuntime, paths: &[String], input: Option<&str>, settings: Settings) -> u8 {
     let mut status = 0;
     for path in paths {
@@ -92,8 +92,8 @@ fn lint_file(rt: &HostRuntime, path: &str, input: Option<&str>, settings: Settin
     (found.halt != Halt::Write).then_some(found.status())
 }
 
-// A path as it stands in a line: of a control character, such as a line feed, `\x` and two hexadecimal digits; of an empty
-// one two quotes.
+// A path as it stands in a line: of a control character, such as a line feed, `\x` and two hexadecimal
+// digits; of an empty one two quotes.
 fn one_line(alloc: Global, path: &str) -> Result<String, AllocError> {
     let mut line = String::new(alloc);
     if path.is_empty() {

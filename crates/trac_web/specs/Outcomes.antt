@@ -2,7 +2,8 @@
 use Rattle.std.specs.Prelude.{ℕ}
 use Rattle.trac_streams.specs.Endings.{status_of}
 use Rattle.trac_web.specs.declared.outcome.Outcome.{Outcome}
-use Rattle.trac_web.specs.declared.outcome.Outcome.TheVariants.{Ends, TooLong, WrongBudget, WrongJournal, WrongDecimals, WrongPlace, NotReached}
+use Rattle.trac_web.specs.declared.outcome.Outcome.TheVariants.{Ends, TooLong, WrongBudget, WrongJournal, WrongDecimals}
+use Rattle.trac_web.specs.declared.outcome.Outcome.TheVariants.{WrongPlace, NotReached}
 
 -- the number that a host is told: the exit status of the program, or one after these
 abbrev pub status_told : Outcome → ℕ

@@ -6,8 +6,8 @@ use Rattle.trac_web.specs.declared.outcome.Outcome.{Outcome}
 use Rattle.trac_web.specs.declared.outcome.Outcome.TheVariants.{Ends, TooLong}
 use Rattle.trac_web.specs.Outcomes.{status_told}
 
--- how a request ends whose reply has so many bytes, or more, in a buffer of so many. The writer of a reply fails where its buffer is full;
--- where it is not, there was no memory
+-- how a request ends whose reply has so many bytes, or more, in a buffer of so many. The writer of a reply fails where
+-- its buffer is full; where it is not, there was no memory
 abbrev pub ends_where : Ending → Bool → Bool → Outcome
 ends_where Write true longer = TooLong
 ends_where Write false longer = Ends Memory
@@ -18,7 +18,8 @@ abbrev pub outcome_of : Ending → ℕ → ℕ → Outcome
 outcome_of ending size room = ends_where ending (nat_le room size) (nat_lt room size)
 
 -- a text is in the buffer, as much of it as has room from its front on, and the rest of the buffer is as it was
-pub record Delivers (text : List ℕ) (ending : Ending) (old new : List ℕ) (written : ℕ) (outcome : Outcome) : Type 0 where
+pub record Delivers
+    (text : List ℕ) (ending : Ending) (old new : List ℕ) (written : ℕ) (outcome : Outcome) : Type 0 where
   pub within : written ≤ length old
   pub all : length text ≤ length old → written ≡ length text
   pub bytes : new ≡ take written text ++ drop written old

@@ -20,11 +20,13 @@ word_field word n = word ++ field n
 abbrev pub name_field : List ℕ → List ℕ
 name_field name = field (length name) ++ (codes " " ++ name)
 
--- a place, where so many bytes of the output are released; those of the output are counted from the start of the program, as far as 64 bits count
+-- a place, where so many bytes of the output are released; those of the output are counted from the start of the
+-- program, as far as 64 bits count
 abbrev pub place_field : ℕ → Place → List ℕ
 place_field released (InActive i) = word_field (codes " active") i
 place_field released (InBase i) = word_field (codes " base") i
-place_field released (InArgument function argument byte) = word_field (codes " argument") function ++ (field argument ++ field byte)
+place_field released (InArgument function argument byte) =
+    word_field (codes " argument") function ++ (field argument ++ field byte)
 place_field released (InForm name i) = word_field (codes " form") i ++ name_field name
 place_field released (InHeld number name i) = word_field (codes " held") number ++ (field i ++ name_field name)
 place_field released (InOutput i) = word_field (codes " output") (min (released + i) (2 ^ 64 - 1))
@@ -36,9 +38,11 @@ deed_field (InForm name i) = codes " sets"
 deed_field (InHeld number name i) = codes " sets"
 deed_field place = codes " gives"
 
--- the row of a call that passed a byte on: the number of its step, what it did, and the place from which the byte is followed to it
+-- the row of a call that passed a byte on: the number of its step, what it did, and the place from
+-- which the byte is followed to it
 abbrev pub row : ℕ → ℕ → Passing → List ℕ
-row step released call = decimal (step - call.steps) ++ (deed_field call.from ++ (place_field released call.from ++ feed))
+row step released call =
+    decimal (step - call.steps) ++ (deed_field call.from ++ (place_field released call.from ++ feed))
 
 -- the rows of these calls
 abbrev pub rows_of : ℕ → ℕ → List Passing → List ℕ

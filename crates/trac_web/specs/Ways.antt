@@ -1,5 +1,6 @@
 -- The way of a byte, as a host is told.
-use Rattle.std.specs.Prelude.{◌≡◌, ◌⊎◌, ℕ, ◌==◌, ◌-◌, if◌then◌else◌, List, [], ◌++◌, length, Option, None, Some, codes, decimal}
+use Rattle.std.specs.Prelude.{◌≡◌, ◌⊎◌, ℕ, ◌==◌, ◌-◌, if◌then◌else◌, List, [], ◌++◌, length, Option, None, Some, codes}
+use Rattle.std.specs.Prelude.{decimal}
 use Rattle.trac_rules.specs.declared.width.Width.{Width}
 use Rattle.trac_rules.specs.Session.{PlainSession}
 use Rattle.trac_streams.specs.declared.ending.Ending.{Ending}
@@ -32,8 +33,8 @@ pub record SpotSeen : Type 0 where
 abbrev pub spot_seen : code.Spot → SpotSeen
 spot_seen s = record { kind = s.kind; first = s.first; second = s.second; third = s.third; name = s.name.now }
 
--- the place, if there is such a kind, where so many bytes of the output are released: those of the output are counted from the start of the
--- program
+-- the place, if there is such a kind, where so many bytes of the output are released: those of the output are
+-- counted from the start of the program
 abbrev pub place_in : ℕ → SpotSeen → Option Place
 place_in released s =
     if s.kind == 0 then Some (InOutput (s.first - released)) else
@@ -63,8 +64,9 @@ abbrev pub IsSaid : End → Type 0
 IsSaid Untold = ⊥
 IsSaid end = Unit {0}
 
--- the rows of what stands at a place of a session, of which so many bytes of the output are released: one for each call on its way, and one
--- for where that ends. Which number, line and column of the input a byte has that was read is not stated
+-- the rows of what stands at a place of a session, of which so many bytes of the output are released: one
+-- for each call on its way, and one for where that ends. Which number, line and column of the input a byte
+-- has that was read is not stated
 pub record IsWay (p : PlainSession) (step released : ℕ) (place : Place) (text : List ℕ) : Type 0 where
   pub new : PlainSession
   pub found : Traced
@@ -73,10 +75,12 @@ pub record IsWay (p : PlainSession) (step released : ℕ) (place : Place) (text 
   pub number : ℕ
   pub line : ℕ
   pub column : ℕ
-  pub rows : text ≡ rows_of step released (way_of p place found.steps) ++ (decimal (step - found.steps) ++ (end_field found.end number line column ++ feed))
+  pub rows : text ≡ rows_of step released (way_of p place found.steps)
+      ++ (decimal (step - found.steps) ++ (end_field found.end number line column ++ feed))
 
 -- the same, so many steps after the start of a program with all of its input
-pub record WritesWay (tape : List ℕ) (limit : ℕ) (width : Width) (step : ℕ) (spot : SpotSeen) (text : List ℕ) : Type 0 where
+pub record WritesWay
+    (tape : List ℕ) (limit : ℕ) (width : Width) (step : ℕ) (spot : SpotSeen) (text : List ℕ) : Type 0 where
   pub p : PlainSession
   pub reached : TakesSteps step (ready tape limit width) p
   pub released : ℕ
@@ -102,10 +106,12 @@ pub record NoWay (old new : List ℕ) (written : ℕ) (outcome : Outcome) : Type
 
 abbrev pub GivesWay : List ℕ → ℕ → Width → ℕ → SpotSeen → List ℕ → List ℕ → ℕ → Outcome → Type 0
 GivesWay tape limit width step spot old new written outcome =
-    Gives (λ text ending. (ending ≡ Ended) × WritesWay tape limit width step spot text) old new written outcome ⊎ NoWay old new written outcome
+    Gives (λ text ending. (ending ≡ Ended) × WritesWay tape limit width step spot text) old new written outcome
+    ⊎ NoWay old new written outcome
 
 -- the host is told which
-pub record AnswersWay (tape : List ℕ) (limit : ℕ) (width : Width) (step : ℕ) (spot : SpotSeen) (old new : List ℕ) (written status : ℕ) : Type 0 where
+pub record AnswersWay (tape : List ℕ) (limit : ℕ) (width : Width) (step : ℕ) (spot : SpotSeen) (old new : List ℕ)
+    (written status : ℕ) : Type 0 where
   pub outcome : Outcome
   pub gives : GivesWay tape limit width step spot old new written outcome
   pub told : status ≡ status_told outcome

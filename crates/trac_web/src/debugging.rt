@@ -21,7 +21,8 @@ pub fn debug_texts<A: Allocator + Copy>(
 ) -> Outcome
     requires some_records { 1 ≤ options.journal }
     requires most_records { options.journal ≤ JOURNAL_LIMIT }
-    ensures { Gives (WritesReplies tape.now options.journal options.decimals commands.now) output.old output.new written.new result }
+    ensures { Gives (WritesReplies tape.now options.journal options.decimals commands.now) output.old output.new
+        written.new result }
 {
     let mut rest = commands;
     let mut reply = Reply::new(alloc, output.len());

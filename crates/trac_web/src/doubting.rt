@@ -11,11 +11,13 @@ use trac_lint::{Halt, Settings, Sources, lint};
 use trac_rules::width::Width;
 use trac_streams::Ending;
 
-// How many bytes the records may take of the steps that can be gone back over, as of `trac-lint` where nothing else is said.
+// How many bytes the records may take of the steps that can be gone back over, as of `trac-lint`
+// where nothing else is said.
 const KEEP: u64 = 268_435_456;
 
-/// Looks for the doubts of a program with all of its input, as `trac_lint::lint` does, and puts a row for each place into the buffer
-/// of the host. The rows are the lines of `trac-lint` for a file that has no name: so they begin with the line and the column.
+/// Looks for the doubts of a program with all of its input, as `trac_lint::lint` does, and puts a row for each
+/// place into the buffer of the host. The rows are the lines of `trac-lint` for a file that has no name: so they
+/// begin with the line and the column.
 pub fn doubts_text<A: Allocator + Copy>(
     alloc: A,
     tape: &[u8],

@@ -18,8 +18,9 @@ use std::alloc::Global;
 use trac_streams::Options;
 use trac_walk::Settings;
 
-/// Runs a program with all of its input by so many steps at most, with numbers of 64 or 128 bits. What it prints goes into
-/// `output`, how many bytes that are into `written`, and how many steps were accepted into `steps`. Returns the number of an `Outcome`.
+/// Runs a program with all of its input by so many steps at most, with numbers of 64 or 128 bits. What it prints
+/// goes into `output`, how many bytes that are into `written`, and how many steps were accepted into `steps`.
+/// Returns the number of an `Outcome`.
 #[unsafe(no_mangle)]
 pub extern "C" fn trac_web_run(
     alloc: Global,
@@ -31,8 +32,10 @@ pub extern "C" fn trac_web_run(
     steps: &mut u64,
 ) -> u32
     ensures budget { (IsBudget budget → ⊥) → Refuses WrongBudget output.old output.new written.new result }
-    ensures decimals { IsBudget budget → width_of decimals ≡ None → Refuses WrongDecimals output.old output.new written.new result }
-    ensures answers { (width : Width) → IsBudget budget → width_of decimals ≡ Some width → Answers (WritesRun width budget input.now) output.old output.new written.new result }
+    ensures decimals { IsBudget budget → width_of decimals ≡ None →
+        Refuses WrongDecimals output.old output.new written.new result }
+    ensures answers { (width : Width) → IsBudget budget → width_of decimals ≡ Some width →
+        Answers (WritesRun width budget input.now) output.old output.new written.new result }
     ensures steps { steps.new ≤ budget }
 {
     *written = 0;
@@ -43,8 +46,9 @@ pub extern "C" fn trac_web_run(
     }
 }
 
-/// Debugs a program, the tape being the whole of its input, by these commands, with a journal of 1 to 1,048,576 records. The
-/// replies go into `output`, and how many bytes they are into `written`. Returns the number of an `Outcome`.
+/// Debugs a program, the tape being the whole of its input, by these commands, with a journal of 1 to
+/// 1,048,576 records. The replies go into `output`, and how many bytes they are into `written`.
+/// Returns the number of an `Outcome`.
 #[unsafe(no_mangle)]
 pub extern "C" fn trac_web_debug(
     alloc: Global,
@@ -56,7 +60,8 @@ pub extern "C" fn trac_web_debug(
     written: &mut usize,
 ) -> u32
     ensures journal { (IsJournal journal → ⊥) → Refuses WrongJournal output.old output.new written.new result }
-    ensures decimals { IsJournal journal → width_of decimals ≡ None → Refuses WrongDecimals output.old output.new written.new result }
+    ensures decimals { IsJournal journal → width_of decimals ≡ None →
+        Refuses WrongDecimals output.old output.new written.new result }
     ensures answers { (width : Width) → IsJournal journal → width_of decimals ≡ Some width →
         Answers (WritesReplies tape.now journal width commands.now) output.old output.new written.new result }
 {
@@ -74,9 +79,9 @@ pub extern "C" fn trac_web_debug(
     }
 }
 
-/// Walks through a program by these lines, as a person would type them, with a journal of 1 to 1,048,576 records of some `keep`
-/// bytes at most. What is replied goes into `output`, and how many bytes that are into `written`. Returns the number of an
-/// `Outcome`.
+/// Walks through a program by these lines, as a person would type them, with a journal of 1 to 1,048,576 records of
+/// some `keep` bytes at most. What is replied goes into `output`, and how many bytes that are into `written`.
+/// Returns the number of an `Outcome`.
 #[unsafe(no_mangle)]
 pub extern "C" fn trac_web_walk(
     alloc: Global,
@@ -89,7 +94,8 @@ pub extern "C" fn trac_web_walk(
     written: &mut usize,
 ) -> u32
     ensures journal { (IsJournal journal → ⊥) → Refuses WrongJournal output.old output.new written.new result }
-    ensures decimals { IsJournal journal → width_of decimals ≡ None → Refuses WrongDecimals output.old output.new written.new result }
+    ensures decimals { IsJournal journal → width_of decimals ≡ None →
+        Refuses WrongDecimals output.old output.new written.new result }
     ensures answers { (width : Width) → IsJournal journal → width_of decimals ≡ Some width →
         Answers (WritesTalk program.now) output.old output.new written.new result }
 {
@@ -108,10 +114,11 @@ pub extern "C" fn trac_web_walk(
     }
 }
 
-/// Follows a byte back that stands, after so many steps over this tape, at a place, which `kind`, three numbers and a name say:
-/// 0 a byte of the output, counted from the start of the program; 1 of the active text; 2 of the base text; 3 of an argument of
-/// a begun function (function, argument, byte); 4 an item of a form; 5 one of a form in a block (block, item). All numbers begin
-/// with 0. The rows of its way go into `output`, and how many bytes they are into `written`. Returns the number of an `Outcome`.
+/// Follows a byte back that stands, after so many steps over this tape, at a place, which `kind`, three numbers and a
+/// name say: 0 a byte of the output, counted from the start of the program; 1 of the active text; 2 of the base text; 3
+/// of an argument of a begun function (function, argument, byte); 4 an item of a form; 5 one of a form in a block
+/// (block, item). All numbers begin with 0. The rows of its way go into `output`, and how many bytes they are into
+/// `written`. Returns the number of an `Outcome`.
 #[unsafe(no_mangle)]
 pub extern "C" fn trac_web_way(
     alloc: Global,
@@ -128,9 +135,11 @@ pub extern "C" fn trac_web_way(
     written: &mut usize,
 ) -> u32
     ensures journal { (IsJournal journal → ⊥) → Refuses WrongJournal output.old output.new written.new result }
-    ensures decimals { IsJournal journal → width_of decimals ≡ None → Refuses WrongDecimals output.old output.new written.new result }
-    ensures answers { (width : Width) → IsJournal journal → width_of decimals ≡ Some width →
-        AnswersWay tape.now journal width step (record { kind = kind; first = first; second = second; third = third; name = name.now }) output.old output.new written.new result }
+    ensures decimals { IsJournal journal → width_of decimals ≡ None →
+        Refuses WrongDecimals output.old output.new written.new result }
+    ensures answers { (width : Width) → IsJournal journal → width_of decimals ≡ Some width → AnswersWay tape.now journal
+        width step (record { kind = kind; first = first; second = second; third = third; name = name.now }) output.old
+        output.new written.new result }
 {
     *written = 0;
     let spot = Spot {
@@ -156,9 +165,9 @@ pub extern "C" fn trac_web_way(
     }
 }
 
-/// Runs a program with all of its input by so many steps at most, and looks for what a person is unlikely to have meant, as
-/// `trac-lint` does. The rows of these doubts go into `output`, one for each place, how many bytes they are into `written`, and how
-/// many places they tell into `places`. Returns the number of an `Outcome`.
+/// Runs a program with all of its input by so many steps at most, and looks for what a person is unlikely to have
+/// meant, as `trac-lint` does. The rows of these doubts go into `output`, one for each place, how many bytes they are
+/// into `written`, and how many places they tell into `places`. Returns the number of an `Outcome`.
 #[unsafe(no_mangle)]
 pub extern "C" fn trac_web_doubts(
     alloc: Global,
@@ -170,8 +179,10 @@ pub extern "C" fn trac_web_doubts(
     places: &mut usize,
 ) -> u32
     ensures budget { (IsBudget budget → ⊥) → Refuses WrongBudget output.old output.new written.new result }
-    ensures decimals { IsBudget budget → width_of decimals ≡ None → Refuses WrongDecimals output.old output.new written.new result }
-    ensures answers { (width : Width) → IsBudget budget → width_of decimals ≡ Some width → Answers (WritesDoubts places.new) output.old output.new written.new result }
+    ensures decimals { IsBudget budget → width_of decimals ≡ None →
+        Refuses WrongDecimals output.old output.new written.new result }
+    ensures answers { (width : Width) → IsBudget budget → width_of decimals ≡ Some width →
+        Answers (WritesDoubts places.new) output.old output.new written.new result }
     ensures places { places.new ≤ PLACE_LIMIT }
 {
     *written = 0;

@@ -1,5 +1,6 @@
 //! A reply for a buffer of the host.
-ghost use Rattle.std.specs.Prelude.{◌≡◌, ◌≤◌, ℕ, List, None, Some, [], ◌++◌, length, min, take, drop, IfOk, IfErr, IsOk, OnOk, OnErr};
+ghost use Rattle.std.specs.Prelude.{◌≡◌, ◌≤◌, ℕ, List, None, Some, [], ◌++◌, length, min, take, drop, IfOk, IfErr};
+ghost use Rattle.std.specs.Prelude.{IsOk, OnOk, OnErr};
 ghost use Rattle.std.specs.Io.KnownBytes.{Keeps, WriteAppends};
 ghost use Rattle.trac_web.specs.Replies.{Delivers, ends_where};
 

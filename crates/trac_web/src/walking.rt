@@ -9,7 +9,8 @@ use std::alloc::Allocator;
 use trac_rules::limit::JOURNAL_LIMIT;
 use trac_walk::{Settings, walk};
 
-/// Walks through a program by these lines, as `trac_walk::walk` does, and puts what is replied into the buffer of the host.
+/// Walks through a program by these lines, as `trac_walk::walk` does, and puts what is replied into
+/// the buffer of the host.
 pub fn walk_texts<A: Allocator + Copy>(
     alloc: A,
     program: &[u8],

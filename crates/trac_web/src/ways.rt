@@ -4,7 +4,8 @@ ghost use Rattle.std.specs.Option.{option_map};
 ghost use Rattle.trac_debug.specs.Debugging.{ready};
 ghost use Rattle.trac_follow.specs.Places.{place_of};
 ghost use Rattle.trac_run.specs.Runs.{TakesSteps};
-ghost use Rattle.trac_web.specs.Ways.{GivesWay, IsReason, IsSaid, IsWay, WritesWay, end_field, place_in, read_field, spot_seen};
+ghost use Rattle.trac_web.specs.Ways.{GivesWay, IsReason, IsSaid, IsWay, WritesWay, end_field, place_in, read_field};
+ghost use Rattle.trac_web.specs.Ways.{spot_seen};
 
 use crate::outcome::Outcome;
 use crate::reply::deliver;
@@ -31,8 +32,8 @@ pub struct Spot<'a> {
     pub name: &'a [u8],
 }
 
-/// Goes to a step of a program with all of its input, follows what stands at a place there back, and puts the rows of its way into
-/// the buffer of the host.
+/// Goes to a step of a program with all of its input, follows what stands at a place there back, and puts the rows of
+/// its way into the buffer of the host.
 pub fn way_over<A: Allocator + Copy>(
     alloc: A,
     tape: &[u8],
@@ -153,7 +154,8 @@ fn rows_of<A: Allocator + Copy>(
     step: u64,
     place: Place<'_>,
 ) -> Result<Vec<u8, A>, AllocError>
-    ensures { IfOk result (λ text. IsWay window.old.session step window.old.released (place_of place.entry) text.items) }
+    ensures { IfOk result
+        (λ text. IsWay window.old.session step window.old.released (place_of place.entry) text.items) }
 {
     let mut rows = Rows::new(alloc, step, window.released);
     let most = window.session.len() as u64;

@@ -22,8 +22,8 @@ pub struct Window<A: Allocator + Copy> {
 }
 
 impl<A: Allocator + Copy> Window<A> {
-    /// At the start of the program, which is the whole input so far. The journal holds so many steps at most, and numbers
-    /// are so wide.
+    /// At the start of the program, which is the whole input so far. The journal holds so many steps at
+    /// most, and numbers are so wide.
     ///
     /// `Ending::Limit`: the program has more than 33,554,432 bytes. `Ending::Memory`: memory was refused.
     pub fn over(alloc: A, tape: &[u8], limit: usize, width: Width) -> Result<Self, Ending>
@@ -47,12 +47,14 @@ impl<A: Allocator + Copy> Window<A> {
         })
     }
 
-    /// Forgets all steps but the last, so many of them, and counts these, and the bytes of the output that are forgotten
-    /// with them.
+    /// Forgets all steps but the last, so many of them, and counts these, and the bytes of the
+    /// output that are forgotten with them.
     pub fn keep_steps(&mut self, keep: usize)
         ensures kept { answer (Commit keep) self.old.session ≡ done self.new.session }
-        ensures steps { self.old.forgotten + (length self.old.session.earlier - keep) < 2 ^ 64 → self.new.forgotten ≡ self.old.forgotten + (length self.old.session.earlier - keep) }
-        ensures counted { self.old.released + length (first_kept keep self.old.session).output < 2 ^ 64 → self.new.released ≡ self.old.released + length (first_kept keep self.old.session).output }
+        ensures steps { self.old.forgotten + (length self.old.session.earlier - keep) < 2 ^ 64 →
+            self.new.forgotten ≡ self.old.forgotten + (length self.old.session.earlier - keep) }
+        ensures counted { self.old.released + length (first_kept keep self.old.session).output < 2 ^ 64 →
+            self.new.released ≡ self.old.released + length (first_kept keep self.old.session).output }
     {
         let steps = self.session.len().saturating_sub(keep);
         let released = forget_before(&mut self.session, keep);
@@ -63,10 +65,17 @@ impl<A: Allocator + Copy> Window<A> {
     /// Forgets the older half of the steps, as `keep_steps` does, where the records of all of them weigh more than this
     /// (`Session::weight`); whether it did. A step that is the only one stays, whatever it weighs.
     pub fn lighten(&mut self, most: u64) -> bool
-        ensures heavy { (result ≡ true) ↔ ((most < weights_from self.old.session.earlier) × (1 < length self.old.session.earlier)) }
-        ensures kept { result ≡ true → answer (Commit (length self.old.session.earlier / 2)) self.old.session ≡ done self.new.session }
-        ensures steps { result ≡ true → self.old.forgotten + length self.old.session.earlier < 2 ^ 64 → self.new.forgotten ≡ self.old.forgotten + (length self.old.session.earlier - length self.old.session.earlier / 2) }
-        ensures counted { result ≡ true → self.old.released + length (first_kept (length self.old.session.earlier / 2) self.old.session).output < 2 ^ 64 → self.new.released ≡ self.old.released + length (first_kept (length self.old.session.earlier / 2) self.old.session).output }
+        ensures heavy { (result ≡ true)
+            ↔ ((most < weights_from self.old.session.earlier) × (1 < length self.old.session.earlier)) }
+        ensures kept { result ≡ true →
+            answer (Commit (length self.old.session.earlier / 2)) self.old.session ≡ done self.new.session }
+        ensures steps { result ≡ true → self.old.forgotten + length self.old.session.earlier < 2 ^ 64 →
+            self.new.forgotten
+            ≡ self.old.forgotten + (length self.old.session.earlier - length self.old.session.earlier / 2) }
+        ensures counted { result ≡ true →
+            self.old.released + length (first_kept (length self.old.session.earlier / 2) self.old.session).output
+            < 2 ^ 64 → self.new.released
+            ≡ self.old.released + length (first_kept (length self.old.session.earlier / 2) self.old.session).output }
         ensures stayed { result ≡ false → self.new ≡ self.old }
     {
         let len = self.session.len();
@@ -102,8 +111,8 @@ fn fed<A: Allocator + Copy>(mut session: Session<A>, tape: &[u8]) -> Result<Sess
     }
 }
 
-// Keeps so many steps, and returns how many bytes of the output are forgotten with the others: those of the first state that
-// stays.
+// Keeps so many steps, and returns how many bytes of the output are forgotten with the others: those
+// of the first state that stays.
 fn forget_before<A: Allocator + Copy>(session: &mut Session<A>, keep: usize) -> usize
     ensures printed { result ≡ length (first_kept keep session.old).output }
     ensures kept { answer (Commit keep) session.old ≡ done session.new }

@@ -32,6 +32,7 @@ IsWalkLine (walks.Bad text) = Unit {0}
 
 -- and the numbers of a search for doubts
 abbrev pub IsLintLine : LintLine → Type 0
-IsLintLine (lints.Lint paths input steps keep decimals) = (1 ≤ steps) × (steps ≤ BUDGET_LIMIT) × (1 ≤ keep) × (keep ≤ KEEP_LIMIT)
+IsLintLine (lints.Lint paths input steps keep decimals) =
+    (1 ≤ steps) × (steps ≤ BUDGET_LIMIT) × (1 ≤ keep) × (keep ≤ KEEP_LIMIT)
 IsLintLine (lints.Help text) = Unit {0}
 IsLintLine (lints.Bad text) = Unit {0}

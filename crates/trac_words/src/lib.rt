@@ -1,4 +1,5 @@
-//! The command lines of `trac`, `trac-walk` and `trac-lint`: what their words ask for.
+//! The command lines of `trac`, `trac-walk` and `trac-lint`: what their words ask for. All of it is
+//! this project's profile.
 #![tactic(auto)]
 
 pub mod help;

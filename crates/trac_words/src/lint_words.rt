@@ -13,7 +13,7 @@ use std::alloc::{AllocError, Global};
 use trac_rules::width::Width;
 use trac_streams::BUDGET_LIMIT;
 
-/// How many steps a program may take where nothing else is said (this project's profile).
+/// How many steps a program may take where nothing else is said.
 pub const DEFAULT_STEPS: u64 = 10_000_000;
 
 /// What a command line of `trac-lint` asks for.

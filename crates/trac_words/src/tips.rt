@@ -1,6 +1,6 @@
-//! Tips for mistakes that are often made, put into what clap says of a command line. Nothing here reads clap's sentences:
-//! which tip helps is told by the word that is not known, and where it goes by the blank lines of the text. The error of
-//! each function is that memory was refused.
+//! Tips for mistakes that are often made, put into what clap says of a command line. Nothing here reads clap's
+//! sentences: which tip helps is told by the word that is not known, and where it goes by the blank lines of the text.
+//! The error of each function is that memory was refused.
 
 use crate::help::{BUDGET_TIP, PAGE_TIP, RUN_TIP, VERSION_TIP, WALK_TIP};
 use clap::Command;
@@ -12,8 +12,8 @@ pub(crate) fn is_unknown(kind: ErrorKind) -> bool {
     kind == ErrorKind::UnknownArgument || kind == ErrorKind::InvalidSubcommand
 }
 
-/// The place of the first word of a command line that is neither an argument nor a subcommand: clap gives no more than a
-/// text of it, so it is the last one of the fewest words in which clap finds one. None where there is none.
+/// The place of the first word of a command line that is neither an argument nor a subcommand: clap gives no more than
+/// a text of it, so it is the last one of the fewest words in which clap finds one. None where there is none.
 pub(crate) fn unknown_place<'a>(
     mut command: Command<'a>,
     words: &'a [&'a str],
@@ -44,7 +44,8 @@ pub(crate) fn word_at<'w>(words: &[&'w str], place: Option<usize>) -> &'w str {
     }
 }
 
-/// What is said of a command line of `trac` in which this word is not known: this text of clap, with a tip where one helps.
+/// What is said of a command line of `trac` in which this word is not known: this text of clap,
+/// with a tip where one helps.
 pub(crate) fn with_tip(
     alloc: Global,
     words: &[&str],
@@ -89,9 +90,9 @@ fn tip_for(word: &str) -> &'static str {
     }
 }
 
-/// What is said of a command that reads a FILE and was given this word, which it does not know: this text of clap. A tip
-/// stands in the place of clap's own one to write a word after --: that has a letter of the word, or an option's name, as
-/// the FILE.
+/// What is said of a command that reads a FILE and was given this word, which it does not know: this text of
+/// clap. A tip stands in the place of clap's own one to write a word after --: that has a letter of the word, or
+/// an option's name, as the FILE.
 pub(crate) fn with_file_tip(
     alloc: Global,
     word: &str,

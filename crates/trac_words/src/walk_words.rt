@@ -11,11 +11,10 @@ use clap::{Arg, ArgAction, ArgMatches, Command, Error, value_parser};
 use std::alloc::{AllocError, Global};
 use trac_streams::{DEFAULT_BUDGET, Options};
 
-/// How many MiB the records may take of the steps that can be gone back over, where nothing else is said (this project's
-/// profile).
+/// How many MiB the records may take of the steps that can be gone back over, where nothing else is said.
 pub const DEFAULT_KEEP: u64 = 256;
 
-/// The most that they may be allowed: one TiB (this project's profile).
+/// The most that they may be allowed: one TiB.
 pub const KEEP_LIMIT: u64 = 1_048_576;
 
 /// What a command line of `trac-walk` asks for.
@@ -36,8 +35,8 @@ pub enum WalkLine {
     Bad(String),
 }
 
-/// Reads a command line of `trac-walk`, the program's name first. The options are within their ranges. The error is that
-/// memory was refused.
+/// Reads a command line of `trac-walk`, the program's name first. The options are within their ranges. The
+/// error is that memory was refused.
 pub fn read_walk_line(alloc: Global, words: &[&str]) -> Result<WalkLine, AllocError>
     ensures { IfOk result IsWalkLine }
 {

@@ -12,7 +12,7 @@ use trac_rules::limit::JOURNAL_LIMIT;
 use trac_rules::width::Width;
 use trac_streams::{BUDGET_LIMIT, DEFAULT_BUDGET, Options, decimals_of, is_in_range};
 
-/// How many records a run's journal may hold where nothing else is said (this project's profile).
+/// How many records a run's journal may hold where nothing else is said.
 pub const DEFAULT_JOURNAL: usize = 65_536;
 
 /// What a command line asks for.
@@ -28,8 +28,8 @@ pub enum Line {
     Bad(String),
 }
 
-/// Reads a command line, the program's name first. The options are within their ranges. A line without a subcommand is not
-/// understood. The allocator is `Global` because that of `clap` is. The error is that memory was refused.
+/// Reads a command line, the program's name first. The options are within their ranges. A line without a subcommand is
+/// not understood. The allocator is `Global` because that of `clap` is. The error is that memory was refused.
 pub fn read_line(alloc: Global, words: &[&str]) -> Result<Line, AllocError>
     ensures { IfOk result IsLine }
 {
@@ -136,8 +136,8 @@ pub(crate) fn number_in(found: &ArgMatches<'_>, option: &str, default: u64, most
     }
 }
 
-// The program's commands. Each is made by small functions: what a call of a command's own costs to prove grows with the ends
-// that still own one.
+// The program's commands. Each is made by small functions: what a call of a command's own costs to prove grows
+// with the ends that still own one.
 fn command<'a>(alloc: Global, widths: &'a [PossibleValue<'a>]) -> Result<Command<'a>, AllocError> {
     let debug = debug_command(alloc, widths)?;
     match command_to_run(alloc, widths) {
@@ -209,7 +209,8 @@ pub(crate) fn described<'a>(command: Command<'a>, about: &'a str, last: &'a str)
     command.about(about).after_help(last)
 }
 
-/// The command with the options that each command has, of which `--journal` means this, and `--decimals` takes these values.
+/// The command with the options that each command has, of which `--journal` means this, and
+/// `--decimals` takes these values.
 pub(crate) fn with_options<'a>(
     alloc: Global,
     command: Command<'a>,
