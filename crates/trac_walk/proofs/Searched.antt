@@ -1,42 +1,13 @@
 -- What a search within the room that there is answers.
-use Rattle.std.proofs.Common.{◌≡◌, ℕ, ◌<◌, ◌≤◌, ◌&&◌, Bool, true, false, refl, sym, subst, ◌∙◌, arith, ⊎_elim}
-use Rattle.std.proofs.lemmas.Bool.{cases_lt}
-use Rattle.std.specs.Prelude.{Option, None, Some, nat_lt}
+use Rattle.std.proofs.Common.{◌≡◌, ℕ, ◌≤◌, refl, subst, arith}
+use Rattle.std.specs.Prelude.{Option, None, Some}
 use Rattle.trac_rules.specs.declared.refusal.Refusal.{Refusal}
-use Rattle.trac_rules.specs.declared.refusal.Refusal.TheVariants.{TooLong, JournalFull, NotMet}
+use Rattle.trac_rules.specs.declared.refusal.Refusal.TheVariants.{JournalFull}
 use Rattle.trac_rules.specs.Session.{PlainSession, Goal}
 use Rattle.trac_rules.specs.Weights.{weights_from}
-use Rattle.trac_session.specs.Goals.{outcome}
-use Rattle.trac_session.specs.Within.{IsSearchWithin}
 use Rattle.trac_walk.specs.declared.searching.Search.{Search}
 use Rattle.trac_walk.specs.declared.searching.Search.TheVariants.{Met, Unmet}
-use Rattle.trac_walk.specs.Searches.{HasWalked, IsAnswered, IsAsNear, IsReason}
-
--- ---- why it ended
-
--- no reason is given only where none is said
-none_said : (steps most : ℕ) (said why : Option Refusal) → steps ≤ most → IsReason steps most said why → why ≡ None → said ≡ None
-none_said steps most None why few is none = refl
-none_said steps most (Some NotMet) why few is none = ⊎_elim
-    (λ (less : steps < most). let full = is.0 less in absurd (cc))
-    (λ (all : most ≤ steps). let spent = is.1 (omega (arith, few, all)) in absurd (cc))
-    (cases_lt steps most)
-none_said steps most (Some TooLong) why few is none = ⊎_elim (λ long. absurd (cc)) (λ full. absurd (cc)) is
-none_said steps most (Some other) why few is none = absurd (cc)
-
--- then the goal is met
-both_true : (one other : Bool) → None ≡ outcome (one && other) None → other ≡ true
-both_true true true said = refl
-both_true true false said = absurd (cc)
-both_true false other said = absurd (cc)
-
-met_outcome : (steps : ℕ) (met : Bool) (ended said : Option Refusal) → said ≡ None → said ≡ outcome (nat_lt 0 steps && met) ended → met ≡ true
-met_outcome steps met None said none is = both_true (nat_lt 0 steps) met (sym none ∙ is)
-met_outcome steps met (Some refusal) said none is = absurd (cc)
-
--- a search stays within its steps
-pub few_steps : {weight : ℕ} {goal : Goal} {most steps : ℕ} {said : Option Refusal} {old new : PlainSession} → IsSearchWithin weight goal most old steps said new → steps ≤ most
-few_steps found = omega (arith, found.1.within, found.1.walk.within)
+use Rattle.trac_walk.specs.Searches.{HasWalked, IsAnswered, IsAsNear}
 
 -- ---- what is answered
 
