@@ -12,7 +12,13 @@ use trac_session::Refusal;
 
 /// Carries out a move, and says why it stopped before its goal, where it did. It takes no memory but for steps, and for
 /// a copy of the form of which the last change is looked for.
-pub fn carry_out<A: Allocator + Copy>(walker: &mut Walker<A>, way: Move<'_>) -> Option<Stop> {
+///
+/// A search forward goes on after so many steps on which it has met nothing.
+pub fn carry_out<A: Allocator + Copy>(
+    walker: &mut Walker<A>,
+    way: Move<'_>,
+    searched: u64,
+) -> Option<Stop> {
     match way {
         Move::Forward(steps) => stop_ahead(walker.forward(steps)),
         Move::Back(steps) => stop_back(walker.back(steps)),
@@ -23,12 +29,12 @@ pub fn carry_out<A: Allocator + Copy>(walker: &mut Walker<A>, way: Move<'_>) -> 
         Move::OverBack => over_back(walker),
         Move::Out => out(walker),
         Move::OutBack => out_back(walker),
-        Move::Until(call) => until(walker, call_aim(call)),
+        Move::Until(call) => until(walker, call_aim(call), searched),
         Move::Return(call) => stop_back(walker.return_to(call_aim(call))),
         Move::Changed(name) => to_change(walker, name),
         Move::Printed(number) => to_unprinted(printed(walker, number), walker),
         Move::PrintedText(text) => to_unprinted(printed_text(walker, text), walker),
-        Move::ToDoubt => until(walker, Aim::Doubtful(walker.width())),
+        Move::ToDoubt => until(walker, Aim::Doubtful(walker.width()), searched),
         Move::BackToDoubt => stop_back(walker.return_to(Aim::Doubtful(walker.width()))),
     }
 }
@@ -72,12 +78,21 @@ fn to_start<A: Allocator + Copy>(walker: &mut Walker<A>) -> Option<Stop> {
     stopped
 }
 
-// Forward to a goal. Where it is not met before a step is refused, the walker stays as it was.
-fn until<A: Allocator + Copy>(walker: &mut Walker<A>, aim: Aim<'_>) -> Option<Stop>
+// Forward to a goal, after so many steps on which it was not met. Where it is not met before a step is refused, or by
+// the steps of a search, the walker stays as it was.
+fn until<A: Allocator + Copy>(
+    walker: &mut Walker<A>,
+    aim: Aim<'_>,
+    searched: u64,
+) -> Option<Stop>
     ensures { IsAsToldOf result walker.old.window walker.new.window }
 {
     let start = walker.step();
-    match walker.search(aim, SEARCH_LIMIT) {
+    let found = match searched {
+        0 => walker.search(aim, SEARCH_LIMIT),
+        done => walker.search_far(aim, done, done.saturating_add(SEARCH_LIMIT)),
+    };
+    match found {
         Search::Met => None,
         Search::Unmet(Refusal::NotMet, done) => Some(Stop::SpentUpTo(start.saturating_add(done))),
         Search::Unmet(refusal, 0) => Some(Stop::Unmet(refusal)),

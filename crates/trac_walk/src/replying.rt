@@ -33,8 +33,8 @@ pub struct Memo<'p, A: Allocator + Copy> {
     places: Places<A>,
     // whether an empty line follows on from where a byte of the output came from
     follows_on: bool,
-    // whether an empty line goes on from the latest place, where the steps of a search were spent
-    goes_on: bool,
+    // after so many steps the last move goes on if it is asked for again: a search whose steps were spent there
+    searched: u64,
 }
 
 impl<'p, A: Allocator + Copy> Memo<'p, A> {
@@ -46,16 +46,21 @@ impl<'p, A: Allocator + Copy> Memo<'p, A> {
             told: false,
             places: Places::new(alloc),
             follows_on: false,
-            goes_on: false,
+            searched: 0,
         }
     }
 
-    // Keeps a line that asks for a move, for an empty line to repeat. The error is that memory was refused.
-    fn keep_line(&mut self, alloc: A, line: &[u8]) -> Result<(), AllocError> {
+    // Keeps a line that asks for a move, for an empty line to repeat, and returns after how many steps that goes on,
+    // if it is the last one again. The error is that memory was refused.
+    fn keep_line(&mut self, alloc: A, line: &[u8]) -> Result<u64, AllocError> {
+        let searched = match self.last.as_slice() == line {
+            true => self.searched,
+            false => 0,
+        };
         self.last = Vec::from_slice(alloc, line)?;
         self.follows_on = false;
-        self.goes_on = false;
-        Ok(())
+        self.searched = 0;
+        Ok(searched)
     }
 }
 
@@ -81,32 +86,8 @@ pub fn reply_into<A: Allocator + Copy>(
         stand_into(alloc, walker, out)?;
         return Ok(true);
     }
-    let stop = go_on(walker, memo)?;
-    if stop.is_some() {
-        tell(alloc, walker, stop, &mut memo.told, out)?;
-        stand_into(alloc, walker, out)?;
-        return Ok(true);
-    }
     let last = Vec::from_slice(alloc, memo.last.as_slice())?;
     obey_line(alloc, walker, memo, last.as_slice(), out)
-}
-
-// Goes to where the steps of a search were spent, if the last move was such a search, and keeps where
-// the walk stood in place of that.
-fn go_on<A: Allocator + Copy>(
-    walker: &mut Walker<A>,
-    memo: &mut Memo<'_, A>,
-) -> Result<Option<Stop>, AllocError> {
-    if !memo.goes_on {
-        return Ok(None);
-    }
-    let start = walker.step();
-    let Some(place) = memo.places.take(start, walker.first_step()) else {
-        return Ok(None);
-    };
-    let stop = carry_out(walker, Move::To(place));
-    memo.places.keep(start, walker.step())?;
-    Ok(stop)
 }
 
 // Does what a line asks for that has words; whether the dialogue goes on.
@@ -182,9 +163,9 @@ fn go<A: Allocator + Copy>(
     way: Move<'_>,
     out: &mut Vec<u8, A>,
 ) -> Result<(), AllocError> {
-    memo.keep_line(alloc, line)?;
+    let searched = memo.keep_line(alloc, line)?;
     let start = walker.step();
-    let stop = carry_out(walker, way);
+    let stop = carry_out(walker, way, searched);
     keep_start(walker, memo, way, start, stop)?;
     tell(alloc, walker, stop, &mut memo.told, out)?;
     if is_unmet(stop) && names_no_primitive(way) {
@@ -207,7 +188,7 @@ fn keep_start<A: Allocator + Copy>(
 ) -> Result<(), AllocError> {
     match (way, stop) {
         (_, Some(Stop::SpentUpTo(reached))) => {
-            memo.goes_on = true;
+            memo.searched = reached.saturating_sub(start);
             memo.places.keep(reached, walker.step())
         }
         (_, Some(Stop::UnmetUpTo(_, reached))) => memo.places.keep(reached, walker.step()),
@@ -228,7 +209,7 @@ fn recall<A: Allocator + Copy>(
     match memo.places.take(walker.step(), walker.first_step()) {
         None => out.extend_from_slice(NO_PLACE)?,
         Some(place) => {
-            let stop = carry_out(walker, Move::To(place));
+            let stop = carry_out(walker, Move::To(place), 0);
             tell(alloc, walker, stop, &mut memo.told, out)?;
         }
     }

@@ -40,9 +40,9 @@ impl<A: Allocator + Copy> Walker<A> {
         }
     }
 
-    // The same after so many steps on which nothing was met, in a run of the program anew. What that keeps takes the
-    // place of what was kept if it meets the goal.
-    fn search_far(&mut self, aim: Aim<'_>, done: u64, most: u64) -> Search
+    /// The same after so many steps on which nothing was met, in a run of the program anew. What that keeps takes the
+    /// place of what was kept if it meets the goal.
+    pub fn search_far(&mut self, aim: Aim<'_>, done: u64, most: u64) -> Search
         ensures stayed { HasStayed result self.old.window self.new.window }
         ensures met { result ≡ Search.Met → goal_of_aim aim.entry self.new.window.session.last ≡ true }
     {
