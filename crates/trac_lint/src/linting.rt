@@ -182,6 +182,7 @@ impl<'s, A: Allocator + Copy> Linter<'s, A> {
                 number
             }
             None => {
+                self.memory.keep_unplaced(doubt)?;
                 words.say(UNPLACED)?;
                 self.text()
             }

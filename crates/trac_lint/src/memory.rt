@@ -15,6 +15,9 @@ const KEPT_LIMIT: usize = 1_000_000;
 // have no place that is known.
 const REPEAT_LIMIT: u32 = 64;
 
+// So many doubts of a kind are told without a place: more of them would hide the others.
+const UNPLACED_LIMIT: usize = 10;
+
 /// Which doubt is met, and where scanning stands then: how much is read, begun and left to scan. A loop mostly meets
 /// its doubts where it met them before, and two doubts of a program seldom stand so.
 #[derive(Clone, Copy, PartialEq, Eq, PartialOrd, Ord, Debug)]
@@ -50,6 +53,8 @@ pub(crate) struct Memory<A: Allocator + Copy> {
     // the places of doubts, and the words of those that were told
     places: BTreeSet<Place, A>,
     told: Vec<Vec<u8, A>, A>,
+    // the kinds of those that were told without a place
+    unplaced: Vec<Kind, A>,
     // how many doubts in a row were followed in vain, and how much was read then
     repeats: u32,
     read: u64,
@@ -63,6 +68,7 @@ impl<A: Allocator + Copy> Memory<A> {
             met: BTreeSet::new(alloc),
             places: BTreeSet::new(alloc),
             told: Vec::new(alloc),
+            unplaced: Vec::new(alloc),
             repeats: 0,
             read: 0,
         }
@@ -88,19 +94,28 @@ impl<A: Allocator + Copy> Memory<A> {
         }
     }
 
-    /// Whether this doubt of the byte of this number is kept, or, where none is known, it was told in these
-    /// words. Where no more places can be kept, each is taken for one that is. If so, or where none is
-    /// known, it was followed in vain.
+    /// Whether this doubt of the byte of this number is kept, or, where none is known, it was told in these words or
+    /// enough of its kind were told so. Where no more places can be kept, each is taken for one that is. If so, or
+    /// where none is known, it was followed in vain.
     pub(crate) fn is_kept(&mut self, doubt: Doubt, number: Option<u64>, words: &[u8]) -> bool {
         let is_kept = match number {
             Some(number) => {
                 self.places.len() >= KEPT_LIMIT || self.places.contains(&place_of(doubt, number))
             }
-            None => self.told.iter().any(|told| told.as_slice() == words),
+            None => self.is_said(kind_of(doubt), words),
         };
         let in_vain = is_kept || number.is_none();
         self.repeats = self.repeats.saturating_add(u32::from(in_vain));
         is_kept
+    }
+
+    // Whether a doubt without a place was told in these words, or enough of its kind were told.
+    fn is_said(&self, kind: Kind, words: &[u8]) -> bool {
+        let mut count: usize = 0;
+        for other in self.unplaced.iter() {
+            count = count.saturating_add(usize::from(*other == kind));
+        }
+        count >= UNPLACED_LIMIT || self.told.iter().any(|told| told.as_slice() == words)
     }
 
     /// Keeps this doubt of the byte of this number. The error is that memory was refused, here and below.
@@ -110,6 +125,11 @@ impl<A: Allocator + Copy> Memory<A> {
             Ok(_) => Ok(()),
             Err(_) => Err(AllocError),
         }
+    }
+
+    /// Keeps that this doubt is told without a place.
+    pub(crate) fn keep_unplaced(&mut self, doubt: Doubt) -> Result<(), AllocError> {
+        Ok(self.unplaced.push(kind_of(doubt))?)
     }
 
     /// Keeps that a doubt is told in these words.
