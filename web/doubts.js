@@ -48,7 +48,7 @@ function showDoubts(page, doubts) {
   page.tree.draw();
   markDoubts(page);
   const inProgram = doubts.filter(({ byte }) => byte < page.program.length);
-  page.editor.light("doubtful", inProgram.map(({ byte }) => byte), false);
+  page.editor.light("doubtful", page.isStale ? [] : inProgram.map(({ byte }) => byte), false);
   byId("doubts-section").hidden = doubts.length === 0;
   byId("doubts").replaceChildren(...doubts.slice(0, MOST_DOUBTS).map(({ step, byte, words }) => {
     const row = make("p", "way-row");
@@ -56,7 +56,7 @@ function showDoubts(page, doubts) {
     link.type = "button";
     link.addEventListener("click", () => page.visit(step));
     row.append(link, make("span", "doubt", words));
-    if (byte < page.program.length) row.append(placeButton(page, byte));
+    if (byte < page.program.length) row.append(placeOf(page, byte));
     return row;
   }));
   if (doubts.length > MOST_DOUBTS) byId("doubts").append(make("p", "note", `and ${grouped(doubts.length - MOST_DOUBTS)} more`));

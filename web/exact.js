@@ -41,6 +41,12 @@ class CallTree extends Tree {
     return this.calls.steps[index] === step ? this.calls.texts[index] : undefined;
   }
 
+  // The calls cannot be listed: that is said in place of them.
+  lack(words) {
+    this.note = `: ${words}`;
+    this.list();
+  }
+
   // A call is known, or cannot be told.
   learn(index, call) {
     this.exact.set(index, call);

@@ -26,7 +26,7 @@ async function strode(engine, tape, most, stride, room) {
   const turns = Math.floor((Math.max(most, 1) - 1) / stride);
   const rest = Math.max(most, 1) - 1 - turns * stride;
   const commands = `${`s ${stride}\np\nc\n`.repeat(turns)}s ${rest}\np\nc\np\ns 1\np\nc\n`;
-  const { bytes } = await engine.ask("debug", tape, { commands }, room);
+  const { bytes } = taken(await engine.ask("debug", tape, { commands }, room));
   return runSaid(new Replies(bytes), turns + 1);
 }
 
@@ -68,8 +68,14 @@ async function stepsOfOpen(engine, tape, budget) {
 
 // What trac-walk says to some lines.
 async function walked(engine, tape, lines, room = 1 << 16) {
-  const { bytes } = await engine.ask("walk", tape, { commands: lines.join("\n") + "\n" }, room);
+  const { bytes } = taken(await engine.ask("walk", tape, { commands: lines.join("\n") + "\n" }, room));
   return new TextDecoder("latin1").decode(bytes);
+}
+
+// An answer, unless the input was not taken.
+function taken(answer) {
+  if (answer.status === 4) throw new Refused("the input is too long");
+  return answer;
 }
 
 // The number of the step where it stands after all that.

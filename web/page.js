@@ -17,7 +17,10 @@ const MOST_SHOWN = { side: 300, boxes: 12, mostOfCall: 400, mostOfForm: 2000 };
 const REFUSALS = {
   "no memory": "Memory was refused: a form may grow with each call.",
   "the reply is too long": "This is too long to be shown.",
+  "the input is too long": "A limit is passed: a program and its input may have at most 33,554,432 bytes.",
 };
+const STOPPED = "The run was stopped.";
+const CHANGED = "changed since the run";
 
 class Page {
   constructor(engine) {
@@ -27,15 +30,18 @@ class Page {
     this.background = engine.twin();
     engine.told = (count) => this.waits(count);
     this.editor = new Editor(() => this.changed());
-    // the program that was run, the lines of input with the steps at which they came, and whether the input has ended
-    this.program = new Uint8Array(0);
+    // what is asked to be run, until it has come to an end
+    this.began = null;
+    // the run that is shown: its program, the lines of input, whether the input has ended, how many steps it may take, and all input
+    this.program = this.tape = new Uint8Array(0);
     this.inputs = [];
     this.isClosed = false;
     this.budget = BUDGET;
-    // its run, its states, and the cursor
+    // what it came to, its states, and the cursor, with how much is read there
     this.run = null;
     this.story = null;
     this.step = 0;
+    this.read = 0;
     this.from = 0;
     this.turn = 0;
     this.playing = 0;
@@ -50,49 +56,69 @@ class Page {
     this.exact = new Exact(this);
   }
 
-  // All input: the program, and what was typed.
-  get tape() {
-    if (!this.joined) this.joined = joined([this.program, ...this.inputs.map(({ bytes }) => bytes)]);
-    return this.joined;
-  }
-
   // Runs the program of the editor from its start, with no input but what is given.
   async start(given = new Uint8Array(0)) {
-    this.inputs = given.length ? [{ step: 0, bytes: given }] : [];
-    this.isClosed = false;
-    this.budget = BUDGET;
-    this.program = this.editor.bytes();
-    this.isStale = false;
-    await this.perform();
+    const inputs = given.length ? [{ step: 0, bytes: given }] : [];
+    await this.perform({ program: this.editor.bytes(), inputs, isClosed: false, budget: BUDGET, isNew: true });
     // (on a phone a lesson stands over it)
     byId("ending").scrollIntoView({ block: "nearest" });
   }
 
-  // Runs the program with its input, and goes to the end.
-  async perform() {
+  // Runs the program that was run with other input, or further.
+  performAgain(changes) {
+    const { program, inputs, isClosed, budget } = this;
+    return this.perform({ program, inputs, isClosed, budget, ...changes });
+  }
+
+  // Runs a program with its input, and goes to the end. Until then the run before is there, and is asked over its own input.
+  async perform(wanted) {
     this.play(0);
     this.note("");
-    this.joined = null;
     this.way.clear();
-    const turn = this.began = ++this.turn;
+    this.turn++;
     this.drop();
+    this.began = wanted;
     this.busy(true);
     try {
-      const run = await measure(this.engine, this.tape, this.isClosed, this.budget);
-      if (turn !== this.turn) return;
-      [this.run, this.step] = [run, run.end];
-      this.story = new Story(this.engine, this.tape, run.landmarks, this.ahead);
-      if (run.window) this.story.keep(run.window);
-      this.view.outputTo = undefined;
-      keepFocus(() => this.shown());
-      // (the end of the run is said, and not its last step)
-      await this.go(run.end, null, null);
-      this.gather(this.run);
+      const tape = tapeOf(wanted);
+      const run = await measure(this.engine, tape, wanted.isClosed, wanted.budget);
+      const story = new Story(this.engine, tape, run.landmarks, this.ahead);
+      if (run.window) story.keep(run.window);
+      const states = await story.around(run.end, run.end);
+      if (wanted === this.began) this.take({ ...wanted, tape, run, story, step: run.end }, states);
     } catch (fault) {
+      if (wanted === this.began) this.fail(fault instanceof Stopped ? STOPPED : wordsOf(fault));
       this.say(fault);
-    } finally {
-      if (turn === this.began) this.busy(false);
     }
+  }
+
+  // Takes a run in place of the one before, and shows its end.
+  take({ program, inputs, isClosed, budget, tape, run, story, step }, states) {
+    this.leave();
+    Object.assign(this, { program, inputs, isClosed, budget, tape, run, story, step, passed: null });
+    this.isStale = !isEqual(program, this.editor.bytes());
+    this.view.outputTo = undefined;
+    this.busy(false);
+    keepFocus(() => {
+      this.shown();
+      this.draw(states);
+    });
+    story.cursor = step;
+    story.widen(step);
+    this.gather(run);
+  }
+
+  // Says why a run came to no end. What is there then is the run before; but after another program nothing is.
+  fail(words) {
+    const { isNew } = this.began;
+    this.leave();
+    keepFocus(() => {
+      byId("ending").textContent = words;
+      if (isNew || !this.run) this.clear();
+      else this.showEnding(`${words} The run before is shown. `);
+    });
+    this.busy(false);
+    if (this.run && !this.run.isGathered) this.gather(this.run);
   }
 
   // Shows what the run came to.
@@ -101,7 +127,7 @@ class Page {
     const { end, output } = this.run;
     byId("slider").max = String(end);
     showOutput(this.view, output, output.length, 0, end);
-    byId("program-note").textContent = "";
+    byId("program-note").textContent = this.isStale ? CHANGED : "";
     showDoubts(this, []);
     this.tree.note = "";
     this.tree.show({ steps: [], depths: [], texts: [], parents: [] });
@@ -114,35 +140,56 @@ class Page {
     for (const engine of [this.engine, this.ahead, this.background]) if (engine.waiting.size) engine.stop();
   }
 
-  // Another program is opened: nothing of the last run is shown.
-  forget() {
+  // Leaves the run that is shown, and what is asked to be run: no answer is waited for.
+  leave() {
     this.turn++;
+    this.began = null;
     this.drop();
     this.play(0);
-    this.run = null;
-    this.isTyped = false;
     this.way.clear();
+  }
+
+  // Another program is opened: nothing of the last run is shown.
+  forget() {
+    this.leave();
+    this.isTyped = false;
+    this.clear();
+    byId("ending").textContent = "";
+    this.busy(false);
+  }
+
+  // Nothing of a run is shown.
+  clear() {
+    this.run = null;
+    if (this.big.isOn) this.big.leave();
     for (const id of ["player", "panels", "given", "input-form", "doubts-section"]) byId(id).hidden = true;
     byId("output").replaceChildren();
     this.view.outputKey = null;
-    for (const id of ["ending", "output-note", "program-note"]) byId(id).textContent = "";
+    for (const id of ["output-note", "program-note"]) byId(id).textContent = "";
+    for (const name of ["lit", "doubtful"]) this.editor.light(name, []);
   }
 
-  // Says how the run ended, and takes input where it waits.
-  showEnding() {
+  // Says how the run ended, after other words, if there are any.
+  showEnding(lead = "") {
     const { stand, end } = this.run;
     const ending = byId("ending");
     const sentence = STANDS[this.endKind()].words;
-    ending.textContent = `After ${grouped(end)} steps: ${sentence}.`;
+    ending.textContent = `${lead}After ${grouped(end)} steps: ${sentence}.`;
     if ((stand === "done" || stand === "waits") && !this.isClosed && this.hasText(this.run.read)) {
       const lacks = `has no ${plainOf(this.run.state.parts.meta, 8)} at its end`;
       const why = stand === "done" ? `: its last text ${lacks}, so it is not run` : ` for more: what it is to read ${lacks}`;
-      ending.textContent = `After ${grouped(end)} steps the program waits${why}.`;
+      ending.textContent = `${lead}After ${grouped(end)} steps the program waits${why}.`;
     }
     this.showGiven();
     this.announcer.say("ending", endingSaid(ending.textContent, this.run.output));
     if (stand === "spent") ending.append(this.button("go on", () => this.goOn()));
-    byId("input-form").hidden = this.isClosed || (stand !== "waits" && stand !== "done");
+  }
+
+  // Whether input may be given at the cursor: where it can come at the end of the run, or else came after this step, or ended.
+  get takesInput() {
+    const { stand, end, read } = this.run;
+    if (!this.isClosed && (stand === "waits" || stand === "done")) return true;
+    return this.step < end && (this.isClosed || read > Math.max(this.read, this.program.length));
   }
 
   // Shows the end of what came as input after the program.
@@ -168,58 +215,68 @@ class Page {
   }
 
   async goOn() {
-    this.budget += BUDGET;
-    await this.perform();
+    await this.performAgain({ budget: this.budget + BUDGET });
     if (document.activeElement === byId("output")) byId("ending").querySelector("button")?.focus();
   }
 
   // Gathers the calls of the run, its doubts, and where it prints.
   async gather(run) {
+    const { tape, isClosed, tree } = this;
     byId("tree-count").textContent = "are listed ..";
+    let calls = null;
     try {
-      const calls = await callsOf(this.background, this.tape, run.end, this.isClosed);
+      calls = await callsOf(this.background, tape, run.end, isClosed);
       if (run !== this.run) return;
-      this.tree.note = calls.from > 0 ? ", the last of the run" : "";
+      tree.note = calls.from > 0 ? ", the last of the run" : "";
       this.view.hasMarks = calls.texts.some((text) => /^##?\(ds,.*<(\d+|\^)>/i.test(text));
-      this.tree.show(calls);
-      this.tree.mark(this.step);
+      tree.show(calls);
+      tree.mark(this.step);
       this.timeline.show(calls, run.end);
       const doubts = await doubtsOf(this.background, this, run);
       if (run !== this.run) return;
       showDoubts(this, doubts);
       if (doubts.length) this.announcer.say("note", `${doubts.length === 1 ? "1 doubt is" : `${grouped(doubts.length)} doubts are`} listed`);
-      calls.prints = await printsOf(this.background, this.tape, calls, run);
-      calls.idles = await idlesOf(this.background, this.tape, calls, run);
+      calls.prints = await printsOf(this.background, tape, calls, run);
+      calls.idles = await idlesOf(this.background, tape, calls, run);
       if (run === this.run) this.timeline.show(calls, run.end);
-      calls.begun = await depthsOf(this.background, this.tape, run, this.isClosed);
+      calls.begun = await depthsOf(this.background, tape, run, isClosed);
       if (run === this.run) this.timeline.show(calls, run.end);
+      run.isGathered = true;
     } catch (fault) {
+      if (!calls && run === this.run && !(fault instanceof Stopped)) tree.lack(wordsOf(fault));
       this.say(fault);
     }
   }
 
-  // Takes a line of input at the step where the cursor is. What was typed later is dropped, if that is wanted.
+  // The lines of input that stay where other input is given at the cursor: at the end all, else those that the program has begun to
+  // read. It is asked first if others came; nothing if these are to stay.
+  async linesBefore(wish) {
+    const { run, step, inputs } = this;
+    if (step === run.end) return inputs;
+    const stay = linesBegun(inputs, this.read - this.program.length);
+    const later = laterSaid(countOfLines(inputs) - countOfLines(stay), this.isClosed, step);
+    const isWanted = !later || await ask(`${later} ${wish}`);
+    return isWanted && run === this.run ? stay : null;
+  }
+
+  // Takes a line of input at the step where the cursor is.
   async feed(bytes) {
-    const later = this.inputs.filter(({ step }) => step >= this.step && step < this.run.end);
-    if (later.length > 0 && this.step < this.run.end) {
-      const lines = later.length === 1 ? "One line" : `${later.length} lines`;
-      const isWanted = await ask(`${lines} of input came after step ${grouped(this.step)}. Take this line in place of that?`);
-      if (!isWanted) return;
-      this.inputs = this.inputs.filter(({ step }) => step < this.step);
-    }
-    this.inputs.push({ step: Math.min(this.step, this.run.end), bytes });
-    await this.perform();
+    const { step } = this;
+    const before = await this.linesBefore("Take this line in place of that?");
+    if (before) await this.performAgain({ inputs: [...before, { step, bytes }], isClosed: false });
   }
 
   async endInput() {
-    this.isClosed = true;
-    await this.perform();
+    const inputs = await this.linesBefore("End the input here, in place of that?");
+    if (inputs) await this.performAgain({ inputs, isClosed: true });
   }
 
   // The program is not what was run.
   changed() {
     [this.isTyped, this.isStale] = [true, true];
-    if (this.run) byId("program-note").textContent = "changed since the run";
+    if (!this.run) return;
+    byId("program-note").textContent = CHANGED;
+    unlinkPlaces();
   }
 
   // Goes to a step that was asked for by itself: so what it does is said, and not what led there.
@@ -264,6 +321,8 @@ class Page {
     const { step } = this;
     const move = last?.move;
     const parts = at.parts;
+    this.read = parts.position;
+    byId("input-form").hidden = !this.takesInput;
     showSentences(step, last, next, this.endKind(), states);
     markDoubts(this);
     showScanned(parts, move, { ...MOST_SHOWN, step });
@@ -271,14 +330,20 @@ class Page {
     this.drawPanels(parts, before?.parts, step);
     showOutput(this.view, this.run.output, parts.printed, move ? lengthOf(move.printed) : 0, step);
     this.tree.mark(step);
-    byId("slider").value = String(step);
-    byId("slider").setAttribute("aria-valuetext", `step ${grouped(step)} of ${grouped(this.run.end)}`);
-    byId("place").value = grouped(step);
+    this.showPlace();
     for (const id of ["start", "call-back", "over-back", "begin", "token-back", "back"]) setOff(byId(id), step === 0);
     for (const id of ["end", "call", "over", "out", "token", "forward"]) setOff(byId(id), step === this.run.end);
     // (this has the browser lay out the page at once)
     if (this.big.isOn) this.big.bring();
     this.light(step);
+  }
+
+  // Shows the number of the step.
+  showPlace() {
+    const place = grouped(this.step);
+    byId("slider").value = String(this.step);
+    byId("slider").setAttribute("aria-valuetext", `step ${place} of ${grouped(this.run.end)}`);
+    byId("place").value = place;
   }
 
   // Shows what the state has beside its text, and marks what the last step changed.
@@ -306,13 +371,14 @@ class Page {
   // Lights the place in the program where what comes next was written. While that is looked for, only the last step is kept in
   // mind.
   async light(step) {
-    this.lightWanted = step;
+    this.lightWanted = { step };
     if (this.isLighting || this.isStale) return;
     this.isLighting = true;
     try {
       for (let at = null; at !== this.lightWanted && this.run;) {
         at = this.lightWanted;
-        this.lit(at, await placeInProgram(this, at).catch(() => null));
+        const place = await placeInProgram(this, at.step).catch(() => null);
+        if (at === this.lightWanted) this.lit(place);
       }
     } finally {
       this.isLighting = false;
@@ -320,8 +386,8 @@ class Page {
   }
 
   // Lights a byte of the program, or none.
-  lit(step, place) {
-    if (step !== this.step || this.isStale || !this.run) return;
+  lit(place) {
+    if (this.isStale || !this.run) return;
     const isInProgram = place !== null && place < this.program.length;
     this.editor.light("lit", isInProgram ? [place] : []);
     const where = isInProgram ? lineAndColumn(this.program, place) : "in the input";
@@ -400,7 +466,7 @@ class Page {
   doubt(way) {
     const steps = [...this.tree.doubts.keys()].sort((a, b) => a - b);
     const found = way > 0 ? steps.find((step) => step > this.step) : steps.findLast((step) => step < this.step);
-    if (found === undefined) this.note(way > 0 ? "no doubt after this step" : "no doubt before this step");
+    if (found === undefined) this.note(way > 0 ? "no new doubt after this step" : "no new doubt before this step");
     else return this.visit(found);
     return undefined;
   }
@@ -454,12 +520,14 @@ class Page {
     }
   }
 
-  // Ends what goes on.
+  // Ends what goes on. (Of a run that stays, the calls are listed all the same.)
   stop() {
     this.turn++;
     this.play(0);
-    this.drop();
-    this.busy(false);
+    if (this.began) this.fail(STOPPED);
+    for (const engine of [this.engine, this.ahead]) if (engine.waiting.size) engine.stop();
+    // (a number that was typed may not be reached)
+    if (this.run) this.showPlace();
     this.note("stopped");
   }
 
@@ -484,7 +552,6 @@ class Page {
       if (isBusy) byId("ending").textContent = "It runs.";
     });
     if (isBusy) this.saying = setTimeout(() => this.announcer.say("ending", "It runs. Escape stops it."), SAID_LATE);
-    else if (byId("ending").textContent === "It runs.") byId("ending").textContent = "The run was stopped.";
   }
 
   note(words) {
@@ -495,11 +562,14 @@ class Page {
   // Says what went wrong. The page goes on.
   say(fault) {
     if (fault instanceof Stopped) return;
-    const words = fault instanceof Refused ? REFUSALS[fault.why] ?? `Memory was refused (${fault.why}).` : fault.message;
-    this.note(words);
-    if (byId("ending").textContent === "It runs.") byId("ending").textContent = words;
+    this.note(wordsOf(fault));
     if (!(fault instanceof Refused) && !(fault instanceof NotUnderstood)) throw fault;
   }
+}
+
+// What is said of a fault.
+function wordsOf(fault) {
+  return fault instanceof Refused ? REFUSALS[fault.why] ?? `Memory was refused (${fault.why}).` : fault.message;
 }
 
 // What trac-walk says beside where it stands after a command, without its own commands.

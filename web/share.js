@@ -18,10 +18,9 @@ function heldByPage(page) {
 async function openHeld(page, held) {
   openProgram(page, "shared.trac", held.program);
   if (held.step === null) return;
-  [page.inputs, page.isClosed, page.isStale] = [held.inputs, held.isClosed, false];
-  page.program = held.program;
-  page.budget = BUDGET * Math.ceil(Math.min(Math.max(held.step, 1), MOST_LINK_STEPS) / BUDGET);
-  await page.perform();
+  const { program, inputs, isClosed } = held;
+  const budget = BUDGET * Math.ceil(Math.min(Math.max(held.step, 1), MOST_LINK_STEPS) / BUDGET);
+  await page.perform({ program, inputs, isClosed, budget, isNew: true });
   if (!page.run) return;
   await page.visit(held.step);
   if (held.step > page.run.end) page.note(`the link is to step ${grouped(held.step)}, and the run ends before it`);

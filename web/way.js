@@ -4,6 +4,8 @@ const DEEDS = { prints: "prints it", sets: "sets it", gives: "gives it", makes: 
 // So often a byte that a call made is followed on by itself, through the same argument of calls of the same name.
 const MOST_HOPS = 200;
 const SHOWN_ROWS = 30;
+// What is said after a place in a program that was changed since the run.
+const OF_OLD = " of the program as it was run";
 
 class Way {
   constructor(page) {
@@ -90,7 +92,7 @@ class Way {
   light(byte) {
     const { editor, program } = this.page;
     const isInput = byte !== null && byte >= program.length;
-    editor.light("read", byte === null || isInput ? [] : [byte]);
+    editor.light("read", byte === null || isInput || this.page.isStale ? [] : [byte]);
     const range = isInput && rangeOfByte(byId("given-text"), byte - program.length);
     if (range && window.Highlight) CSS.highlights.get("followed")?.add(range);
   }
@@ -120,7 +122,7 @@ class Way {
     }
     const isRead = row.deed === "reads" && row.byte < this.page.program.length;
     const deed = make("span", row === this.rows[this.rows.length - 1] ? "deed way-end" : "deed", isRead ? "reads it: " : this.words(row));
-    if (isRead) deed.append(placeButton(this.page, row.byte));
+    if (isRead) deed.append(placeOf(this.page, row.byte));
     line.append(deed);
     return line;
   }
@@ -131,7 +133,7 @@ class Way {
     if (row.deed === "makes" && isLast && callOf(row)?.texts.length > 1) return "makes it: follow one of its arguments";
     if (row.deed !== "reads") return DEEDS[row.deed];
     const { program } = this.page;
-    if (row.byte < program.length) return `reads it: ${lineAndColumn(program, row.byte)}`;
+    if (row.byte < program.length) return `reads it: ${placeSaid(this.page, row.byte)}`;
     return `reads it: byte ${grouped(row.byte - program.length + 1)} of the input after the program`;
   }
 }
@@ -141,9 +143,25 @@ function callOf({ state }) {
   return state && ruleOf(state) === "p" ? state.parts.calls[state.parts.calls.length - 1] : null;
 }
 
-// A place in the program, which leads there: that byte is chosen in the editor.
-function placeButton(page, byte) {
-  return page.button(lineAndColumn(page.program, byte), () => page.editor.choose(byte));
+// What a place in the program is called.
+function placeSaid({ program, isStale }, byte) {
+  return lineAndColumn(program, byte) + (isStale ? OF_OLD : "");
+}
+
+// A place in the program, which leads there: that byte is chosen in the editor, unless that has another text now.
+function placeOf(page, byte) {
+  const words = placeSaid(page, byte);
+  if (page.isStale) return make("span", "", words);
+  const button = page.button(words, () => page.editor.choose(byte));
+  button.className = "place";
+  return button;
+}
+
+// The editor has another text now: no place leads there any more.
+function unlinkPlaces() {
+  keepFocus(() => {
+    for (const button of document.querySelectorAll("button.place")) button.replaceWith(make("span", "", button.textContent + OF_OLD));
+  });
 }
 
 // Lets a text be reached by keys, under a name.

@@ -109,6 +109,10 @@ def check_jumps(page):
     page.go(8)
     shown = page.script("window.shown")
     check(shown[-2:] == ["7", "8"], "after the last jump no other is shown: {}".format(shown))
+    page.script("(() => { const box = document.getElementById('place'); box.value = '900000'; box.dispatchEvent(new Event('change')); "
+                "document.getElementById('stop').click(); })()")
+    shown = page.script("['place', 'slider'].map((id) => document.getElementById(id).value).join()")
+    check(shown == "8,8", "where it stands after a jump that is stopped: {}".format(shown))
 
 
 def check_changes(page):

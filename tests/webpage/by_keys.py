@@ -251,6 +251,8 @@ def check_input(page):
     page.press("Escape")
     page.until("!document.getElementById('question').open && document.activeElement.id === 'input'", "Escape is no, and the focus is back")
     page.press("Escape")
+    page.press("End")
+    page.at(page.script("document.getElementById('slider').max"), "End")
     focus(page, "end-input")
     page.press("Enter")
     page.until("document.getElementById('ending').textContent.includes('the input has ended')", "the input ends")

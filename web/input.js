@@ -1,0 +1,34 @@
+// The input of a run: after the program stand lines, each with the step where the cursor was when it was given.
+
+// All input: the program, and what was given.
+function tapeOf({ program, inputs }) {
+  return joined([program, ...inputs.map(({ bytes }) => bytes)]);
+}
+
+// The lines of which something is read, where so many bytes of all lines are.
+function linesBegun(inputs, read) {
+  const begun = [];
+  let from = 0;
+  for (const { step, bytes } of inputs) {
+    if (from >= read) break;
+    // (what a link or the course gives at once may be several lines)
+    const end = bytes.indexOf(10, read - from - 1);
+    begun.push({ step, bytes: end < 0 ? bytes : bytes.subarray(0, end + 1) });
+    from += bytes.length;
+  }
+  return begun;
+}
+
+// How many lines have something in them.
+function countOfLines(inputs) {
+  const texts = inputs.map(({ bytes }) => new TextDecoder("latin1").decode(bytes).split("\n"));
+  return texts.reduce((sum, lines) => sum + lines.filter((line) => line !== "").length, 0);
+}
+
+// What came after a step: so many lines, and perhaps the end of input. Nothing if neither did.
+function laterSaid(lines, isClosed, step) {
+  const parts = lines > 0 ? [lines === 1 ? "one line of input" : `${grouped(lines)} lines of input`] : [];
+  if (isClosed) parts.push("the end of input");
+  const said = parts.join(" and ");
+  return said && `${said[0].toUpperCase()}${said.slice(1)} came after step ${grouped(step)}.`;
+}
