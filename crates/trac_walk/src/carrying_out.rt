@@ -80,11 +80,7 @@ fn to_start<A: Allocator + Copy>(walker: &mut Walker<A>) -> Option<Stop> {
 
 // Forward to a goal, after so many steps on which it was not met. Where it is not met before a step is refused, or by
 // the steps of a search, the walker stays as it was.
-fn until<A: Allocator + Copy>(
-    walker: &mut Walker<A>,
-    aim: Aim<'_>,
-    searched: u64,
-) -> Option<Stop>
+fn until<A: Allocator + Copy>(walker: &mut Walker<A>, aim: Aim<'_>, searched: u64) -> Option<Stop>
     ensures { IsAsToldOf result walker.old.window walker.new.window }
 {
     let start = walker.step();
