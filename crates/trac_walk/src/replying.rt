@@ -33,7 +33,7 @@ pub struct Memo<'p, A: Allocator + Copy> {
     places: Places<A>,
     // whether an empty line follows on from where a byte of the output came from
     follows_on: bool,
-    // after so many steps the last move goes on if it is asked for again: a search whose steps were spent there
+    // after so many steps the last move goes on, if its line comes again: a search whose steps were spent there
     searched: u64,
 }
 

@@ -78,7 +78,7 @@ fn walk_by(rt: &HostRuntime, words: &[&str]) -> Result<ExitCode, AllocError> {
     })
 }
 
-// Shows a text that was asked for.
+// Shows help, or the version.
 fn shown(rt: &HostRuntime, text: &str) -> ExitCode {
     match print!(rt; "{text}") {
         Ok(()) => ExitCode::SUCCESS,
