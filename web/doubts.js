@@ -12,8 +12,17 @@ function doubtsSaid(bytes, tape) {
   for (const row of new TextDecoder("latin1").decode(bytes).split("\n")) {
     const found = /^:(\d+):(\d+): (.+) \(step (\d+)\)$/.exec(row);
     if (found) doubts.push({ step: Number(found[4]), byte: byteAt(tape, Number(found[1]), Number(found[2])), words: found[3] });
+    // (a note goes on with the doubt before it)
+    const note = /^:(\d+):(\d+): note: (?:(.+) here|this (.) (.+))$/.exec(row);
+    if (note && doubts.length) doubts.at(-1).words += `; ${noteSaid(note)}`;
   }
   return doubts;
+}
+
+// What a note adds to the words of a doubt: which parenthesis may be wrong, and where.
+function noteSaid([, line, column, missing, surplus, why]) {
+  const where = `line ${line}, column ${column}`;
+  return missing ? `${missing} at ${where}` : `the ${surplus} at ${where} ${why}`;
 }
 
 // The doubts of a run, as trac-lint finds them.

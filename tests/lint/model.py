@@ -6,6 +6,8 @@ the idle program that of the text which it reads. An item of a form is such a by
 """
 import re
 
+import advice
+
 IDLE = b"#(ps,#(rs))"
 DELETED = b"\r\n\t"
 
@@ -85,24 +87,23 @@ class Machine:
         self.tape, self.position, self.meta = tape, 0, ord("'")
         self.least, self.most = -(1 << bits - 1), (1 << bits - 1) - 1
         self.forms, self.blocks = {}, []
-        self.steps, self.doubts, self.told, self.text = 0, [], set(), 0
+        self.steps, self.doubts, self.told, self.advised = 0, [], set(), None
         self.load()
 
     # ---- the input
 
     def load(self):
         """Loads the idle program, whose bytes stand where the text begins that it reads."""
-        self.active, self.frames = placed(IDLE, self.begin())[::-1], []
+        self.active, self.frames = placed(IDLE, self.begin(self.position))[::-1], []
 
-    def begin(self):
-        """Where a text begins that is read next: the first byte that is no blank, tab or line end."""
-        start = self.position
+    def begin(self, first):
+        """Where a text begins that is read from this byte on: the first one that is no blank, tab or line end."""
+        start = first
         while start < len(self.tape) and self.tape[start] in b" \t\r\n":
             start += 1
-        return start if start < len(self.tape) else self.position
+        return start if start < len(self.tape) else first
 
     def read_text(self):
-        self.text = self.begin()
         end = self.tape.find(bytes([self.meta]), self.position)
         if end < 0:
             end = len(self.tape)
@@ -146,16 +147,20 @@ class Machine:
         elif self.front(b"("):
             self.protect()
         elif self.front(b"##("):
-            del self.active[-3:]
-            self.frames.append((False, [[]]))
+            self.begin_call(3)
         elif self.front(b"#("):
-            del self.active[-2:]
-            self.frames.append((True, [[]]))
+            self.begin_call(2)
         elif self.front(b")") and self.frames:
             self.call()
         else:
             self.scan_byte(self.active[-1])
             self.active.pop()
+
+    def begin_call(self, length):
+        """Begins a function by so many bytes, and notes where the first of them stands."""
+        place = self.active[-1][1]
+        del self.active[-length:]
+        self.frames.append((length == 2, [[]], place))
 
     def scan_byte(self, byte):
         value, place = byte
@@ -182,8 +187,8 @@ class Machine:
             del self.active[end:]
 
     def call(self):
-        is_active, arguments = self.frames[-1]
-        call = Call(self, arguments)
+        is_active, arguments, begun = self.frames[-1]
+        call = Call(self, arguments, begun)
         self.judge(call)
         value, is_forced = call.perform()
         self.frames.pop()
@@ -200,11 +205,26 @@ class Machine:
         if (kind, place) not in self.told:
             self.told.add((kind, place))
             self.doubts.append((place, words, self.steps))
+            if kind in ("opening", "closing") or kind[0] == "unended":
+                self.advise(place)
+
+    def advise(self, place):
+        """Notes which parenthesis is probably wrong in the text of a doubt, once for each text."""
+        start = place
+        if any(byte in b"()" for byte in self.tape[max(place - 1, 0) : place + 1]):
+            start = self.begin(self.tape[: max(self.position - 1, 0)].rfind(bytes([self.meta])) + 1)
+        if start == self.advised:
+            return
+        self.advised = start
+        text = self.tape[start : self.position].split(bytes([self.meta]))[0]
+        given = advice.advice(text)
+        if given:
+            self.doubts.append((start + given[1], b"note: " + given[0], None))
 
     def doubt_unended(self):
         """The idle program is loaded while calls are begun."""
-        count, name = len(self.frames), self.frames[0][1][0]
-        place = name[0][1] if name else self.text
+        count, (_, (name, *_), begun) = len(self.frames), self.frames[0]
+        place = name[0][1] if name else begun
         self.doubt(("unended", count), place, unended(count))
 
     def judge(self, call):
@@ -243,8 +263,8 @@ def unended(count):
 class Call:
     """A call that is performed next, with its arguments, the name being number 0."""
 
-    def __init__(self, machine, arguments):
-        self.machine, self.arguments = machine, arguments
+    def __init__(self, machine, arguments, begun):
+        self.machine, self.arguments, self.begun = machine, arguments, begun
         self.name = self.text(0).decode("latin-1").lower()
 
     def argument(self, k):
@@ -254,10 +274,11 @@ class Call:
         return bytes_of(self.argument(k))
 
     def place(self, k):
-        """Where an argument begins, or where the name does; of a call without a name where it ends."""
-        for text in (self.argument(k), self.argument(0), self.machine.active[-1:]):
+        """Where an argument begins, or where the name does; of a call without a name where that begins."""
+        for text in (self.argument(k), self.argument(0)):
             if text:
                 return text[0][1]
+        return self.begun
 
     def made(self, text):
         return placed(text, self.place(0))
@@ -495,5 +516,6 @@ def spots(name, program, input_name="", more=b"", steps=10_000_000, bits=128):
             file, text, place = input_name, more, place - len(program)
         line = 1 + text.count(b"\n", 0, place)
         column = place - text.rfind(b"\n", 0, place)
-        lines.append(b"%s:%d:%d: %s (step %d)\n" % (file.encode(), line, column, words, step))
+        end = b"" if step is None else b" (step %d)" % step
+        lines.append(b"%s:%d:%d: %s%s\n" % (file.encode(), line, column, words, end))
     return lines

@@ -216,7 +216,7 @@ function searchStatus(status, said) {
 // The doubts of all programs that are here: the lines of trac-lint, for the program and what it reads in one file, without its name.
 function doubts() {
     const top = path.join(programs, '..', '..')
-    for (const folder of ['tests/lint', 'tests/lint/mistakes', 'tests/programs', 'examples']) {
+    for (const folder of ['tests/lint', 'tests/lint/mistakes', 'tests/lint/parentheses', 'tests/programs', 'examples']) {
         const names = fs.readdirSync(path.join(top, folder)).filter((it) => it.endsWith('.trac'))
         holds(`${folder} has programs`, names.length > 0)
         for (const name of names) {
@@ -228,7 +228,7 @@ function doubts() {
             const lines = linted.stdout.split('\n').map((line) => (line.startsWith(`${file}:`) ? line.slice(file.length) : line))
             const answer = engine.doubts(tape, 10_000_000, Number(width))
             same(`doubts of ${folder}/${name}`, answer, searchStatus(linted.status, linted.stderr), Buffer.from(lines.join('\n'), 'latin1'))
-            const told = lines.filter((line) => line.startsWith(':')).length
+            const told = lines.filter((line) => line.startsWith(':') && !/^:\d+:\d+: note: /.test(line)).length
             holds(`doubts of ${folder}/${name}: ${answer.others[0]} places, and not ${told}`, answer.others[0] === told)
         }
     }

@@ -2,3 +2,5 @@
 pub mod Passed
 -- What is written of a report.
 pub mod Written
+-- How many `(` of a text have no match.
+pub mod Depth

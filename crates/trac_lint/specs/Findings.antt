@@ -17,6 +17,10 @@ abbrev pub line_text : List ℕ → List ℕ → ℕ → List ℕ
 line_text place words step =
     place ++ (codes ": " ++ (words ++ (codes " (step " ++ (decimal step ++ (codes ")" ++ feed)))))
 
+-- a line that goes on with that of a doubt: a place, and what may be wrong there
+abbrev pub note_text : List ℕ → List ℕ → List ℕ
+note_text place words = place ++ (codes ": note: " ++ (words ++ feed))
+
 -- so many places are told by a text: no more than are, and none just where it is empty
 pub record IsReport (told : ℕ) (text : List ℕ) : Type 0 where
   pub most : told ≤ PLACE_LIMIT

@@ -4,11 +4,14 @@
 
 mod linting;
 mod memory;
+mod origins;
+mod parentheses;
 mod report;
-mod source;
+mod scout;
 mod sources;
+mod track;
+mod ways;
 
-pub use linting::{Settings, lint, said_of};
+pub use linting::{Settings, lint};
 pub use report::{Found, Halt, PLACE_LIMIT};
-pub use source::Origins;
 pub use sources::Sources;

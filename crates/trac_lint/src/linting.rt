@@ -1,24 +1,31 @@
 //! The doubts of a program that is run to its end.
-ghost use Rattle.std.specs.Prelude.{◌≤◌};
+ghost use Rattle.std.specs.Prelude.{◌≡◌, ◌≤◌, ◌<◌};
 ghost use Rattle.trac_lint.specs.Findings.{IsWritten};
 ghost use Rattle.trac_lint.specs.declared.report.TheConstants.{PLACE_LIMIT};
 
 use crate::memory::{Meeting, Memory, kind_of, number_of};
+use crate::origins::Origins;
+use crate::parentheses::advice_on;
 use crate::report::{Found, Halt, Report, halt_of, write_found};
-use crate::source::{Origins, read_number};
-use crate::sources::Sources;
+use crate::scout::Run;
+use crate::sources::{Sources, read_number};
 use std::alloc::{AllocError, Allocator};
 use std::io::Write;
-use trac_rules::limit::JOURNAL_LIMIT;
 use trac_rules::refusal::Refusal;
 use trac_rules::width::Width;
-use trac_screen::{ScreenLine, doubt_into};
+use trac_screen::{Glance, ScreenLine, doubt_into};
 use trac_session::Doubt;
 use trac_streams::Ending;
 use trac_walk::{Aim, Walker};
 
 // What is said beside a doubt of which no place is known, after its words.
 const UNPLACED: &[u8] = b"; its place is not known: this text was read last";
+
+// The call that reads a text.
+const READ: &[&[u8]] = &[b"rs"];
+
+// So many of these are gone back over at most for the one that read the text which is scanned.
+const READ_LIMIT: u32 = 1_000;
 
 /// How doubts are looked for.
 #[derive(Clone, Copy, Debug, PartialEq, Eq)]
@@ -35,9 +42,11 @@ pub struct Settings {
 #[derive(Drop)]
 struct Linter<'s, A: Allocator + Copy> {
     alloc: A,
-    origins: Origins<'s>,
+    origins: Origins<'s, A>,
     walker: Walker<A>,
     memory: Memory<A>,
+    // the first byte of the text of which it was said last which parenthesis is wrong
+    advised: Option<u64>,
     // at how many places there were doubts that are not told since as many are told as are
     more: u64,
 }
@@ -71,14 +80,13 @@ fn look<A: Allocator + Copy>(
     settings: Settings,
     report: &mut Report<A>,
 ) -> Halt {
-    match Walker::new(
-        alloc,
-        sources.tape,
-        JOURNAL_LIMIT,
-        settings.keep,
-        settings.decimals,
-    ) {
-        Ok(walker) => look_on(alloc, sources, walker, settings.steps, report),
+    let run = Run {
+        sources,
+        keep: settings.keep,
+        width: settings.decimals,
+    };
+    match run.walker(alloc) {
+        Ok(walker) => look_on(alloc, run, walker, settings.steps, report),
         Err(Ending::Limit) => Halt::TooLong,
         Err(_) => Halt::Memory,
     }
@@ -87,17 +95,17 @@ fn look<A: Allocator + Copy>(
 // The same from where a walker stands.
 fn look_on<A: Allocator + Copy>(
     alloc: A,
-    sources: Sources<'_>,
-    mut walker: Walker<A>,
+    run: Run<'_>,
+    walker: Walker<A>,
     steps: u64,
     report: &mut Report<A>,
 ) -> Halt {
-    walker.end_input();
     let mut linter = Linter {
         alloc,
-        origins: Origins::new(sources),
+        origins: Origins::new(alloc, run),
         walker,
         memory: Memory::new(alloc),
+        advised: None,
         more: 0,
     };
     let halt = linter.go(steps, report);
@@ -133,10 +141,13 @@ impl<'s, A: Allocator + Copy> Linter<'s, A> {
             let words = said_of(self.alloc, &self.walker, *doubt)?;
             let meeting = self.meeting(*doubt, words.bytes());
             let is_new = self.memory.is_new(meeting)?;
-            if report.is_full() && self.origins.is_spent() {
-                // no place is found any more: each meeting counts for one
-                self.more = self.more.saturating_add(u64::from(is_new));
-            } else if is_new || self.origins.is_free() || !self.memory.is_tired() {
+            if !is_new && !self.origins.is_free() {
+                continue;
+            }
+            if report.is_full() && !self.origins.is_counting() {
+                // its place is not looked for any more: each meeting counts for one
+                self.more = self.more.saturating_add(1);
+            } else {
                 self.tell(*doubt, words, report)?;
             }
         }
@@ -146,17 +157,12 @@ impl<'s, A: Allocator + Copy> Linter<'s, A> {
     // Where scanning stands, at a doubt of these words.
     fn meeting(&self, doubt: Doubt, words: &[u8]) -> Meeting {
         let glance = self.walker.glance();
-        let words = if self.origins.minds_words() {
-            number_of(words)
-        } else {
-            0
-        };
         Meeting {
             read: read_number(&self.walker),
             depth: glance.depth,
             rest: glance.rest,
             kind: kind_of(doubt),
-            words,
+            words: number_of(words),
         }
     }
 
@@ -189,7 +195,55 @@ impl<'s, A: Allocator + Copy> Linter<'s, A> {
         };
         let spot = self.origins.sources.spot(number);
         report.tell(self.alloc, spot, words.bytes(), self.walker.step())?;
+        if is_of_parenthesis(doubt) {
+            self.advise(report)?;
+        }
         Ok(())
+    }
+
+    // Says which parenthesis is probably wrong in the text that the idle program read last, once for each text.
+    fn advise(&mut self, report: &mut Report<A>) -> Result<(), Refusal>
+        requires { 0 < report.old.told }
+        ensures { report.new.told ≡ report.old.told }
+    {
+        let Some((start, text)) = self.text_scanned()? else {
+            return Ok(());
+        };
+        if self.advised == Some(start) {
+            return Ok(());
+        }
+        self.advised = Some(start);
+        if let Some(advice) = advice_on(self.alloc, text)? {
+            let place = start.saturating_add(advice.place as u64);
+            let spot = self.origins.sources.spot(place);
+            report.note(self.alloc, spot, advice.fault.words())?;
+        }
+        Ok(())
+    }
+
+    // The text that the idle program read last, and the number of its first byte; none if the steps since then are not
+    // kept. It goes back, and forward again.
+    fn text_scanned(&mut self) -> Result<Option<(u64, &'s [u8])>, Refusal> {
+        let end = self.walker.step();
+        let mut text = None;
+        for _ in 0..READ_LIMIT {
+            if self.walker.return_to(Aim::Call(READ)).is_some() {
+                break;
+            }
+            if reads_text(self.walker.glance()) {
+                let meta = self.walker.sight().meta;
+                text = Some(
+                    self.origins
+                        .sources
+                        .text_read(read_number(&self.walker), meta),
+                );
+                break;
+            }
+        }
+        match self.walker.forward(end.saturating_sub(self.walker.step())) {
+            Some(refusal) => Err(refusal),
+            None => Ok(text),
+        }
     }
 
     // Counts a doubt that is not told, of the byte of this number, where one is known.
@@ -210,8 +264,21 @@ impl<'s, A: Allocator + Copy> Linter<'s, A> {
     }
 }
 
-/// What is said of a doubt of the next step. The error is that memory was refused.
-pub fn said_of<A: Allocator + Copy>(
+// Whether the `rs` that comes next is that of the idle program, which reads a text to be scanned.
+fn reads_text(glance: Glance) -> bool {
+    glance.depth == 2 && glance.rest == 2
+}
+
+// Whether a doubt comes of a parenthesis that is missing or one too many.
+fn is_of_parenthesis(doubt: Doubt) -> bool {
+    matches!(
+        doubt,
+        Doubt::Unended(_) | Doubt::Unclosed | Doubt::EndsNothing
+    )
+}
+
+// What is said of a doubt of the next step. The error is that memory was refused.
+fn said_of<A: Allocator + Copy>(
     alloc: A,
     walker: &Walker<A>,
     doubt: Doubt,

@@ -11,10 +11,6 @@ const MEETING_LIMIT: usize = 1_000_000;
 // So many places are told apart; later ones are taken for some that were before.
 const KEPT_LIMIT: usize = 1_000_000;
 
-// So many doubts in a row, while the same text is read, may be followed in vain: they were told, or
-// have no place that is known.
-const REPEAT_LIMIT: u32 = 64;
-
 // So many doubts of a kind are told without a place: more of them would hide the others.
 const UNPLACED_LIMIT: usize = 10;
 
@@ -26,7 +22,7 @@ pub(crate) struct Meeting {
     pub(crate) depth: usize,
     pub(crate) rest: usize,
     pub(crate) kind: Kind,
-    // a number of its words; 0 where these tell nothing apart
+    // a number of its words
     pub(crate) words: u64,
 }
 
@@ -55,9 +51,6 @@ pub(crate) struct Memory<A: Allocator + Copy> {
     told: Vec<Vec<u8, A>, A>,
     // the kinds of those that were told without a place
     unplaced: Vec<Kind, A>,
-    // how many doubts in a row were followed in vain, and how much was read then
-    repeats: u32,
-    read: u64,
 }
 
 impl<A: Allocator + Copy> Memory<A> {
@@ -69,22 +62,11 @@ impl<A: Allocator + Copy> Memory<A> {
             places: BTreeSet::new(alloc),
             told: Vec::new(alloc),
             unplaced: Vec::new(alloc),
-            repeats: 0,
-            read: 0,
         }
-    }
-
-    /// Whether so many doubts in a row were followed in vain that only those of new meetings are followed.
-    pub(crate) fn is_tired(&self) -> bool {
-        self.repeats >= REPEAT_LIMIT
     }
 
     /// Whether no doubt was met so before; from now on it was. The error is that memory was refused.
     pub(crate) fn is_new(&mut self, meeting: Meeting) -> Result<bool, AllocError> {
-        if self.read != meeting.read {
-            self.read = meeting.read;
-            self.repeats = 0;
-        }
         if self.met.len() >= MEETING_LIMIT {
             return Ok(false);
         }
@@ -95,18 +77,14 @@ impl<A: Allocator + Copy> Memory<A> {
     }
 
     /// Whether this doubt of the byte of this number is kept, or, where none is known, it was told in these words or
-    /// enough of its kind were told so. Where no more places can be kept, each is taken for one that is. If so, or
-    /// where none is known, it was followed in vain.
-    pub(crate) fn is_kept(&mut self, doubt: Doubt, number: Option<u64>, words: &[u8]) -> bool {
-        let is_kept = match number {
+    /// enough of its kind were told so. Where no more places can be kept, each is taken for one that is.
+    pub(crate) fn is_kept(&self, doubt: Doubt, number: Option<u64>, words: &[u8]) -> bool {
+        match number {
             Some(number) => {
                 self.places.len() >= KEPT_LIMIT || self.places.contains(&place_of(doubt, number))
             }
             None => self.is_said(kind_of(doubt), words),
-        };
-        let in_vain = is_kept || number.is_none();
-        self.repeats = self.repeats.saturating_add(u32::from(in_vain));
-        is_kept
+        }
     }
 
     // Whether a doubt without a place was told in these words, or enough of its kind were told.
@@ -120,7 +98,6 @@ impl<A: Allocator + Copy> Memory<A> {
 
     /// Keeps this doubt of the byte of this number. The error is that memory was refused, here and below.
     pub(crate) fn keep(&mut self, doubt: Doubt, number: u64) -> Result<(), AllocError> {
-        self.repeats = 0;
         match self.places.insert(place_of(doubt, number)) {
             Ok(_) => Ok(()),
             Err(_) => Err(AllocError),

@@ -1,6 +1,7 @@
 //! What is found in a program, and how that ends.
 ghost use Rattle.std.specs.Prelude.{◌≡◌, ◌≢◌, ◌<◌, ◌≤◌, ◌+◌, ◌++◌, nat_le, IfOk, OnOk};
-ghost use Rattle.trac_lint.specs.Findings.{IsReport, IsWritten, Lines, line_text, spot_text, status_of};
+ghost use Rattle.trac_lint.specs.Findings.{IsReport, IsWritten, Lines, line_text, note_text, spot_text};
+ghost use Rattle.trac_lint.specs.Findings.{status_of};
 
 use crate::sources::Spot;
 use std::alloc::{AllocError, Allocator};
@@ -117,6 +118,20 @@ impl<A: Allocator + Copy> Report<A> {
         let line = line_of(alloc, spot, words, step)?;
         self.text.extend_from_slice(line.as_slice())?;
         self.told += 1;
+        Ok(())
+    }
+
+    /// Adds a line to that of a doubt: that this may be wrong here. The error is that memory was refused.
+    pub(crate) fn note(&mut self, alloc: A, spot: Spot<'_>, words: &[u8]) -> Result<(), AllocError>
+        requires { 0 < self.old.told }
+        ensures told { self.new.told ≡ self.old.told }
+        ensures line { OnOk result (self.new.text ≡ self.old.text ++ note_text (spot_text spot.entry) words.now) }
+    {
+        let mut line = place_of(alloc, spot)?;
+        line.extend_from_slice(b": note: ")?;
+        line.extend_from_slice(words)?;
+        line.extend_from_slice(b"\n")?;
+        self.text.extend_from_slice(line.as_slice())?;
         Ok(())
     }
 

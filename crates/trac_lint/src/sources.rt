@@ -2,8 +2,10 @@
 ghost use Rattle.std.specs.Prelude.{◌≡◌, ◌≤◌, ◌<◌, length, take};
 ghost use Rattle.trac_lint.specs.Spots.{IsSpot};
 
+use std::alloc::Allocator;
 use trac_rules::byte::LINE_FEED;
 use trac_rules::limit::TAPE_LIMIT;
+use trac_walk::Walker;
 
 /// A program, and what it reads after that.
 #[derive(Clone, Copy)]
@@ -51,6 +53,17 @@ impl<'a> Sources<'a> {
         number as u64
     }
 
+    /// The text that is read from this byte on up to this meta character, which it is without, and the number of its
+    /// first byte that is no blank.
+    pub(crate) fn text_read(&self, number: u64, meta: u8) -> (u64, &'a [u8]) {
+        let start = self.text_from(number);
+        let text = self.tape.split_at(self.tape.len().min(start as usize)).1;
+        match text.iter().position(|byte| *byte == meta) {
+            Some(end) => (start, text.split_at(end).0),
+            None => (start, text),
+        }
+    }
+
     /// The number of the first byte of the text that ends before this one, with its meta character.
     pub(crate) fn text_before(&self, number: u64, meta: u8) -> u64 {
         let number = self.tape.len().min(number as usize);
@@ -63,6 +76,12 @@ impl<'a> Sources<'a> {
         }
         self.text_from(start)
     }
+}
+
+/// How many bytes of all files a walker has read.
+pub(crate) fn read_number<A: Allocator + Copy>(walker: &Walker<A>) -> u64 {
+    let position = walker.sight().position;
+    walker.input_number(position)
 }
 
 // Where the byte stands before which a file has these.

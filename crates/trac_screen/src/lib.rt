@@ -31,6 +31,6 @@ pub use piece::piece_into;
 pub use printing::lacks_output_room;
 pub use screen::{Reach, screen_into};
 pub use screen_line::ScreenLine;
-pub use sight::{Sight, argument_count, reads_text, sight_of};
+pub use sight::{Sight, argument_count, is_nameless, reads_text, sight_of};
 pub use standing_line::standing_into;
 pub use way::{Origin, Treatment, left_out_into, origin_into, step_line, treatment_into};

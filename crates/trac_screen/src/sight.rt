@@ -62,6 +62,22 @@ fn count_in<E: TwoEnds<u8, A>, M: TwoEnds<Mark, A>, A: Allocator + Copy>(
     }
 }
 
+/// Whether the begun function of this number, the outermost being number 0, has an empty name.
+pub fn is_nameless<A: Allocator + Copy>(machine: &Machine<A>, number: usize) -> bool {
+    is_nameless_in(machine, number)
+}
+
+// The same of a machine of any representation.
+fn is_nameless_in<E: TwoEnds<u8, A>, M: TwoEnds<Mark, A>, A: Allocator + Copy>(
+    machine: &Core<E, M, A>,
+    number: usize,
+) -> bool {
+    match machine.frame(number) {
+        Some((_, arguments)) => arguments.get(0).is_empty(),
+        None => false,
+    }
+}
+
 // The text that is gathered at this depth.
 fn text_at<E: TwoEnds<u8, A>, M: TwoEnds<Mark, A>, A: Allocator + Copy>(
     machine: &Core<E, M, A>,

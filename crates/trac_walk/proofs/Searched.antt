@@ -7,7 +7,7 @@ use Rattle.trac_rules.specs.Session.{PlainSession, Goal}
 use Rattle.trac_rules.specs.Weights.{weights_from}
 use Rattle.trac_walk.specs.declared.searching.Search.{Search}
 use Rattle.trac_walk.specs.declared.searching.Search.TheVariants.{Met, Unmet}
-use Rattle.trac_walk.specs.Searches.{HasWalked, IsAnswered, IsAsNear}
+use Rattle.trac_walk.specs.Searches.{HasWalked, IsAnswered, IsAsNear, near_weight}
 
 -- ---- what is answered
 
@@ -39,8 +39,9 @@ pub near_far : {weight : ℕ} {goal : Goal} {most k : ℕ} {old new : PlainSessi
 near_far {weight} {goal} {most} {k} {old} {new} {refusal} found last full near =
     (near.0, near.1, near.2, near.3, lacking near.0 k near.1 near.2 new found last (subst (λ r. IsAnswered near.0 near.1 near.2 (Unmet r k) new) full near.4))
 
--- where the records may weigh as much
-pub near_at : {weight w : ℕ} {goal : Goal} {most : ℕ} {old new : PlainSession} {found : Search} → w ≡ weight →
-    (weights_from old.earlier ≤ w → IsAsNear w goal most old found new) → weights_from old.earlier ≤ weight → IsAsNear weight goal most old found new
-near_at {weight} {w} {goal} {most} {old} {new} {found} same near light =
+-- of records that weigh no more than they may in all
+pub near_at : {most_weight w : ℕ} {goal : Goal} {most : ℕ} {old new : PlainSession} {found : Search} → w ≡ near_weight most_weight old →
+    (weights_from old.earlier ≤ w → IsAsNear w goal most old found new) → weights_from old.earlier ≤ most_weight →
+    IsAsNear (near_weight most_weight old) goal most old found new
+near_at {most_weight} {w} {goal} {most} {old} {new} {found} same near light =
     subst (λ n. IsAsNear n goal most old found new) same (near (omega (arith, light, same)))

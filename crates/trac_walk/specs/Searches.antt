@@ -1,11 +1,13 @@
 -- Searches forward that stay where they began unless they meet something.
-use Rattle.std.specs.Prelude.{◌≡◌, ◌⊎◌, ℕ, ◌<◌, Option, None, Some}
+use Rattle.std.specs.Prelude.{◌≡◌, ◌⊎◌, ℕ, ◌+◌, ◌<◌, min, Option, None, Some}
 use Rattle.trac_rules.specs.declared.refusal.Refusal.{Refusal}
 use Rattle.trac_rules.specs.declared.refusal.Refusal.TheVariants.{JournalFull, NotMet, TooLong}
 use Rattle.trac_rules.specs.Session.{PlainSession, Goal}
 use Rattle.trac_session.specs.Within.{IsSearchWithin}
 use Rattle.trac_screen.specs.declared.notes.Stop.{Stop}
 use Rattle.trac_screen.specs.declared.notes.Stop.TheVariants as stops
+use Rattle.trac_rules.specs.Weights.{weights_from}
+use Rattle.trac_walk.specs.declared.searching.TheConstants.{NEAR_WEIGHT}
 use Rattle.trac_walk.specs.declared.searching.Search.{Search}
 use Rattle.trac_walk.specs.declared.searching.Search.TheVariants.{Met, Unmet}
 
@@ -22,6 +24,10 @@ IsAsToldOf (Some (stops.SpentUpTo step)) old new = new ≡ old
 IsAsToldOf other old new = Unit {0}
 
 -- ---- within the room that there is
+
+-- how much the records may weigh where the session is not run anew, of which they may weigh so much in all
+abbrev pub near_weight : ℕ → PlainSession → ℕ
+near_weight most old = min most (weights_from old.earlier + NEAR_WEIGHT)
 
 -- why a search of at most so many steps ended, after so many: as it says, but it may lack room where it has steps left,
 -- and where the output is too long

@@ -89,7 +89,10 @@ fn until<A: Allocator + Copy>(walker: &mut Walker<A>, aim: Aim<'_>, searched: u6
         done => walker.search_far(aim, done, done.saturating_add(SEARCH_LIMIT)),
     };
     match found {
-        Search::Met => None,
+        Search::Met => {
+            walker.forget_surplus();
+            None
+        }
         Search::Unmet(Refusal::NotMet, done) => Some(Stop::SpentUpTo(start.saturating_add(done))),
         Search::Unmet(refusal, 0) => Some(Stop::Unmet(refusal)),
         Search::Unmet(refusal, done) => {

@@ -1,11 +1,14 @@
 //! The doubts of the next step, with their places.
 
+use crate::aim::Aim;
 use crate::calls_told::LINE_COUNT;
 use crate::origins::{Unsaid, is_idle, origin_of, read_as};
 use crate::walker::Walker;
 use std::alloc::{AllocError, Allocator};
 use trac_follow::{End, Place};
-use trac_screen::{Origin, ScreenLine, argument_doubted, doubt_into, left_out_into, origin_into};
+use trac_screen::{
+    Origin, ScreenLine, argument_doubted, doubt_into, is_nameless, left_out_into, origin_into,
+};
 use trac_session::Doubt;
 
 /// Puts a line for each doubt of the next step at the end of a text: what is said of it, and the place from which it
@@ -50,7 +53,8 @@ fn place_into<A: Allocator + Copy>(
     line: &mut ScreenLine<A>,
 ) -> Result<(), AllocError> {
     let end = walker.step();
-    let found = walker.trace(place_of(walker, doubt), &mut Unsaid).end;
+    let place = place_of(walker, doubt);
+    let found = walker.trace(place, &mut Unsaid).end;
     let source = walker.step();
     let origin = match found {
         End::Unkept | End::Untold => return Err(AllocError),
@@ -69,18 +73,27 @@ fn place_into<A: Allocator + Copy>(
     }
 }
 
-/// The byte that a doubt of the next step is about: the first one of an argument or of a name, or
-/// the one that comes next.
-pub fn place_of<'p, A: Allocator + Copy>(walker: &Walker<A>, doubt: Doubt) -> Place<'p> {
-    let function = match doubt {
-        Doubt::Unended(_) => 0,
-        _ => walker.glance().depth.saturating_sub(1),
-    };
-    match (doubt, argument_doubted(&walker.sight(), doubt)) {
-        (Doubt::Unended(_), _) => first_byte(function, 0),
-        (_, Some(argument)) => first_byte(function, argument),
-        (_, None) => Place::Active(0),
+/// The byte that a doubt of the next step is about: the first one of an argument or of a name, or the one that comes
+/// next. Of a call without a name it is the `#` that began it: the walker goes back to before that, if it keeps the steps
+/// since then, and else it is the byte that comes next.
+pub fn place_of<'p, A: Allocator + Copy>(walker: &mut Walker<A>, doubt: Doubt) -> Place<'p> {
+    let depth = walker.glance().depth;
+    match doubt {
+        Doubt::Unclosed | Doubt::EndsNothing => Place::Active(0),
+        Doubt::Unended(_) if is_nameless(walker.machine(), 0) => beginning_of(walker, 1),
+        Doubt::Unended(_) => first_byte(0, 0),
+        _ => match argument_doubted(&walker.sight(), doubt) {
+            Some(argument) => first_byte(depth.saturating_sub(1), argument),
+            None => beginning_of(walker, depth),
+        },
     }
+}
+
+// The place of the byte that began the function of this number, the outermost being number 1, to which the walker goes
+// back.
+fn beginning_of<'p, A: Allocator + Copy>(walker: &mut Walker<A>, number: usize) -> Place<'p> {
+    walker.return_to(Aim::Shallower(number));
+    Place::Active(0)
 }
 
 fn first_byte<'p>(function: usize, argument: usize) -> Place<'p> {

@@ -3,7 +3,7 @@ ghost use Rattle.std.specs.Prelude.{◌≡◌, ◌≤◌, None, Some, true};
 ghost use Rattle.trac_rules.specs.Session.{Step, repeated};
 ghost use Rattle.trac_rules.specs.Weights.{weights_from};
 ghost use Rattle.trac_walk.specs.Aims.{goal_of_aim};
-ghost use Rattle.trac_walk.specs.Searches.{HasStayed, HasWalked, IsAsNear, IsReason};
+ghost use Rattle.trac_walk.specs.Searches.{HasStayed, HasWalked, IsAsNear, IsReason, near_weight};
 
 use crate::aim::{Aim, goal_for};
 use crate::walker::Walker;
@@ -11,6 +11,10 @@ use std::alloc::Allocator;
 use std::mem;
 use trac_screen::lacks_output_room;
 use trac_session::{Refusal, Session, Walk};
+
+// So much may be added to the weight of the records before the program is run anew: what they take is new memory, and
+// soon costs more than that run.
+const NEAR_WEIGHT: u64 = 32_768;
 
 /// How a search forward ended.
 #[derive(Clone, Copy)]
@@ -24,20 +28,29 @@ pub enum Search {
 
 impl<A: Allocator + Copy> Walker<A> {
     /// Goes forward to a goal, by so many steps at most. Where it is not met, or a step is refused before, also for
-    /// memory, all that is kept is as it was. To go further than that leaves room for, the walker runs the program
-    /// anew from its start, beside it.
+    /// memory, all that is kept is as it was. To go further than 1,048,576 steps from the first one that is kept, or
+    /// over steps whose records weigh more than 32,768, the walker runs the program anew from its start, beside it.
     pub fn search(&mut self, aim: Aim<'_>, most: u64) -> Search
         ensures stayed { HasStayed result self.old.window self.new.window }
         ensures met { result ≡ Search.Met → goal_of_aim aim.entry self.new.window.session.last ≡ true }
-        ensures near { weights_from self.old.window.session.earlier ≤ self.old.weight → IsAsNear self.old.weight
-            (goal_of_aim aim.entry) most self.old.window.session result self.new.window.session }
+        ensures near { weights_from self.old.window.session.earlier ≤ self.old.weight → IsAsNear
+            (near_weight self.old.weight self.old.window.session) (goal_of_aim aim.entry) most
+            self.old.window.session result self.new.window.session }
     {
-        let weight = self.weight();
+        let weight = self.near_weight();
         match search_near(&mut self.window.session, aim, most, weight) {
             Search::Met => Search::Met,
             Search::Unmet(Refusal::JournalFull, done) => self.search_far(aim, done, most),
             Search::Unmet(refusal, done) => Search::Unmet(refusal, done),
         }
+    }
+
+    // How much the records may weigh before the program is run anew.
+    fn near_weight(&self) -> u64
+        ensures { result ≡ near_weight self.now.weight self.now.window.session }
+    {
+        let now = self.window.session.weight();
+        self.weight().min(now.saturating_add(NEAR_WEIGHT))
     }
 
     /// The same after so many steps on which nothing was met, in a run of the program anew. What that keeps takes the

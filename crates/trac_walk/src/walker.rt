@@ -1,5 +1,6 @@
 //! A walker: a session whose way back never stops a walk, and where it stands.
 ghost use Rattle.std.specs.Prelude.{◌≡◌, ◌≤◌, length, not, true, IfErr, None, OnOk};
+ghost use Rattle.trac_follow.specs.Following.{IsFollowed};
 ghost use Rattle.trac_follow.specs.Places.{place_of};
 ghost use Rattle.trac_follow.specs.Tracing.{IsTold, way_of};
 ghost use Rattle.trac_streams.specs.Tape.{MayRefuseTape};
@@ -8,7 +9,7 @@ ghost use Rattle.trac_walk.specs.Ways.{number_of_step};
 
 use crate::aim::{Aim, goal_for};
 use std::alloc::{AllocError, Allocator};
-use trac_follow::{Place, Traced, Witness, trace};
+use trac_follow::{Followed, Place, Traced, Witness, follow, trace};
 use trac_forms::{Form, FormError, Store};
 use trac_rules::byte::LINE_FEED;
 use trac_rules::limit::{JOURNAL_LIMIT, TAPE_LIMIT};
@@ -29,7 +30,7 @@ const WEIGHED_BYTES: u64 = 12;
 pub struct Walker<A: Allocator + Copy> {
     // the session, and what of it is forgotten
     pub(crate) window: Window<A>,
-    // how many records the journal may hold
+    // how many steps are kept; a search may go further before it has to run the program anew
     limit: usize,
     // how much the records may weigh
     weight: u64,
@@ -53,7 +54,7 @@ impl<A: Allocator + Copy> Walker<A> {
         ensures made { OnOk result (length tape.now ≤ TAPE_LIMIT) }
         ensures refused { IfErr result (MayRefuseTape tape.now) }
     {
-        let window = Window::over(alloc, tape, limit, width)?;
+        let window = Window::over(alloc, tape, JOURNAL_LIMIT, width)?;
         let Ok(input) = Vec::from_slice(alloc, tape) else {
             return Err(Ending::Memory);
         };
@@ -72,9 +73,7 @@ impl<A: Allocator + Copy> Walker<A> {
     /// Refused as `TooLong`, where that has more than 33,554,432 bytes, and as `Memory`.
     pub(crate) fn window_anew(&self) -> Result<Window<A>, Refusal> {
         let input = self.input.as_slice();
-        // (It is within these since `new`.)
-        let limit = self.limit.max(1).min(JOURNAL_LIMIT);
-        let mut window = match Window::over(self.alloc, input, limit, self.width()) {
+        let mut window = match Window::over(self.alloc, input, JOURNAL_LIMIT, self.width()) {
             Ok(window) => window,
             Err(Ending::Limit) => return Err(Refusal::TooLong),
             Err(_) => return Err(Refusal::Memory),
@@ -211,6 +210,30 @@ impl<A: Allocator + Copy> Walker<A> {
         trace(&mut self.window.session, place, most, witness)
     }
 
+    /// Goes back as `trac_follow::follow` does, over so many steps at most, to where the byte at a place was passed on.
+    pub fn follow<'p>(&mut self, place: Place<'p>, most: u64) -> Followed<'p>
+        ensures { IsFollowed self.old.window.session (place_of place.entry) most self.new.window.session result }
+    {
+        follow(&mut self.window.session, place, most)
+    }
+
+    /// How many items the form of this name has; 0 if there is none.
+    pub fn form_len(&self, name: &[u8]) -> usize {
+        match self.sight().store.get(name) {
+            Some(form) => form.len(),
+            None => 0,
+        }
+    }
+
+    /// A copy of an argument of the function that was begun last; null if there is none. The error is that memory was
+    /// refused.
+    pub fn argument(&self, alloc: A, number: usize) -> Result<Vec<u8, A>, AllocError> {
+        match self.sight().begun {
+            Some((_, arguments)) => Ok(Vec::from_slice(alloc, arguments.get(number))?),
+            None => Ok(Vec::new(alloc)),
+        }
+    }
+
     /// Ends the input.
     pub fn end_input(&mut self) {
         self.has_ended = true;
@@ -242,8 +265,8 @@ impl<A: Allocator + Copy> Walker<A> {
 
     /// Goes forward as far as no step has to be forgotten for it, or until one is refused, which is returned.
     pub fn look_ahead(&mut self) -> Option<Refusal> {
-        let room = self.limit.saturating_sub(self.window.session.len());
-        walk_on(&mut self.window.session, None, room as u64, self.weight).why
+        let room = self.room();
+        walk_on(&mut self.window.session, None, room, self.weight).why
     }
 
     // Goes forward, to a goal where there is one, walk by walk: after each that ended for want of room it makes room.
@@ -256,7 +279,8 @@ impl<A: Allocator + Copy> Walker<A> {
                 break;
             }
             self.make_room();
-            let walk = walk_on(&mut self.window.session, aim, left, self.weight);
+            let most = self.room().min(left);
+            let walk = walk_on(&mut self.window.session, aim, most, self.weight);
             if !self.goes_on(walk, aim.is_some()) {
                 return walk.why;
             }
@@ -266,6 +290,11 @@ impl<A: Allocator + Copy> Walker<A> {
             Some(_) => Some(Refusal::NotMet),
             None => None,
         }
+    }
+
+    // How many steps more may be kept.
+    fn room(&self) -> u64 {
+        self.limit.saturating_sub(self.window.session.len()) as u64
     }
 
     // Whether a walk goes on that has ended so, with a goal or without one: the journal was full or weighed enough,
@@ -302,11 +331,18 @@ impl<A: Allocator + Copy> Walker<A> {
         refusal_of(self.window.session.return_to(other_form(name, &form)))
     }
 
-    // Forgets the older half of the journal where it is full, and as often as its records weigh too much.
+    /// Forgets all but the last steps, so many as are kept.
+    pub fn forget_surplus(&mut self) {
+        if self.window.session.len() > self.limit {
+            self.window.keep_steps(self.limit);
+        }
+    }
+
+    // Forgets the older half of the steps that are kept where there are enough, and as often as their records weigh too
+    // much.
     fn make_room(&mut self) {
-        let len = self.window.session.len();
-        if len >= self.limit {
-            self.window.keep_steps(len / 2);
+        if self.window.session.len() >= self.limit {
+            self.window.keep_steps(self.limit / 2);
         }
         for _ in 0..usize::BITS {
             if !self.window.lighten(self.weight) {

@@ -3,15 +3,15 @@ use Rattle.trac_walk.proofs.Searched.{near_at, near_far}
 use Rattle.trac_walk.proofs.walker.Walker.search.Goals as goal
 
 pub returns-in-Met-clause-near : goal.returns-in-Met-clause-near
-returns-in-Met-clause-near g c = near_at c.weight-weight.ensures c.in-Met.ensures.near
+returns-in-Met-clause-near g c = near_at c.near_weight-weight.ensures c.in-Met.ensures.near
 
 pub returns-in-Unmet-JournalFull-default-clause-near : goal.returns-in-Unmet-JournalFull-default-clause-near
 returns-in-Unmet-JournalFull-default-clause-near g c = λ light.
-    near_far c.search_far.result c.search_far.new.self.window.session c.in-Unmet-JournalFull-default.field-0-is (near_at c.weight-weight.ensures c.in-Unmet-JournalFull-default.ensures.near light)
+    near_far c.search_far.result c.search_far.new.self.window.session c.in-Unmet-JournalFull-default.field-0-is (near_at c.near_weight-weight.ensures c.in-Unmet-JournalFull-default.ensures.near light)
 
 pub returns-in-Unmet : goal.returns-in-Unmet
 returns-in-Unmet g c = record {
   stayed = ap (λ (session : _). record c.args.self.now.window { session = session }) c.in-Unmet.ensures.stayed;
   met = λ met. absurd (cc);
-  near = near_at c.weight-weight.ensures c.in-Unmet.ensures.near;
+  near = near_at c.near_weight-weight.ensures c.in-Unmet.ensures.near;
 }
