@@ -3,7 +3,7 @@ use Rattle.std.proofs.Common.{◌≡◌, ℕ, zero, suc, ◌+◌, ◌-◌, ◌<�
 use Rattle.std.proofs.lemmas.Bool.{cases_lt}
 use Rattle.std.specs.Prelude.{Option, None, Some, nat_lt, option_and_then}
 use Rattle.trac_rules.specs.declared.refusal.Refusal.{Refusal}
-use Rattle.trac_rules.specs.declared.refusal.Refusal.TheVariants.{Memory, TooLong, NeedInput, Ended, JournalFull, AtStart, Closed, NotMet}
+use Rattle.trac_rules.specs.declared.refusal.Refusal.TheVariants.{Memory, AtStart}
 use Rattle.trac_rules.specs.declared.reply.Reply.{Reply}
 use Rattle.trac_rules.specs.declared.reply.Reply.TheVariants.{Done, Refused}
 use Rattle.trac_rules.specs.Session.{PlainSession, Command, Step, Back, Goal, done, refused, answer, accepted_by, Answers, MayRunOut, no_goal, repeated, IsWalk}
