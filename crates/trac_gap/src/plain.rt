@@ -1,5 +1,6 @@
 //! Lists with two ends over two vectors: the plain program that tests compare with.
 ghost use Rattle.std.specs.Prelude.{◌≡◌, ◌+◌, ◌-◌, ◌<◌, ◌≤◌, ◌++◌, length, drop, vec_len, vec_capacity};
+ghost use Rattle.trac_gap.specs.Ends.{Ends};
 
 use crate::error::GapError;
 use crate::two_ends::TwoEnds;
@@ -15,9 +16,6 @@ pub struct PlainEnds<T: Copy, A: Allocator + Copy = Global> {
 }
 
 impl<T: Copy, A: Allocator + Copy> Model for PlainEnds<T, A> {
-    ghost use Rattle.std.specs.Prelude.{◌+◌, ◌≤◌, vec_len, vec_capacity};
-    ghost use Rattle.trac_gap.specs.Ends.{Ends};
-
     ghost Value = { Ends T };
 
     ghost view = { λ p. record { left = p.left.items; right = p.right.items; capacity = p.capacity } };

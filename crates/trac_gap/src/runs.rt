@@ -1,5 +1,5 @@
 //! Copies of runs of items into a row of places, and within it.
-ghost use Rattle.std.specs.Prelude.{◌≡◌, ℕ, ◌+◌, ◌-◌, ◌^◌, ◌<◌, ◌≤◌, ◌⊎◌, Some, None, length, take, drop, map, get_or};
+ghost use Rattle.std.specs.Prelude.{◌≡◌, ℕ, ◌+◌, ◌-◌, ◌^◌, ◌<◌, ◌≤◌, Some, None, length, take, drop, map, get_or};
 ghost use Rattle.std.specs.Prelude.{IsSome};
 ghost use Rattle.trac_gap.specs.Slots.{IsFull, IsShifted, run, pasted};
 
@@ -52,28 +52,16 @@ impl<T: Copy> Slots<T> {
             return;
         }
         if count <= from.abs_diff(to) {
-            self.move_run(start, from, to, count);
+            // One or two items need no call: most runs that scanning moves are so short.
+            match count {
+                1 => self.move_apart(start, from, to, 1),
+                2 => self.move_apart(start, from, to, 2),
+                _ => self.move_apart(start, from, to, count),
+            }
         } else if to <= from {
             self.shift_down(start, from, to, count);
         } else {
             self.shift_up(start, from, to, count);
-        }
-    }
-
-    // `move_apart`, where one or two items need no call: most runs that scanning moves are so short.
-    #[inline(always)]
-    fn move_run(&mut self, start: BlockStart<T>, from: usize, to: usize, count: usize)
-        requires { (start.ptr ≡ self.old.at) × (from + count ≤ length self.old.slots)
-            × (to + count ≤ length self.old.slots)
-            × ((from + count ≤ to) ⊎ (to + count ≤ from))
-            × IsFull (run from count self.old.slots) }
-        ensures { (self.new.at ≡ self.old.at)
-            × IsShifted self.old.slots from to count self.new.slots }
-    {
-        match count {
-            1 => self.move_apart(start, from, to, 1),
-            2 => self.move_apart(start, from, to, 2),
-            _ => self.move_apart(start, from, to, count),
         }
     }
 

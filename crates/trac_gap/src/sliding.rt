@@ -1,6 +1,7 @@
 //! A list that grows at its end and loses items at both ends.
 ghost use Rattle.std.specs.Prelude.{◌≡◌, ◌==◌, ◌+◌, ◌≤◌, [], ◌∷◌, ◌++◌, length, take, drop, vec_len, vec_capacity};
 ghost use Rattle.std.specs.Prelude.{IsOk, OnOk, OnErr, IfOk};
+ghost use Rattle.trac_gap.specs.Window.{Window};
 
 use std::alloc::{AllocError, Allocator, Global};
 use std::marker::Model;
@@ -19,9 +20,6 @@ pub struct SlidingBuf<T: Copy, A: Allocator = Global> {
 }
 
 impl<T: Copy, A: Allocator> Model for SlidingBuf<T, A> {
-    ghost use Rattle.std.specs.Prelude.{◌≤◌, drop, vec_len, vec_capacity};
-    ghost use Rattle.trac_gap.specs.Window.{Window};
-
     ghost Value = { Window T };
 
     ghost view = { λ b. record { items = drop b.gone b.list.items; capacity = vec_capacity b.list } };

@@ -80,12 +80,10 @@ with_call called c texts n old new count called_is bytes_are commas_are calls_ne
         subst (λ (ms : List ℕ). sum ms ≤ c.bytes) (sym lengths_last) (omega (arith, bytes_are, lengths_within texts n)),
       );
       says = λ undone. (λ i. Called (record_with (called_is i) (texts_are i) undone));
-      others = λ undone. (λ i. record {
-        calls = old.calls;
+      others = λ undone. (λ i. record old {
         bytes = before-append old.bytes (concat texts) c.bytes bytes_are i;
         commas = before-append old.commas lengths c.commas many i;
         undone = undone;
-        emptied = old.emptied;
       });
     })
 

@@ -20,7 +20,7 @@ use Rattle.trac_journal.proofs.Calls.{call_weighs, newest_call}
 use Rattle.trac_journal.proofs.Counted.{moved_sum, sum_by-append}
 use Rattle.trac_text.proofs.TakenOut.{same_before_last}
 use Rattle.trac_journal.proofs.Ends.{length-alone}
-use Rattle.trac_journal.proofs.Oldest.{OldestApart, oldest_apart, oldest_last}
+use Rattle.trac_journal.proofs.Oldest.{nothing_joined, OldestApart, oldest_apart, oldest_last}
 
 -- ---- the first of a list of the code is the last of those that are seen
 
@@ -72,8 +72,7 @@ oldest_call own others all undone has alone together = by_calls own.calls refl h
             weighs = call_weighs own.calls calls c own.bytes own.commas first (newest_call own.calls calls c own.bytes own.commas first (subst (λ (cs : List CallEntry). HasCall cs own.bytes own.commas) (sym first) has));
             read = λ undone. sym (ap (λ (cs : List CallEntry). read_by (call_of cs undone own.bytes own.commas)) first);
             printed = λ undone. sym (ap (λ (cs : List CallEntry). printed_by (call_of cs undone own.bytes own.commas)) first);
-            left = λ i. record {
-              calls = others.calls;
+            left = λ i. record others {
               bytes = (ap (drop c.bytes) text_is ∙ drop_at own.bytes others.bytes c.bytes bytes) i;
               commas = (ap (drop c.commas) lengths_are ∙ drop_at own.commas others.commas c.commas commas) i;
               undone = ap (λ (l : Listed). l.undone) together i;
@@ -137,13 +136,9 @@ oldest_idle own others all is = by_emptied own.emptied refl is.is_there (ap (λ 
   where
     left_is : record all { emptied = others.emptied } ≡ others
     left_is =
-        λ i. record {
-          calls = (ap (λ (l : Listed). l.calls) is.together ∙ ap (λ (l : Listed). others.calls ++ l.calls) is.alone ∙ append-nil others.calls) i;
-          bytes = (ap (λ (l : Listed). l.bytes) is.together ∙ ap (λ (l : Listed). l.bytes ++ others.bytes) is.alone) i;
-          commas = (ap (λ (l : Listed). l.commas) is.together ∙ ap (λ (l : Listed). l.commas ++ others.commas) is.alone) i;
-          undone = (ap (λ (l : Listed). l.undone) is.together ∙ ap (λ (l : Listed). others.undone ++ l.undone) is.alone ∙ append-nil others.undone) i;
-          emptied = others.emptied;
-        }
+        ap (λ (l : Listed). let left : Listed = record l { emptied = others.emptied } in left) is.together
+        ∙ ap (λ (l : Listed). let left : Listed = record (joined l others) { emptied = others.emptied } in left) is.alone
+        ∙ (λ i. record (nothing_joined others i) { emptied = others.emptied })
 
     by_emptied : (es : List (List ℕ × List Frame)) → own.emptied ≡ es → 1 ≤ length es → drop 1 es ≡ [] → OldestIdle own others all
     by_emptied [] same some none = absurd (omega (arith, some))
@@ -156,15 +151,7 @@ oldest_idle own others all is = by_emptied own.emptied refl is.is_there (ap (λ 
 
 -- a record that has nothing in the lists
 pub brief_left : (own others all : Listed) → own ≡ nothing_listed → all ≡ joined own others → all ≡ others
-brief_left own others all none together =
-    together
-    ∙ (λ i. record {
-      calls = (ap (λ (l : Listed). others.calls ++ l.calls) none ∙ append-nil others.calls) i;
-      bytes = ap (λ (l : Listed). l.bytes ++ others.bytes) none i;
-      commas = ap (λ (l : Listed). l.commas ++ others.commas) none i;
-      undone = (ap (λ (l : Listed). others.undone ++ l.undone) none ∙ append-nil others.undone) i;
-      emptied = (ap (λ (l : Listed). others.emptied ++ l.emptied) none ∙ append-nil others.emptied) i;
-    })
+brief_left own others all none together = together ∙ ap (λ (l : Listed). joined l others) none ∙ nothing_joined others
 
 -- ---- what is known of a record that is dropped
 

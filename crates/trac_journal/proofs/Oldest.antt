@@ -19,8 +19,10 @@ use Rattle.trac_journal.proofs.Ends.{before-last, ends_joined, last-after, last-
 -- ---- lists with older ones after them
 
 joined_nothing : (l : Listed) → joined l nothing_listed ≡ l
-joined_nothing l =
-    λ i. record { calls = l.calls; bytes = append-nil l.bytes i; commas = append-nil l.commas i; undone = l.undone; emptied = l.emptied }
+joined_nothing l = λ i. record l { bytes = append-nil l.bytes i; commas = append-nil l.commas i }
+
+pub nothing_joined : (l : Listed) → joined nothing_listed l ≡ l
+nothing_joined l = λ i. record l { calls = append-nil l.calls i; undone = append-nil l.undone i; emptied = append-nil l.emptied i }
 
 joined_assoc : (a b c : Listed) → joined (joined a b) c ≡ joined a (joined b c)
 joined_assoc a b c =
@@ -50,12 +52,9 @@ call_after (c ∷ calls) older l has =
         subst (λ (ms : List ℕ). sum ms ≤ c.bytes) (sym lengths) has.2,
       );
       same = λ undone. (λ i. Called (record_with (called_in c) (all_texts (cut_at (lengths i) (text i))) undone));
-      rest = λ i. record {
-        calls = calls ++ older.calls;
+      rest = λ i. record (joined older (record l { calls = calls })) {
         bytes = all_before_last-further older.bytes l.bytes c.bytes has.0 i;
         commas = all_before_last-further older.commas l.commas c.commas has.1 i;
-        undone = l.undone ++ older.undone;
-        emptied = l.emptied ++ older.emptied;
       };
     }
 
@@ -114,12 +113,11 @@ call_apart (c ∷ calls) l first has = record {
     subst (λ (ms : List ℕ). sum ms ≤ c.bytes) (sym (last-last c.commas l.commas has.1)) has.2,
   );
   alone = λ undone. (λ i. record nothing_listed { bytes = before-last c.bytes l.bytes has.0 i; commas = before-last c.commas l.commas has.1 i; undone = undone });
-  together = λ undone others both. (λ i. record {
+  together = λ undone others both. (λ i. record l {
     calls = first i;
     bytes = sym (ends_joined c.bytes l.bytes) i;
     commas = sym (ends_joined c.commas l.commas) i;
     undone = sym both i;
-    emptied = l.emptied;
   });
 }
 
@@ -133,9 +131,6 @@ record Apart (k : Kept) (l : Listed) : Type 0 where
 none_left : {X : Type 0} (xs : List X) → drop 1 (take 1 xs) ≡ []
 none_left [] = refl
 none_left (x ∷ xs) = refl
-
-none_apart : (l : Listed) → l ≡ joined l nothing_listed
-none_apart l = sym (joined_nothing l)
 
 apart : (k : Kept) (l : Listed) → Holds k l → Apart k l
 apart kept.Call l has =
@@ -157,15 +152,9 @@ apart kept.Idle l has =
       own = record nothing_listed { emptied = take 1 l.emptied };
       has = omega (arith, length-take-le 1 l.emptied has);
       alone = λ i. record nothing_listed { emptied = none_left l.emptied i };
-      together = λ i. record {
-        calls = l.calls;
-        bytes = sym (append-nil l.bytes) i;
-        commas = sym (append-nil l.commas) i;
-        undone = l.undone;
-        emptied = sym (take-append-drop 1 l.emptied) i;
-      };
+      together = sym (joined_nothing l) ∙ (λ i. record (joined l nothing_listed) { emptied = sym (take-append-drop 1 l.emptied) i });
     }
-apart k l has = record { own = nothing_listed; has = tt; alone = refl; together = none_apart l }
+apart k l has = record { own = nothing_listed; has = tt; alone = refl; together = sym (joined_nothing l) }
 
 -- ---- the oldest record's own
 
@@ -180,7 +169,7 @@ pub oldest_apart : (entries : List Entry) (e : Entry) (l : Listed) → AreListed
 oldest_apart [] e l listed = record {
   own = l;
   others = nothing_listed;
-  oldest = record { is_there = listed.0; alone = listed.1; together = none_apart l };
+  oldest = record { is_there = listed.0; alone = listed.1; together = sym (joined_nothing l) };
   listed = refl;
 }
 oldest_apart (newest ∷ entries) e l listed =

@@ -57,8 +57,6 @@ oldest_printed k own others all calls is view =
 -- no entry has more than one call
 pub calls_few : (k : Kept) → calls_of k ≤ 1
 calls_few kept.Call = omega arith
-calls_few (kept.Pointed place) = omega arith
-calls_few kept.Changed = omega arith
 calls_few k = omega arith
 
 -- ---- all that are left out

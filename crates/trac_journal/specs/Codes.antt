@@ -48,13 +48,7 @@ undone_of_parts (inr (inr (inr (inr (inr (inr (inr p))))))) = Unerase p.0 p.1.0 
 
 pub undone_from_parts : (undone : Undone) → undone_of_parts (parts_of_undone undone) ≡ undone
 undone_from_parts Nothing = refl
-undone_from_parts (Point place) = refl
-undone_from_parts (Join cut place) = refl
-undone_from_parts (Swap old) = refl
-undone_from_parts (Restore held) = refl
-undone_from_parts (MoveOut old) = refl
-undone_from_parts (Unbring number held) = refl
-undone_from_parts (Unerase number held address) = refl
+undone_from_parts other = refl
 
 abbrev pub undone_code : Coded Undone
 undone_code = code_by UndoneParts (coded⊎ coded_bool (coded⊎ coded_ℕ
@@ -109,12 +103,7 @@ record_of_parts (inr (inr (inr (inr call)))) = Called call
 
 pub record_from_parts : (r : Record) → record_of_parts (parts_of_record r) ≡ r
 record_from_parts Moved = refl
-record_from_parts Comma = refl
-record_from_parts Begun = refl
-record_from_parts (Quoted inner closed) = refl
-record_from_parts (Deleted b) = refl
-record_from_parts (Idle base frames) = refl
-record_from_parts (Called call) = refl
+record_from_parts other = refl
 
 abbrev pub record_code : Coded Record
 record_code = code_by RecordParts (coded⊎ coded_ℕ (coded⊎ (coded× coded_ℕ coded_bool)

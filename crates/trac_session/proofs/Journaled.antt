@@ -5,7 +5,7 @@ use Rattle.std.proofs.lemmas.List.{length-append}
 use Rattle.trac_rules.specs.declared.width.Width.{Width}
 use Rattle.trac_rules.specs.declared.limit.TheConstants.{TAPE_LIMIT}
 use Rattle.trac_rules.specs.declared.refusal.Refusal.{Refusal}
-use Rattle.trac_rules.specs.declared.refusal.Refusal.TheVariants.{Memory, TooLong, NeedInput, Ended, JournalFull, AtStart, Closed, NotMet}
+use Rattle.trac_rules.specs.declared.refusal.Refusal.TheVariants.{Memory, TooLong, JournalFull, AtStart, Closed}
 use Rattle.trac_rules.specs.declared.reply.Reply.TheVariants.{Done, Refused}
 use Rattle.trac_rules.specs.Records.{Record, state_before}
 use Rattle.trac_rules.specs.State.{Environment, State}
@@ -120,24 +120,12 @@ Feed_memory_of_fields {width} limit bytes same ended journal last p more view op
 pub MayRunOut_of_step : (x : Result State Refusal) (p : PlainSession) → MayLackMemory x → MayRunOut Step (stepped_to x p).reply
 MayRunOut_of_step (Ok t) p may = tt
 MayRunOut_of_step (Err TooLong) p may = tt
-MayRunOut_of_step (Err Memory) p may = absurd may
-MayRunOut_of_step (Err NeedInput) p may = absurd may
-MayRunOut_of_step (Err Ended) p may = absurd may
-MayRunOut_of_step (Err JournalFull) p may = absurd may
-MayRunOut_of_step (Err AtStart) p may = absurd may
-MayRunOut_of_step (Err Closed) p may = absurd may
-MayRunOut_of_step (Err NotMet) p may = absurd may
+MayRunOut_of_step (Err other) p may = absurd may
 
 -- what a step may be refused for, the session may be
 pub Step_refused_as : (p q : PlainSession) (refusal : Refusal) → length p.earlier < p.limit → MayRefuse (step (over p.width p.tape) p.last) refusal → q ≡ p → Answers Step p (Refused refusal) q
 Step_refused_as p q Memory l may same = (rw (answer_Step p l) (MayRunOut_of_step (step (over p.width p.tape) p.last) p may), same)
-Step_refused_as p q TooLong l may same = rw same (answer_Step_Err p TooLong l may)
-Step_refused_as p q NeedInput l may same = rw same (answer_Step_Err p NeedInput l may)
-Step_refused_as p q Ended l may same = rw same (answer_Step_Err p Ended l may)
-Step_refused_as p q JournalFull l may same = rw same (answer_Step_Err p JournalFull l may)
-Step_refused_as p q AtStart l may same = rw same (answer_Step_Err p AtStart l may)
-Step_refused_as p q Closed l may same = rw same (answer_Step_Err p Closed l may)
-Step_refused_as p q NotMet l may same = rw same (answer_Step_Err p NotMet l may)
+Step_refused_as p q refusal l may same = rw same (answer_Step_Err p refusal l may)
 
 -- a step that was taken, or refused, with a place in the journal
 pub Step_of_fields : {width after : Width} → (Holds : State → Type 0) (limit : ℕ) (bytes : List ℕ) (ended : Bool) (old new : List Record) (s t : State) (r : Result (Unit {0}) Refusal) →

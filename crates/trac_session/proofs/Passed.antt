@@ -71,58 +71,63 @@ earlier_of-passed old new s t n proper within kept moved =
     ∙ ap (λ (u : State). earlier_of (replicate n Moved ++ old) u) moved
     ∙ earlier_of-moved n old s proper within
 
--- plain bytes that are moved at once are as many steps
-pub Step_passed : (Holds : State → Type 0) (limit : ℕ) (bytes : List ℕ) (ended : Bool) (old new : List Record) (m k : Shown) (n : ℕ) (p : PlainSession) →
-    plain_of limit m.width bytes ended old m.state ≡ p → AreRecords Holds old m.state → IsProper m.state → BeginsPlain n m.state → length old + n ≤ limit →
-    new ≡ replicate n Moved ++ old → k ≡ record m { state = moved_on n m.state } → repeated Step n p ≡ Some (plain_of limit k.width bytes ended new k.state)
-Step_passed Holds limit bytes ended old new m k n p view all proper plain fits kept moved =
-    let q : PlainSession = plain_of limit m.width bytes ended old m.state in
-    let there : k.state ≡ moved_on n m.state = ap (λ (u : Shown). u.state) moved in
-    ap (repeated Step n) (sym view)
-    ∙ plain_bytes_there n q proper plain (omega (arith, fits, length-earlier Holds limit bytes ended old m.state q refl all))
-    ∙ ap (λ (earlier : List State). Some (record q { earlier = earlier; last = moved_on n m.state })) (sym (earlier_of-passed old new m.state k.state n proper plain.within kept there))
-    ∙ ap (λ (u : State). Some (record q { earlier = earlier_of new k.state; last = u })) (sym there)
-    ∙ ap (λ (w : Width). Some (plain_of limit w bytes ended new k.state)) (sym (ap (λ (u : Shown). u.width) moved))
+-- plain bytes that were moved at once, as the fields show it, and that the journal has room for
+pub record HasPassed (limit : ℕ) (old new : List Record) (m k : Shown) (n : ℕ) : Type 0 where
+  pub proper : IsProper m.state
+  pub plain : BeginsPlain n m.state
+  pub fits : length old + n ≤ limit
+  pub kept : new ≡ replicate n Moved ++ old
+  pub moved : k ≡ record m { state = moved_on n m.state }
+  pub held : (j : ℕ) → j ≤ n → HasRoom m (moved_on j m.state)
 
--- they moved the first bytes of the active text
-pub Step_moved : (limit : ℕ) (bytes : List ℕ) (ended : Bool) (old new : List Record) (m k : Shown) (n : ℕ) (p : PlainSession) →
-    plain_of limit m.width bytes ended old m.state ≡ p → IsProper m.state → BeginsPlain n m.state → new ≡ replicate n Moved ++ old → k ≡ record m { state = moved_on n m.state } →
-    HasMovedBack n (plain_of limit k.width bytes ended new k.state) p
-Step_moved limit bytes ended old new m k n p view proper plain kept moved =
-    let there : k.state ≡ moved_on n m.state = ap (λ (u : Shown). u.state) moved in
-    subst (λ (q : PlainSession). HasMovedBack n (plain_of limit k.width bytes ended new k.state) q) view
-    (record {
-      others = ap (λ (w : Width). plain_of limit w bytes ended old m.state) (sym (ap (λ (u : Shown). u.width) moved));
-      within = plain.within;
-      last = there;
-      earlier = earlier_of-passed old new m.state k.state n proper plain.within kept there;
-    })
+module _ {limit n : ℕ} {old new : List Record} {m k : Shown} (passed : HasPassed limit old new m k n) where
+  there : k.state ≡ moved_on n m.state
+  there = ap (λ (u : Shown). u.state) passed.moved
 
--- the fields stay sound
-pub IsSound-passed : (limit : ℕ) (bytes : List ℕ) (old new : List Record) (m k : Shown) (n : ℕ) → IsProper m.state → BeginsPlain n m.state →
-    length old + n ≤ limit → new ≡ replicate n Moved ++ old → k ≡ record m { state = moved_on n m.state } → ((j : ℕ) → j ≤ n → HasRoom m (moved_on j m.state)) →
-    IsSound limit bytes old m → IsSound limit bytes new k
-IsSound-passed limit bytes old new m k n proper plain fits kept moved held sound =
-    let more : IsNoLess m k = subst (λ (u : Shown). IsNoLess m u) (sym moved) (no_less_state m (moved_on n m.state)) in
-    let there : k.state ≡ moved_on n m.state = ap (λ (u : Shown). u.state) moved in
-    let Reach : State → Type 0 = IsWithinReach k (length bytes) in
-    let reach : (j : ℕ) → j < n → Reach (moved_on j m.state) = λ j less. record {
-      on_tape = omega (arith, sound.on_tape, moved_on-position j m.state);
-      room = HasRoom-kept m k (moved_on j m.state) more (held j (omega arith));
-    } in
-    record {
-      some_records = sound.some_records;
-      not_too_many = sound.not_too_many;
-      within_limit = omega (arith, fits, length-moved old new n kept);
-      tape_limit = sound.tape_limit;
-      on_tape = omega (arith, sound.on_tape, ap (λ (u : State). u.position) there, moved_on-position n m.state);
-      records =
-          subst (λ (records : List Record). AreRecords Reach records k.state) (sym kept)
-          (subst (λ (u : State). AreRecords Reach (replicate n Moved ++ old) u) (sym there)
-          (AreRecords-moved Reach n old m.state proper plain reach
-          (AreRecords-weaker (IsWithinReach m (length bytes)) Reach old m.state
-          (IsWithinReach-more m k (length bytes) (length bytes) more (omega arith)) sound.records)));
-    }
+  -- they are as many steps
+  pub Step_passed : {bytes : List ℕ} {ended : Bool} {p : PlainSession} → IsSound limit bytes old m → plain_of limit m.width bytes ended old m.state ≡ p →
+      repeated Step n p ≡ Some (plain_of limit k.width bytes ended new k.state)
+  Step_passed {bytes} {ended} sound view =
+      let q : PlainSession = plain_of limit m.width bytes ended old m.state in
+      ap (repeated Step n) (sym view)
+      ∙ plain_bytes_there n q passed.proper passed.plain (omega (arith, passed.fits, length-earlier (IsWithinReach m (length bytes)) limit bytes ended old m.state q refl sound.records))
+      ∙ ap (λ (earlier : List State). Some (record q { earlier = earlier; last = moved_on n m.state })) (sym (earlier_of-passed old new m.state k.state n passed.proper passed.plain.within passed.kept there))
+      ∙ ap (λ (u : State). Some (record q { earlier = earlier_of new k.state; last = u })) (sym there)
+      ∙ ap (λ (w : Width). Some (plain_of limit w bytes ended new k.state)) (sym (ap (λ (u : Shown). u.width) passed.moved))
+
+  -- they moved the first bytes of the active text
+  pub Step_moved : {bytes : List ℕ} {ended : Bool} {p : PlainSession} → plain_of limit m.width bytes ended old m.state ≡ p → HasMovedBack n (plain_of limit k.width bytes ended new k.state) p
+  Step_moved {bytes} {ended} view =
+      subst (λ (q : PlainSession). HasMovedBack n (plain_of limit k.width bytes ended new k.state) q) view
+      (record {
+        others = ap (λ (w : Width). plain_of limit w bytes ended old m.state) (sym (ap (λ (u : Shown). u.width) passed.moved));
+        within = passed.plain.within;
+        last = there;
+        earlier = earlier_of-passed old new m.state k.state n passed.proper passed.plain.within passed.kept there;
+      })
+
+  -- the fields stay sound
+  pub IsSound-passed : {bytes : List ℕ} → IsSound limit bytes old m → IsSound limit bytes new k
+  IsSound-passed {bytes} sound =
+      let more : IsNoLess m k = subst (λ (u : Shown). IsNoLess m u) (sym passed.moved) (no_less_state m (moved_on n m.state)) in
+      let Reach : State → Type 0 = IsWithinReach k (length bytes) in
+      let reach : (j : ℕ) → j < n → Reach (moved_on j m.state) = λ j less. record {
+        on_tape = omega (arith, sound.on_tape, moved_on-position j m.state);
+        room = HasRoom-kept m k (moved_on j m.state) more (passed.held j (omega arith));
+      } in
+      record {
+        some_records = sound.some_records;
+        not_too_many = sound.not_too_many;
+        within_limit = omega (arith, passed.fits, length-moved old new n passed.kept);
+        tape_limit = sound.tape_limit;
+        on_tape = omega (arith, sound.on_tape, ap (λ (u : State). u.position) there, moved_on-position n m.state);
+        records =
+            subst (λ (records : List Record). AreRecords Reach records k.state) (sym passed.kept)
+            (subst (λ (u : State). AreRecords Reach (replicate n Moved ++ old) u) (sym there)
+            (AreRecords-moved Reach n old m.state passed.proper passed.plain reach
+            (AreRecords-weaker (IsWithinReach m (length bytes)) Reach old m.state
+            (IsWithinReach-more m k (length bytes) (length bytes) more (omega arith)) sound.records)));
+      }
 
 -- no plain byte follows those that were moved, where fewer were than might be
 no_plain_after : (n most : ℕ) (s : State) → (n < most → n < length s.active → is_plain (get_or s.active n 0) ≡ false) → n < most → BeginsPlain 1 (moved_on n s) → ⊥
@@ -135,14 +140,12 @@ no_plain_after n most s end fewer plain =
     false≢true (sym (end fewer some) ∙ first)
 
 -- so it is where the journal has a place left
-pub no_plain_ahead : (limit : ℕ) (bytes : List ℕ) (old new : List Record) (m k : Shown) (n most : ℕ) → IsSound limit bytes new k → k ≡ record m { state = moved_on n m.state } →
-    new ≡ replicate n Moved ++ old → (n < most → n < length m.state.active → is_plain (get_or m.state.active n 0) ≡ false) → (length old + n < limit → n < most) →
-    length (earlier_of new k.state) < limit → BeginsPlain 1 k.state → ⊥
-no_plain_ahead limit bytes old new m k n most sound moved kept end fewer place plain =
-    let there : k.state ≡ moved_on n m.state = ap (λ (u : Shown). u.state) moved in
+pub no_plain_ahead : {limit n : ℕ} {bytes : List ℕ} {old new : List Record} {m k : Shown} (most : ℕ) → HasPassed limit old new m k n → IsSound limit bytes new k →
+    (n < most → n < length m.state.active → is_plain (get_or m.state.active n 0) ≡ false) → (length old + n < limit → n < most) → length (earlier_of new k.state) < limit → BeginsPlain 1 k.state → ⊥
+no_plain_ahead {n = n} {bytes = bytes} {old = old} {new = new} {m = m} {k = k} most passed sound end fewer place plain =
     no_plain_after n most m.state end
-    (fewer (omega (arith, place, length-earlier_of (IsWithinReach k (length bytes)) new k.state sound.records, length-moved old new n kept)))
-    (subst (BeginsPlain 1) there plain)
+    (fewer (omega (arith, place, length-earlier_of (IsWithinReach k (length bytes)) new k.state sound.records, length-moved old new n passed.kept)))
+    (subst (BeginsPlain 1) (there passed) plain)
 
 -- ---- and back
 
@@ -242,65 +245,72 @@ went_back {width} Holds limit bytes ended old new t n kept all =
     (ap (λ (records : List Record). earlier_of records t) kept) refl
 
 -- the bytes can go back
-pub moved_back_says : (Holds : State → Type 0) (old new : List Record) (t : State) (n : ℕ) → old ≡ replicate n Moved ++ new → AreRecords Holds old t →
-    (s : State) × (moved_back n t ≡ Some s) × (s.position ≡ t.position) × AreRecords Holds new s
-moved_back_says Holds old new t n kept all =
-    let went = went_back {width = W64} Holds 0 [] false old new t n kept all in (
+pub moved_back_says : (n : ℕ) (new : List Record) {limit : ℕ} {bytes : List ℕ} {old : List Record} {m : Shown} → IsSound limit bytes old m → old ≡ replicate n Moved ++ new →
+    (s : State) × (moved_back n m.state ≡ Some s) × (s.position ≡ m.state.position) × AreRecords (IsWithinReach m (length bytes)) new s
+moved_back_says n new {bytes = bytes} {old} {m} sound kept =
+    let went = went_back {width = W64} (IsWithinReach m (length bytes)) 0 [] false old new m.state n kept sound.records in (
       went.first,
       ap (moved_back n) went.there.0 ∙ moved_on-back n went.first went.there.1,
       sym (ap (λ (u : State). u.position) went.there.0 ∙ moved_on-position n went.first),
       went.records,
     )
 
--- that is as many steps back
-pub Back_passed : {width after : Width} → (Holds : State → Type 0) (limit : ℕ) (bytes : List ℕ) (ended : Bool) (old new : List Record) (t s : State) (n : ℕ) (p : PlainSession) →
-    plain_of limit width bytes ended old t ≡ p → AreRecords Holds old t → old ≡ replicate n Moved ++ new → moved_back n t ≡ Some s → after ≡ width →
-    repeated Back n p ≡ Some (plain_of limit after bytes ended new s)
-Back_passed {width} {after} Holds limit bytes ended old new t s n p view all kept back still =
-    let went = went_back Holds limit bytes ended old new t n kept all in
-    let here : moved_back n t ≡ Some went.first = ap (moved_back n) went.there.0 ∙ moved_on-back n went.first went.there.1 in
-    let same : went.first ≡ s = cc in
-    ap (repeated Back n) (sym view) ∙ went.walked ∙ ap (λ (u : State). Some (plain_of limit width bytes ended new u)) same
-    ∙ ap (λ (w : Width). Some (plain_of limit w bytes ended new s)) (sym still)
+-- bytes that went back at once, as the fields show it
+pub record HasPassedBack (old new : List Record) (m k : Shown) (n : ℕ) : Type 0 where
+  pub kept : old ≡ replicate n Moved ++ new
+  pub back : moved_back n m.state ≡ Some k.state
+  pub others : k ≡ record m { state = k.state }
 
--- each of which moved a byte
-pub Back_moved : {width after : Width} → (Holds : State → Type 0) (limit : ℕ) (bytes : List ℕ) (ended : Bool) (old new : List Record) (t s : State) (n : ℕ) (p : PlainSession) →
-    plain_of limit width bytes ended old t ≡ p → AreRecords Holds old t → old ≡ replicate n Moved ++ new → moved_back n t ≡ Some s → after ≡ width →
-    HasMovedBack n p (plain_of limit after bytes ended new s)
-Back_moved {width} {after} Holds limit bytes ended old new t s n p view all kept back still =
-    let went = went_back {width = width} Holds limit bytes ended old new t n kept all in
-    let here : moved_back n t ≡ Some went.first = ap (moved_back n) went.there.0 ∙ moved_on-back n went.first went.there.1 in
-    let same : went.first ≡ s = cc in
-    subst (λ (q : PlainSession). HasMovedBack n q (plain_of limit after bytes ended new s)) view
-    (subst (λ (w : Width). HasMovedBack n (plain_of limit width bytes ended old t) (plain_of limit w bytes ended new s)) (sym still)
-    (subst (λ (u : State). HasMovedBack n (plain_of limit width bytes ended old t) (plain_of limit width bytes ended new u)) same
-    (record {
-      others = refl;
-      within = went.there.1;
-      last = went.there.0;
-      earlier = ap (λ (records : List Record). earlier_of records t) kept ∙ went.way;
-    })))
+pub passed_back : (n : ℕ) (new : List Record) (m : Shown) {old : List Record} {k : Shown} → old ≡ replicate n Moved ++ new → moved_back n m.state ≡ Some k.state → k ≡ record m { state = k.state } → HasPassedBack old new m k n
+passed_back n new m kept back others = record { kept = kept; back = back; others = others }
 
--- the fields stay sound
-pub IsSound-passed-back : (limit : ℕ) (bytes : List ℕ) (old new : List Record) (m k : Shown) (n : ℕ) → old ≡ replicate n Moved ++ new →
-    moved_back n m.state ≡ Some k.state → k ≡ record m { state = k.state } → IsSound limit bytes old m → IsSound limit bytes new k
-IsSound-passed-back limit bytes old new m k n kept back others sound =
-    let Reach : State → Type 0 = IsWithinReach m (length bytes) in
-    let says = moved_back_says Reach old new m.state n kept sound.records in
-    let said : moved_back n m.state ≡ Some says.0 = says.1 in
-    let same : says.0 ≡ k.state = cc in
-    let more : IsNoLess m k = subst (λ (u : Shown). IsNoLess m u) (sym others) (no_less_state m k.state) in
-    record {
-      some_records = sound.some_records;
-      not_too_many = sound.not_too_many;
-      within_limit = omega (arith, sound.within_limit, length-moved new old n kept);
-      tape_limit = sound.tape_limit;
-      on_tape = omega (arith, sound.on_tape, says.2, ap (λ (u : State). u.position) same);
-      records =
-          AreRecords-weaker Reach (IsWithinReach k (length bytes)) new k.state
-          (IsWithinReach-more m k (length bytes) (length bytes) more (omega arith))
-          (subst (λ (u : State). AreRecords Reach new u) same says.3);
-    }
+module _ {limit n : ℕ} {bytes : List ℕ} {old new : List Record} {m k : Shown} (sound : IsSound limit bytes old m) (passed : HasPassedBack old new m k n) where
+  went : (ended : Bool) → GoesBack (IsWithinReach m (length bytes)) n new m.state (plain_of limit m.width bytes ended old m.state)
+  went ended = went_back (IsWithinReach m (length bytes)) limit bytes ended old new m.state n passed.kept sound.records
+
+  first_is : (ended : Bool) → (went ended).first ≡ k.state
+  first_is ended =
+      let back = went ended in
+      let here : moved_back n m.state ≡ Some back.first = ap (moved_back n) back.there.0 ∙ moved_on-back n back.first back.there.1 in
+      let there = passed.back in cc
+
+  -- that is as many steps back
+  pub Back_passed : {ended : Bool} {p : PlainSession} → plain_of limit m.width bytes ended old m.state ≡ p → repeated Back n p ≡ Some (plain_of limit k.width bytes ended new k.state)
+  Back_passed {ended} view =
+      ap (repeated Back n) (sym view) ∙ (went ended).walked ∙ ap (λ (u : State). Some (plain_of limit m.width bytes ended new u)) (first_is ended)
+      ∙ ap (λ (w : Width). Some (plain_of limit w bytes ended new k.state)) (sym (ap (λ (u : Shown). u.width) passed.others))
+
+  -- each of which moved a byte
+  pub Back_moved : {ended : Bool} {p : PlainSession} → plain_of limit m.width bytes ended old m.state ≡ p → HasMovedBack n p (plain_of limit k.width bytes ended new k.state)
+  Back_moved {ended} view =
+      let back = went ended in
+      subst (λ (q : PlainSession). HasMovedBack n q (plain_of limit k.width bytes ended new k.state)) view
+      (subst (λ (w : Width). HasMovedBack n (plain_of limit m.width bytes ended old m.state) (plain_of limit w bytes ended new k.state)) (sym (ap (λ (u : Shown). u.width) passed.others))
+      (subst (λ (u : State). HasMovedBack n (plain_of limit m.width bytes ended old m.state) (plain_of limit m.width bytes ended new u)) (first_is ended)
+      (record {
+        others = refl;
+        within = back.there.1;
+        last = back.there.0;
+        earlier = ap (λ (records : List Record). earlier_of records m.state) passed.kept ∙ back.way;
+      })))
+
+  -- the fields stay sound
+  pub IsSound-passed-back : IsSound limit bytes new k
+  IsSound-passed-back =
+      let Reach : State → Type 0 = IsWithinReach m (length bytes) in
+      let back = went false in
+      let more : IsNoLess m k = subst (λ (u : Shown). IsNoLess m u) (sym passed.others) (no_less_state m k.state) in
+      record {
+        some_records = sound.some_records;
+        not_too_many = sound.not_too_many;
+        within_limit = omega (arith, sound.within_limit, length-moved new old n passed.kept);
+        tape_limit = sound.tape_limit;
+        on_tape = omega (arith, sound.on_tape, ap (λ (u : State). u.position) back.there.0, moved_on-position n back.first, ap (λ (u : State). u.position) (first_is false));
+        records =
+            AreRecords-weaker Reach (IsWithinReach k (length bytes)) new k.state
+            (IsWithinReach-more m k (length bytes) (length bytes) more (omega arith))
+            (subst (λ (u : State). AreRecords Reach new u) (first_is false) back.records);
+      }
 
 -- records of moved bytes weigh nothing
 pub moved_weigh_nothing : (old new : List Record) (n : ℕ) → new ≡ replicate n Moved ++ old → sum_by weight new ≡ sum_by weight old

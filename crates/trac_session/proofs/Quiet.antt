@@ -1,7 +1,6 @@
 -- Steps that move a byte perform no call, and there is no doubt of them.
 use Rattle.std.proofs.Common.{◌≡◌, ℕ, zero, suc, ◌+◌, ◌-◌, ◌<◌, ◌≤◌, Bool, true, false, List, [], ◌∷◌, ◌++◌, length, take, drop, refl, sym, ap, subst, ◌∙◌, arith}
-use Rattle.std.specs.Prelude.{Option, None, Some, Result, Ok, option_map, ◌==◌, ◌&&◌, ◌||◌}
-use Rattle.std.specs.FinMap as finite
+use Rattle.std.specs.Prelude.{Option, None, Some, Result, Ok, option_map}
 use Rattle.std.proofs.lemmas.List.{length-append, length-drop, length-take}
 use Rattle.trac_rules.specs.declared.kind.Kind.{Kind}
 use Rattle.trac_rules.specs.declared.kind.Kind.TheVariants.{Active, Neutral}

@@ -137,3 +137,17 @@ again_some goal old middle new steps again refusal nothing walk asked trail =
       back = back;
       asked = subst (λ (why : Refusal). IsAsked (Some why) new.last) memory asked;
     }
+
+-- where the way forward again was refused for this, or for nothing, the session is so
+abbrev IsAgain : Option Refusal → ℕ → PlainSession → PlainSession → Type 0
+IsAgain None left old new = new ≡ old
+IsAgain (Some why) left old new = IsStopped left why old new
+
+pub returned : (why ended : Option Refusal) (goal : Goal) (old middle new : PlainSession) (steps again : ℕ) → IsSearch Back goal (max 1 (length old.earlier)) old steps ended middle → (ended ≡ None → ⊥) →
+    IsWalk Step no_goal steps middle again why new → IsAsked why new.last → IsTrail old → IsNeverMet goal old × IsAgain why (steps - again) old new
+returned None ended goal old middle new steps again search unmet walk asked trail =
+    let nothing = met_nothing goal old steps ended middle search unmet in
+    (nothing.never, again_all goal old middle new steps again nothing walk trail)
+returned (Some why) ended goal old middle new steps again search unmet walk asked trail =
+    let nothing = met_nothing goal old steps ended middle search unmet in
+    (nothing.never, again_some goal old middle new steps again why nothing walk asked trail)

@@ -100,10 +100,8 @@ no_call_moves call t =
     by_value (Some texts) = by_frame texts (frame_of call.kind call.arguments)
 
     together : (texts : Option Texts) (storage : Option Storage) (rest : Option Rest) → TextsMoveNone texts → MovesNone (put_together texts storage rest)
-    together None storage rest none = tt
-    together (Some texts) None rest none = tt
-    together (Some texts) (Some storage) None none = tt
     together (Some texts) (Some storage) (Some rest) none = none
+    together texts storage rest none = tt
 
 -- ---- the end of a run
 

@@ -3,7 +3,7 @@ use Rattle.std.proofs.Common.{◌≡◌, ℕ, zero, suc, ◌+◌, ◌-◌, ◌<�
 use Rattle.std.proofs.lemmas.Bool.{cases_lt}
 use Rattle.std.specs.Prelude.{Option, None, Some, nat_lt, option_and_then}
 use Rattle.trac_rules.specs.declared.refusal.Refusal.{Refusal}
-use Rattle.trac_rules.specs.declared.refusal.Refusal.TheVariants.{Memory, TooLong, NeedInput, Ended, JournalFull, AtStart, Closed, NotMet}
+use Rattle.trac_rules.specs.declared.refusal.Refusal.TheVariants.{Memory, AtStart}
 use Rattle.trac_rules.specs.declared.reply.Reply.{Reply}
 use Rattle.trac_rules.specs.declared.reply.Reply.TheVariants.{Done, Refused}
 use Rattle.trac_rules.specs.Session.{PlainSession, Command, Step, Back, Goal, done, refused, answer, accepted_by, Answers, MayRunOut, no_goal, repeated, IsWalk}
@@ -36,24 +36,12 @@ repeated-from command m (suc k) p q walked =
 -- a refused step leaves the session as it was
 pub Step_refused_same : (p q : PlainSession) (refusal : Refusal) → Answers Step p (Refused refusal) q → q ≡ p
 Step_refused_same p q Memory h = h.1
-Step_refused_same p q TooLong h = (Step_refused p q TooLong h).0
-Step_refused_same p q NeedInput h = (Step_refused p q NeedInput h).0
-Step_refused_same p q Ended h = (Step_refused p q Ended h).0
-Step_refused_same p q JournalFull h = (Step_refused p q JournalFull h).0
-Step_refused_same p q AtStart h = (Step_refused p q AtStart h).0
-Step_refused_same p q Closed h = (Step_refused p q Closed h).0
-Step_refused_same p q NotMet h = (Step_refused p q NotMet h).0
+Step_refused_same p q refusal h = (Step_refused p q refusal h).0
 
 -- so does a refused step back
 pub Back_refused_same : (p q : PlainSession) (refusal : Refusal) → Answers Back p (Refused refusal) q → q ≡ p
 Back_refused_same p q Memory h = h.1
-Back_refused_same p q TooLong h = (Back_refused p q TooLong h).0
-Back_refused_same p q NeedInput h = (Back_refused p q NeedInput h).0
-Back_refused_same p q Ended h = (Back_refused p q Ended h).0
-Back_refused_same p q JournalFull h = (Back_refused p q JournalFull h).0
-Back_refused_same p q AtStart h = (Back_refused p q AtStart h).0
-Back_refused_same p q Closed h = (Back_refused p q Closed h).0
-Back_refused_same p q NotMet h = (Back_refused p q NotMet h).0
+Back_refused_same p q refusal h = (Back_refused p q refusal h).0
 
 -- whichever way it went
 pub refused_same : (direction : Direction) (p q : PlainSession) (refusal : Refusal) → Answers (command_towards direction) p (Refused refusal) q → q ≡ p
@@ -77,13 +65,7 @@ asked_for direction p q other same h none = tt
 -- a step back is answered as the plain session says, since memory is no answer of it
 Back_refused_as : (p q : PlainSession) (refusal : Refusal) → answer Back p ≡ refused refusal q → Answers Back p (Refused refusal) q
 Back_refused_as p q Memory h = let at : Memory ≡ AtStart = (Back_refused p q Memory h).1 in absurd (cc)
-Back_refused_as p q TooLong h = h
-Back_refused_as p q NeedInput h = h
-Back_refused_as p q Ended h = h
-Back_refused_as p q JournalFull h = h
-Back_refused_as p q AtStart h = h
-Back_refused_as p q Closed h = h
-Back_refused_as p q NotMet h = h
+Back_refused_as p q other h = h
 
 -- whatever it answers
 pub Back_answered : (p q : PlainSession) (reply : Reply) → answer Back p ≡ record { reply = reply; session = q } → Answers Back p reply q

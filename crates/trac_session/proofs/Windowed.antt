@@ -163,9 +163,9 @@ pub record KeepsNewest (Holds : State → Type 0) (keep : ℕ) (old new : List R
   pub read : k ≡ sum_by read_by (drop keep old)
 
 -- what a journal that keeps its newest records tells
-pub newest_kept : (Holds : State → Type 0) (keep : ℕ) (old new : List Record) (last : State) (o k : ℕ) → AreRecords Holds old last → new ≡ take keep old →
-    o ≡ sum_by printed_by (drop keep old) → k ≡ sum_by read_by (drop keep old) → KeepsNewest Holds keep old new last o k
-newest_kept Holds keep old new last o k all rest printed read = record { all = all; rest = rest; printed = printed; read = read }
+pub newest_kept : {limit o k : ℕ} {bytes : List ℕ} {old new : List Record} {m : Shown} (keep : ℕ) → IsSound limit bytes old m → new ≡ take keep old →
+    o ≡ sum_by printed_by (drop keep old) → k ≡ sum_by read_by (drop keep old) → KeepsNewest (IsWithinReach m (length bytes)) keep old new m.state o k
+newest_kept keep sound rest printed read = record { all = sound.records; rest = rest; printed = printed; read = read }
 
 -- the first state that stays, as the records that stay say it
 pub record StaysFirst (Holds : State → Type 0) (keep : ℕ) (old new : List Record) (last : State) (o k : ℕ) : Type 0 where
@@ -174,9 +174,8 @@ pub record StaysFirst (Holds : State → Type 0) (keep : ℕ) (old new : List Re
   pub printed : o ≡ length (first_before new last).output
   pub read : k ≡ (first_before new last).position
 
-pub stays_first : (Holds : State → Type 0) (keep : ℕ) (old new : List Record) (last : State) (o k : ℕ) → KeepsNewest Holds keep old new last o k →
-    StaysFirst Holds keep old new last o k
-stays_first Holds keep old new last o k kept =
+pub stays_first : {Holds : State → Type 0} {keep o k : ℕ} {old new : List Record} {last : State} → KeepsNewest Holds keep old new last o k → StaysFirst Holds keep old new last o k
+stays_first {Holds} {keep = keep} {old = old} {new = new} {last = last} kept =
     let both : old ≡ new ++ drop keep old = sym (take-append-drop keep old) ∙ ap (λ (rs : List Record). rs ++ drop keep old) (sym kept.rest) in
     let all : AreRecords Holds (new ++ drop keep old) last = subst (λ (rs : List Record). AreRecords Holds rs last) both kept.all in
     let told = first_told Holds (drop keep old) (first_before new last) (parted Holds new (drop keep old) last all) in
@@ -188,13 +187,15 @@ stays_first Holds keep old new last o k kept =
     }
 
 -- the session is the one that the definitions say
-pub Commit_of_fields : {width after : Width} → (Holds : State → Type 0) (keep limit : ℕ) (bytes rest : List ℕ) (ended : Bool) (old new : List Record) (last there : State) (o k : ℕ) (p : PlainSession) →
-    plain_of limit width bytes ended old last ≡ p → KeepsNewest Holds keep old new last o k → rest ≡ drop k bytes → there ≡ released o k last → after ≡ width →
-    answer (Commit keep) p ≡ done (plain_of limit after rest ended new there)
-Commit_of_fields {width} {after} Holds keep limit bytes rest ended old new last there o k p view kept cut at still =
+pub Commit_of_fields : {keep limit o k : ℕ} {bytes rest : List ℕ} {ended : Bool} {old new : List Record} {m n : Shown} {Holds : State → Type 0} {p : PlainSession} → KeepsNewest Holds keep old new m.state o k →
+    rest ≡ drop k bytes → n ≡ record m { state = released o k m.state } → plain_of limit m.width bytes ended old m.state ≡ p →
+    answer (Commit keep) p ≡ done (plain_of limit n.width rest ended new n.state)
+Commit_of_fields {keep} {limit} {o} {k} {bytes} {rest} {ended} {old} {new} {m} {n} {Holds} kept cut at view =
+    let width = m.width in
+    let last = m.state in
     let q : PlainSession = plain_of limit width bytes ended old last in
     let u : State = first_before new last in
-    let first = stays_first Holds keep old new last o k kept in
+    let first = stays_first kept in
     let u_is : first_kept keep q ≡ u = ap (first_of last) first.states in
     let o_is : length (first_kept keep q).output ≡ o = ap (λ (s : State). length s.output) u_is ∙ sym first.printed in
     let k_is : (first_kept keep q).position ≡ k = ap (λ (s : State). s.position) u_is ∙ sym first.read in
@@ -208,25 +209,23 @@ Commit_of_fields {width} {after} Holds keep limit bytes rest ended old new last 
       last = released (o_is i) (k_is i) last;
     } in done committed_so)
     ∙ (λ i. let shown : PlainSession = record q { tape = record q.tape { bytes = sym cut i }; earlier = sym states i; last = released o k last } in done shown)
-    ∙ ap (λ (s : State). done (plain_of limit width rest ended new s)) (sym at)
-    ∙ ap (λ (w : Width). done (plain_of limit w rest ended new there)) (sym still)
+    ∙ ap (λ (shown : Shown). done (plain_of limit shown.width rest ended new shown.state)) (sym at)
 
 -- what it releases is there
-pub released_there : (Holds : State → Type 0) (keep : ℕ) (old new : List Record) (last : State) (o k : ℕ) →
-    KeepsNewest Holds keep old new last o k → (k ≤ last.position) × (o ≤ length last.output)
-released_there Holds keep old new last o k kept =
+pub released_there : {Holds : State → Type 0} {keep o k : ℕ} {old new : List Record} {last : State} → KeepsNewest Holds keep old new last o k → (k ≤ last.position) × (o ≤ length last.output)
+released_there {Holds} {keep = keep} {old = old} {new = new} {last = last} kept =
     let u : State = first_before new last in
-    let first = stays_first Holds keep old new last o k kept in
+    let first = stays_first kept in
     let far = beyond Holds new (drop keep old) last u first.records refl in
     (omega (arith, far.0, first.read), omega (arith, far.1, first.printed))
 
 -- and stands at the front of the output of each state that stays
-pub released_begins : {width : Width} → (Holds : State → Type 0) (keep limit : ℕ) (bytes : List ℕ) (ended : Bool) (old new : List Record) (last : State) (o k : ℕ) (p : PlainSession) (text : List ℕ) →
-    plain_of limit width bytes ended old last ≡ p → KeepsNewest Holds keep old new last o k → text ≡ take o last.output →
+pub released_begins : {width : Width} {Holds : State → Type 0} {keep limit o k : ℕ} {bytes : List ℕ} {ended : Bool} {old new : List Record} {last : State} {p : PlainSession} {text : List ℕ} →
+    KeepsNewest Holds keep old new last o k → plain_of limit width bytes ended old last ≡ p → text ≡ take o last.output →
     (text ≡ (first_kept keep p).output) × All (λ (s : State). IsFrontOf text s.output) (p.last ∷ take keep p.earlier)
-released_begins Holds keep limit bytes ended old new last o k p text view kept cut =
+released_begins {Holds = Holds} {keep = keep} {o = o} {old = old} {new = new} {last = last} {p = p} {text = text} kept view cut =
     let u : State = first_before new last in
-    let first = stays_first Holds keep old new last o k kept in
+    let first = stays_first kept in
     let fronts = fronts_kept Holds new (drop keep old) last u first.records refl in
     let front = front_of_first Holds new (drop keep old) last u first.records refl in
     let is : text ≡ u.output =
@@ -240,12 +239,11 @@ released_begins Holds keep limit bytes ended old new last o k p text view kept c
     )
 
 -- the fields stay sound
-pub IsSound-kept : (keep limit : ℕ) (bytes rest : List ℕ) (old new : List Record) (m n : Shown) (o k : ℕ) →
-    KeepsNewest (IsWithinReach m (length bytes)) keep old new m.state o k → rest ≡ drop k bytes → n ≡ record m { state = released o k m.state } →
-    IsSound limit bytes old m → IsSound limit rest new n
-IsSound-kept keep limit bytes rest old new m n o k kept cut at sound =
+pub IsSound-kept : {keep limit o k : ℕ} {bytes rest : List ℕ} {old new : List Record} {m n : Shown} → IsSound limit bytes old m → KeepsNewest (IsWithinReach m (length bytes)) keep old new m.state o k →
+    rest ≡ drop k bytes → n ≡ record m { state = released o k m.state } → IsSound limit rest new n
+IsSound-kept {keep} {o = o} {k = k} {bytes = bytes} {rest = rest} {old = old} {new = new} {m = m} {n = n} sound kept cut at =
     let u : State = first_before new m.state in
-    let first = stays_first (IsWithinReach m (length bytes)) keep old new m.state o k kept in
+    let first = stays_first kept in
     let shorter : length rest ≡ length bytes - k = ap length cut ∙ length-drop k bytes in
     let there : n.state ≡ released o k m.state = ap (λ (s : Shown). s.state) at in
     let start : IsAtStart (released o k u) = record {

@@ -1,4 +1,5 @@
 //! What a walk over several steps answers.
+ghost use Rattle.std.specs.Prelude.{◌≡◌, Some};
 
 use trac_rules::refusal::Refusal;
 
@@ -11,6 +12,19 @@ pub struct Walk {
     /// not meet it. None where all the steps that were wanted were taken, where the goal was met, or where
     /// `forward_within` stopped for what the records weigh.
     pub why: Option<Refusal>,
+}
+
+impl Walk {
+    // So many steps, the next of which was refused for this.
+    #[inline(always)]
+    pub(crate) fn refused(done: u64, refusal: Refusal) -> Walk
+        ensures { result ≡ record { done = done; why = Some refusal } }
+    {
+        Walk {
+            done,
+            why: Some(refusal),
+        }
+    }
 }
 
 /// How a search back ended that goes forward again where it meets nothing.

@@ -92,12 +92,7 @@ impl<A: Allocator + Copy> Session<A> {
         while done < n {
             let steps = match self.go_on(direction, goal, n - done) {
                 Ok(steps) => steps,
-                Err(refusal) => {
-                    return Walk {
-                        done,
-                        why: Some(refusal),
-                    };
-                }
+                Err(refusal) => return Walk::refused(done, refusal),
             };
             done += steps;
             if self.has_met(goal) {
@@ -118,10 +113,7 @@ impl<A: Allocator + Copy> Session<A> {
             done += self.pass(direction, n - done);
             if done < n {
                 if let Err(refusal) = self.go(direction) {
-                    return Walk {
-                        done,
-                        why: Some(refusal),
-                    };
+                    return Walk::refused(done, refusal);
                 }
                 done += 1;
             }
@@ -142,12 +134,7 @@ impl<A: Allocator + Copy> Session<A> {
                 self.steps_within(n - done, most),
             ) {
                 Ok(steps) => steps,
-                Err(refusal) => {
-                    return Walk {
-                        done,
-                        why: Some(refusal),
-                    };
-                }
+                Err(refusal) => return Walk::refused(done, refusal),
             };
             done += steps;
             if self.has_met(goal) || self.weight() > most {
@@ -206,10 +193,7 @@ impl<A: Allocator + Copy> Session<A> {
         let mut done = 0;
         while done < n {
             if let Err(refusal) = self.step() {
-                return Walk {
-                    done,
-                    why: Some(refusal),
-                };
+                return Walk::refused(done, refusal);
             }
             done += 1;
             if self.weight() > most {

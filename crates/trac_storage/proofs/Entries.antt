@@ -1,10 +1,9 @@
 -- Lists of named forms, of blocks and of names, one after another.
-use Rattle.std.proofs.Common.{◌≡◌, ℕ, suc, ◌+◌, ◌<◌, ◌≤◌, ◌&&◌, Bool, true, false, IsTrue, List, [], ◌∷◌, ◌++◌, length, take, drop, get_or, map, All, refl, sym, ap, subst, ◌∙◌, arith}
+use Rattle.std.proofs.Common.{◌≡◌, ℕ, ◌+◌, ◌<◌, ◌≤◌, ◌&&◌, Bool, true, false, IsTrue, List, [], ◌∷◌, ◌++◌, length, take, get_or, map, All, refl, sym, ap, subst, ◌∙◌, arith}
 use Rattle.std.specs.Prelude.{Option, Vec, nat_le}
 use Rattle.std.specs.List.{list_all}
-use Rattle.std.proofs.Math.Seq.{drop-cons}
 use Rattle.std.proofs.lemmas.Bool.{and_parts, false_from_ne_true, le-leb, leb-true}
-use Rattle.std.proofs.lemmas.List.{map-append, take_all, take_more}
+use Rattle.std.proofs.lemmas.List.{map-append, take_all}
 use Rattle.std.proofs.lemmas.List.Elements.{All-push}
 use Rattle.std.proofs.lemmas.List.Folds.{list_all-map, list_all_at, list_all_more}
 use Rattle.trac_rules.specs.declared.limit.TheConstants.{BLOCK_LIMIT, FORM_LIMIT, NAME_LIMIT}
@@ -13,23 +12,11 @@ use Rattle.trac_rules.specs.Proper.{IsProperForm}
 use Rattle.trac_rules.proofs.Cutting.{count_within_extent}
 use Rattle.trac_change.specs.Changed.{named_forms}
 use Rattle.trac_text.specs.Framing.{texts_of}
+use Rattle.trac_text.proofs.Framed.{map_next}
 use Rattle.trac_rules.specs.Undone.{names_in}
 use Rattle.trac_storage.specs.Loading.{AreProperEntries, block_entries_fit, blocks_fit, entries_fit, names_fit}
 
 -- ---- elements that are looked at one after another
-
-module _ {X Y : Type 0} (f : X → Y) where
-  -- the elements up to one and with it
-  pub map_next : (xs : List X) (i : ℕ) (x : X) → i < length xs → x ≡ get_or xs i x → map f (take (i + 1) xs) ≡ map f (take i xs) ++ f x ∷ []
-  map_next xs i x within is =
-      ap (map f) (take_more xs i x within ∙ ap (λ y. take i xs ++ y ∷ []) (sym is)) ∙ map-append f (take i xs) (x ∷ [])
-
-  -- those from it on
-  pub map_rest : (xs : List X) (i : ℕ) (x : X) → i < length xs → x ≡ get_or xs i x → map f (drop i xs) ≡ f x ∷ map f (drop (i + 1) xs)
-  map_rest xs i x within is =
-      ap (map f) (drop-cons xs i x within)
-      ∙ ap (λ y. f y ∷ map f (drop (suc i) xs)) (sym is)
-      ∙ (let next : suc i ≡ i + 1 = omega arith in ap (λ n. f x ∷ map f (drop n xs)) next)
 
 module _ {X : Type 0} (p : X → Bool) (xs : List X) (i : ℕ) (x : X) (within : i < length xs) (is : x ≡ get_or xs i x) where
   -- all pass so far, and one more does
@@ -40,22 +27,11 @@ module _ {X : Type 0} (p : X → Bool) (xs : List X) (i : ℕ) (x : X) (within :
   pub one_fails : p x ≡ false → list_all p xs ≡ false
   one_fails fails = list_all_at p xs i x within (ap p (sym is) ∙ fails)
 
--- P holds of one more element
-pub All_more : {X : Type 0} (P : X → Type 0) (xs : List X) (i : ℕ) (x : X) → i < length xs → x ≡ get_or xs i x → P x → All P (take i xs) → All P (take (i + 1) xs)
-All_more P xs i x within is here so_far = subst (λ ys. All P ys) (sym (take_more xs i x within ∙ ap (λ y. take i xs ++ y ∷ []) (sym is))) (All-push P (take i xs) x so_far here)
-
--- ---- five judgements
-
-module _ (a b c d e : Bool) where
-  -- of the same worth
-  pub judged_as : {f g h i j : Bool} → a ≡ f → b ≡ g → c ≡ h → d ≡ i → e ≡ j → (a && b && c && d && e) ≡ (f && g && h && i && j)
-  judged_as p q r s t = cc
-
-  -- where all are passed, the last two are
-  pub last_two : IsTrue (a && b && c && d && e) → IsTrue d × IsTrue e
-  last_two all =
-      let last = and_parts (a && b && c && d) e all in
-      ((and_parts (a && b && c) d last.0).1, last.1)
+-- where five judgements are passed, the last two are
+pub last_two : (a b c d e : Bool) → IsTrue (a && b && c && d && e) → IsTrue d × IsTrue e
+last_two a b c d e all =
+    let last = and_parts (a && b && c && d) e all in
+    ((and_parts (a && b && c) d last.0).1, last.1)
 
 -- ---- forms with their names
 

@@ -34,6 +34,11 @@ knows_same names known same is = (
   λ q h. stay_known names known q (subst (λ (ns : Names). IsTrue (set.contains ns q)) is h),
 )
 
+-- whether the call was refused or not
+pub same_names : {X E : Type 0} (result : Result X E) {known same : Names} → same ≡ known → OnOk result (same ≡ known) × OnErr result (KnowsSome [] known same)
+same_names (Ok x) is = (is, tt)
+same_names (Err e) {known} {same} is = (tt, knows_same [] known same is)
+
 -- no name is forgotten, whether all became known or some
 pub none_forgotten : {X E : Type 0} (result : Result X E) (names : List (List ℕ)) (known new : Names) → OnOk result (new ≡ knowing names known) → OnErr result (KnowsSome names known new) → AreAmong known new
 none_forgotten (Ok x) names known new all some = λ q h. subst (λ (ns : Names). IsTrue (set.contains ns q)) (sym all) (stay_known names known q h)

@@ -1,16 +1,14 @@
 -- Forms that are moved into a block one after another.
-use Rattle.std.proofs.Common.{◌≡◌, ℕ, Bool, true, false, cond, ◌||◌, List, [], ◌∷◌, ◌++◌, refl, sym, ap, subst, ◌∙◌, ⊎_elim}
-use Rattle.std.specs.Prelude.{None, Some, bytes_eq, Vec}
+use Rattle.std.proofs.Common.{◌≡◌, ℕ, Bool, true, false, cond, ◌||◌, List, [], ◌∷◌, ◌++◌, refl, sym, ap, ◌∙◌, ⊎_elim}
+use Rattle.std.specs.Prelude.{None, Some, bytes_eq}
 use Rattle.std.specs.FinMap as finite
 use Rattle.std.specs.List.{list_any}
 use Rattle.std.proofs.lemmas.Bool.{cases_Bool}
 use Rattle.std.proofs.lemmas.List.{append_assoc}
 use Rattle.std.proofs.lemmas.List.Folds.{list_any-append}
-use Rattle.trac_forms.specs.Stored.{Names, Stored}
-use Rattle.trac_text.specs.Framing.{texts_of}
+use Rattle.trac_forms.specs.Stored.{Names}
 use Rattle.trac_rules.specs.Blocks.{moved_out, with_name}
 use Rattle.trac_rules.specs.Form.{Form}
-use Rattle.trac_rules.specs.Handling.{without}
 use Rattle.trac_rules.specs.State.{Forms, Held}
 use Rattle.trac_rules.proofs.Found.{taken_get}
 use Rattle.trac_storage.specs.Changing.{AreAmong, KnowsNamed}
@@ -63,41 +61,6 @@ pub moves_none : (held : Held) (forms : Forms) (name : List ℕ) (names : List (
     held ++ moved_out (name ∷ names) forms ≡ all → held ++ moved_out names (finite.remove forms name) ≡ all
 moves_none held forms name names all missing so_far =
     ap (λ found. held ++ (with_name name found ++ moved_out names (finite.remove forms name))) missing ∙ so_far
-
--- the next name's form is taken from a store
-module _ {A : Type 0} (store taken : Stored) (items rest : List (Vec ℕ A)) (name : Vec ℕ A) (now : List ℕ) (gone : taken ≡ record store { forms = finite.remove store.forms now })
-    (is : now ≡ name.items) (steps : items ≡ name ∷ rest) where
-  pub left_next : (all : Stored) → record store { forms = without (texts_of items) store.forms } ≡ all → record taken { forms = without (texts_of rest) taken.forms } ≡ all
-  left_next all so_far =
-      ap (λ (s : Stored). let kept : Stored = record s { forms = without (texts_of rest) s.forms } in kept) gone
-      ∙ ap (λ n. let kept : Stored = record store { forms = without (texts_of rest) (finite.remove store.forms n) } in kept) is
-      ∙ ap (λ (ns : List (Vec ℕ A)). let kept : Stored = record store { forms = without (texts_of ns) store.forms } in kept) (sym steps)
-      ∙ so_far
-
-  pub moved_next : (held put : Held) (form : Form) (all : Held) → Some form ≡ finite.get store.forms now → put ≡ held ++ (name.items, form) ∷ [] →
-      held ++ moved_out (texts_of items) store.forms ≡ all → put ++ moved_out (texts_of rest) taken.forms ≡ all
-  moved_next held put form all there put_is so_far =
-      ap (λ (hs : Held). hs ++ moved_out (texts_of rest) taken.forms) put_is
-      ∙ ap (λ (s : Stored). (held ++ (name.items, form) ∷ []) ++ moved_out (texts_of rest) s.forms) gone
-      ∙ ap (λ n. (held ++ (name.items, form) ∷ []) ++ moved_out (texts_of rest) (finite.remove store.forms n)) is
-      ∙ moves_next held store.forms name.items form (texts_of rest) all (there ∙ ap (finite.get store.forms) is)
-      (ap (λ (ns : List (Vec ℕ A)). held ++ moved_out (texts_of ns) store.forms) (sym steps) ∙ so_far)
-
-  pub none_next : (held all : Held) → None ≡ finite.get store.forms now → held ++ moved_out (texts_of items) store.forms ≡ all → held ++ moved_out (texts_of rest) taken.forms ≡ all
-  none_next held all missing so_far =
-      ap (λ (s : Stored). held ++ moved_out (texts_of rest) s.forms) gone
-      ∙ ap (λ n. held ++ moved_out (texts_of rest) (finite.remove store.forms n)) is
-      ∙ moves_none held store.forms name.items (texts_of rest) all (missing ∙ ap (finite.get store.forms) is)
-      (ap (λ (ns : List (Vec ℕ A)). held ++ moved_out (texts_of ns) store.forms) (sym steps) ∙ so_far)
-
-  pub left_still : (held : Held) → HaveLeft held store.forms → HaveLeft held taken.forms
-  left_still held left = subst (λ (s : Stored). HaveLeft held s.forms) (sym gone) (still_left held store.forms now left)
-
-  pub left_also : (held put : Held) (form : Form) → put ≡ held ++ (name.items, form) ∷ [] → HaveLeft held store.forms → HaveLeft put taken.forms
-  left_also held put form put_is left =
-      subst (λ (hs : Held). HaveLeft hs taken.forms) (sym put_is)
-      (subst (λ (s : Stored). HaveLeft (held ++ (name.items, form) ∷ []) s.forms) (sym gone)
-      (subst (λ n. HaveLeft (held ++ (n, form) ∷ []) (finite.remove store.forms now)) is (left_too held store.forms now form left)))
 
 -- names that are known stay so
 pub knows_still : (held : Held) (known more : Names) → AreAmong known more → KnowsNamed held known → KnowsNamed held more

@@ -1,5 +1,5 @@
 -- Forms and blocks that are put back: the names of the forms are known, and the order in which they come does not matter.
-use Rattle.std.proofs.Common.{◌≡◌, ℕ, zero, suc, ◌+◌, ◌-◌, Bool, true, false, cond, List, [], ◌∷◌, ◌++◌, length, take, drop, refl, sym, ap, subst, ◌∙◌, is_some, IsTrue}
+use Rattle.std.proofs.Common.{◌≡◌, ℕ, zero, suc, ◌-◌, Bool, true, false, cond, List, [], ◌∷◌, ◌++◌, length, take, refl, sym, ap, subst, ◌∙◌, is_some, IsTrue}
 use Rattle.std.specs.Prelude.{Option, Some, None, ◌&&◌, IfSome, bytes_eq, nat_le, nat_lt, not, slice_get, slice_set, option_and_then, unwrap_or}
 use Rattle.std.specs.Bool.{then_some}
 use Rattle.std.specs.FinMap as finite
@@ -20,7 +20,6 @@ use Rattle.trac_rules.specs.Undone.{are_free, are_there, is_erased, joined_back,
 use Rattle.trac_rules.proofs.NamedForms.{get-put, one_name, only_equal_tie}
 use Rattle.trac_forms.specs.Stored.{AreApart, KnowsAll, Names, Stored, changing, storage_in, unsegmented}
 use Rattle.trac_change.specs.Changed.{pointed}
-use Rattle.trac_change.proofs.Weighed.{next_held}
 use Rattle.trac_storage.specs.Changing.{KnowsNamed}
 use Rattle.trac_storage.specs.Returning.{KnowsBefore}
 
@@ -88,35 +87,12 @@ put_before_all (entry ∷ held) forms name form apart =
     last_of [] first last f all = all.0
     last_of (other ∷ others) first last f all = last_of others first last f all.1
 
--- the last of them is put
-pub put_next : (store put : Stored) (held fewer : Held) (name : List ℕ) (form : Form) (all : Stored) → held ≡ fewer ++ (name, form) ∷ [] → AreApart held →
-    put ≡ record store { forms = finite.insert store.forms name form } →
-    record store { forms = with_all held store.forms } ≡ all → record put { forms = with_all fewer put.forms } ≡ all
-put_next store put held fewer name form all is apart put_is so_far =
-    ap (λ (s : Stored). let after : Stored = record s { forms = with_all fewer s.forms } in after) put_is
-    ∙ ap (λ (forms : Forms). let after : Stored = record store { forms = forms } in after) (put_before_all fewer store.forms name form (subst AreApart is apart))
-    ∙ ap (λ (es : Held). let after : Stored = record store { forms = with_all es store.forms } in after) (sym is)
-    ∙ so_far
-
 -- its name is known, and so are those of the others
 pub knows_last : (fewer : Held) (known : Names) (entry : List ℕ × Form) → KnowsNamed (fewer ++ entry ∷ []) known → KnowsNamed fewer known × IsTrue (set.contains known entry.0)
 knows_last [] known entry knows = (tt, knows.0)
 knows_last (first ∷ fewer) known entry knows =
     let rest = knows_last fewer known entry knows.1 in
     ((knows.0, rest.0), rest.1)
-
--- ---- forms that are taken
-
--- its form is taken
-pub next_gone : (store taken : Stored) (held : Held) (i : ℕ) (entry : List ℕ × Form) (name : List ℕ) (all : Stored) → slice_get held i ≡ Some entry → name ≡ entry.0 →
-    taken ≡ record store { forms = finite.remove store.forms name } →
-    record store { forms = without (names_in (drop i held)) store.forms } ≡ all → record taken { forms = without (names_in (drop (i + 1) held)) taken.forms } ≡ all
-next_gone store taken held i entry name all is same gone so_far =
-    let after = λ (s : Stored). let kept : Stored = record s { forms = without (names_in (drop (i + 1) held)) s.forms } in kept in
-    ap after gone
-    ∙ ap (λ n. after (record store { forms = finite.remove store.forms n })) same
-    ∙ ap (λ (es : Held). let kept : Stored = record store { forms = without (names_in es) store.forms } in kept) (sym (next_held held i entry is))
-    ∙ so_far
 
 -- ---- erased blocks
 

@@ -1,85 +1,88 @@
 -- Begun functions that are put into the neutral text, one argument after another.
 use Rattle.std.proofs.Common.{◌≡◌, ℕ, zero, suc, ◌+◌, ◌-◌, ◌<◌, ◌≤◌, List, [], ◌∷◌, ◌++◌, length, take, drop, get_or, map, refl, sym, ap, ◌∙◌, subst, arith}
 use Rattle.std.specs.Prelude.{Option, Some, None, Vec}
-use Rattle.std.proofs.Math.Seq.{drop-append_seam, drop-cons, get_or-append_seam, take-append_seam}
-use Rattle.std.proofs.lemmas.List.{append_assoc, append-nil, length-append, length-map, length-reverse, length-take-le, map-append, take-map, take_more, take_all, drop_all}
-use Rattle.std.proofs.lemmas.List.Elements.{All-head, All-push, All-tail}
+use Rattle.std.specs.List.{concat}
+use Rattle.std.proofs.lemmas.List.{append_assoc, append-nil, drop_more, length-append, length-map, length-take-le, map-append, take-map, take_more, take_all}
+use Rattle.std.proofs.lemmas.List.Elements.{All-get_or, All-head, All-tail, All-take}
 use Rattle.trac_gap.specs.Ends.{Ends, item_count}
 use Rattle.trac_rules.specs.declared.kind.Kind.{Kind}
 use Rattle.trac_rules.specs.Limits.{argument_bytes, marks, total_length}
 use Rattle.trac_rules.specs.State.{Frame}
 use Rattle.trac_text.specs.declared.mark.Mark.{Mark}
-use Rattle.trac_text.specs.Framing.{texts_of, EachGathers, HasGrown, argument_count, frame_of, frames_of, function_bytes, functions_of, marked_in, with_function, with_functions}
-use Rattle.trac_text.specs.Neutral.{IsOrdered, Neutral, marked, neutral_of}
+use Rattle.trac_text.specs.Framing.{texts_of, EachGathers, argument_count, frame_of, frames_of, function_bytes, functions_of}
+use Rattle.trac_text.specs.Marks.{argument_marks, comma_marks, mark_at}
+use Rattle.trac_text.specs.Neutral.{Neutral}
 use Rattle.trac_text.proofs.Ending.{reverse_first}
-use Rattle.trac_rules.proofs.Bounded.{total_length-append}
-use Rattle.trac_text.specs.Marks.{mark_at}
+use Rattle.trac_text.proofs.NeutralAgain.{Shows, mark_size, shows_function, text_size}
 use Rattle.trac_text.proofs.Marking.{reverse_push}
+use Rattle.trac_rules.proofs.Bounded.{total_length-append}
 
--- ---- one argument
+-- ---- elements that are looked at one after another
 
--- the texts and the marks with one argument more
-abbrev pub text_with : Ends ℕ → List ℕ → Ends ℕ
-text_with text argument = record text { left = text.left ++ argument }
+module _ {X Y : Type 0} (f : X → Y) (xs : List X) (i : ℕ) (x : X) (within : i < length xs) (is : x ≡ get_or xs i x) where
+  -- the elements up to one and with it
+  pub map_next : map f (take (i + 1) xs) ≡ map f (take i xs) ++ f x ∷ []
+  map_next = ap (map f) (take_more xs i x within ∙ ap (λ y. take i xs ++ y ∷ []) (sym is)) ∙ map-append f (take i xs) (x ∷ [])
 
-abbrev pub marks_with : Ends ℕ → Ends Mark → Option Kind → Ends Mark
-marks_with text ms o = record ms { left = ms.left ++ mark_at (length text.left) o ∷ [] }
-
--- what they are read as
-neutral_with : (text : Ends ℕ) (ms : Ends Mark) (o : Option Kind) (argument : List ℕ) →
-    neutral_of (marked_in (text_with text argument) (marks_with text ms o)) ≡ marked o argument (neutral_of (marked_in text ms))
-neutral_with text ms o argument =
-    rw (reverse_push ms.left (mark_at (length text.left) o), take-append_seam text.left argument, drop-append_seam text.left argument) refl
-
--- and the marks stay in order
-ordered_with : (text : Ends ℕ) (ms : Ends Mark) (o : Option Kind) (argument : List ℕ) → (o ≡ None → 0 < length ms.left) → IsOrdered (marked_in text ms) →
-    IsOrdered (marked_in (text_with text argument) (marks_with text ms o))
-ordered_with text ms o argument above ordered =
-    rw (reverse_push ms.left (mark_at (length text.left) o))
-    (omega (arith, length-append text.left argument), (λ e. rw length-reverse (above e)), ordered)
+  -- those from it on
+  pub map_rest : map f (drop i xs) ≡ f x ∷ map f (drop (i + 1) xs)
+  map_rest = ap (map f) (drop_more xs i x within) ∙ ap (λ y. f y ∷ map f (drop (i + 1) xs)) (sym is)
 
 -- ---- the arguments of one function
 
--- the neutral text with a function of this kind, which these arguments begin, or, where none is named, with further ones of the innermost
-abbrev pub with_arguments : Option Kind → List (List ℕ) → Neutral → Neutral
-with_arguments o [] n = n
-with_arguments o (text ∷ texts) n = with_arguments None texts (marked o text n)
+-- the marks of a function are those of its arguments
+argument_marks-all : (finished : List (List ℕ)) (gathered : List ℕ) (place : ℕ) (o : Option Kind) →
+    argument_marks place o (finished ++ gathered ∷ []) ≡ mark_at place o ∷ comma_marks place (map length finished)
+argument_marks-all [] gathered place o = refl
+argument_marks-all (text ∷ finished) gathered place o = ap (λ ms. mark_at place o ∷ ms) (argument_marks-all finished gathered (place + length text) None)
 
--- a function with some arguments, of which this one is gathered
-frame_last : (kind : Kind) (texts : List (List ℕ)) (text : List ℕ) → frame_of kind (texts ++ text ∷ []) ≡ record { kind = kind; arguments = texts; gathered = text }
-frame_last kind texts text =
-    let count : length (texts ++ text ∷ []) - 1 ≡ length texts = omega (arith, length-append texts (text ∷ [])) in
-    rw (count, take-append_seam texts (text ∷ []), get_or-append_seam texts text [] []) refl
+-- all texts but the last, and the last one
+texts-last : (texts : List (List ℕ)) → 1 ≤ length texts → texts ≡ take (length texts - 1) texts ++ get_or texts (length texts - 1) [] ∷ []
+texts-last texts some =
+    sym (take_all (length texts - 1 + 1) texts (omega arith)) ∙ take_more texts (length texts - 1) [] (omega arith)
 
--- is begun with further ones
-further : (kind : Kind) (before texts : List (List ℕ)) (text base : List ℕ) (frames : List Frame) →
-    with_arguments None texts (record { base = base; frames = record { kind = kind; arguments = before; gathered = text } ∷ frames })
-    ≡ record { base = base; frames = frame_of kind (before ++ text ∷ texts) ∷ frames }
-further kind before [] text base frames = ap (λ (f : Frame). let n : Neutral = record { base = base; frames = f ∷ frames } in n) (sym (frame_last kind before text))
-further kind before (next ∷ texts) text base frames =
-    further kind (before ++ text ∷ []) texts next base frames
-    ∙ ap (λ ts. let n : Neutral = record { base = base; frames = frame_of kind ts ∷ frames } in n) (append_assoc before (text ∷ []) (next ∷ texts))
+-- with them the function is the innermost one
+shows_texts : (text : List ℕ) (ms : List Mark) (n : Neutral) (kind : Kind) (texts : List (List ℕ)) → 1 ≤ length texts → Shows text ms n →
+    Shows (text ++ concat texts) (ms ++ argument_marks (length text) (Some kind) texts) (record n { frames = frame_of kind texts ∷ n.frames })
+shows_texts text ms n kind texts some shown =
+    let finished : List (List ℕ) = take (length texts - 1) texts in
+    let gathered : List ℕ = get_or texts (length texts - 1) [] in
+    subst (λ ts. Shows (text ++ concat ts) (ms ++ argument_marks (length text) (Some kind) ts) (record n { frames = frame_of kind texts ∷ n.frames })) (sym (texts-last texts some))
+    (subst (λ marks. Shows (text ++ concat (finished ++ gathered ∷ [])) (ms ++ marks) (record n { frames = frame_of kind texts ∷ n.frames }))
+    (sym (argument_marks-all finished gathered (length text) (Some kind)))
+    (shows_function text ms n kind (record { finished = finished; gathered = gathered }) shown))
 
-pub function_with : (kind : Kind) (texts : List (List ℕ)) (n : Neutral) → 1 ≤ length texts → with_arguments (Some kind) texts n ≡ with_function (kind, texts) n
-function_with kind [] n some = absurd (omega arith)
-function_with kind (text ∷ texts) n some = further kind [] texts text n.base n.frames
+-- with the arguments that are left, texts and marks are what they are to be, and there is room for these
+pub record HasPut (o : Option Kind) (left : List (List ℕ)) (text : Ends ℕ) (ms : Ends Mark) (text_end : Ends ℕ) (ms_end : Ends Mark) : Type 0 where
+  pub text_is : record text { left = text.left ++ concat left } ≡ text_end
+  pub marks_are : record ms { left = ms.left ++ argument_marks (length text.left) o left } ≡ ms_end
+  pub text_room : item_count text + total_length left ≤ text.capacity
+  pub mark_room : item_count ms + length left ≤ ms.capacity
 
--- ---- functions
+-- so it is after the next of them
+pub put_next : {o : Option Kind} (argument : List ℕ) {left : List (List ℕ)} {text text_next text_end : Ends ℕ} {ms ms_next ms_end : Ends Mark} →
+    HasPut o (argument ∷ left) text ms text_end ms_end → text_next ≡ record text { left = text.left ++ argument } →
+    ms_next ≡ record ms { left = ms.left ++ mark_at (length text.left) o ∷ [] } → HasPut None left text_next ms_next text_end ms_end
+put_next {o} argument {left} {text} {text_end = text_end} {ms = ms} {ms_next = ms_next} {ms_end = ms_end} put text_is ms_is =
+    let mark : Mark = mark_at (length text.left) o in
+    let longer : Ends ℕ = record text { left = text.left ++ argument } in
+    subst (λ e. HasPut None left e ms_next text_end ms_end) (sym text_is) (subst (λ e. HasPut None left longer e text_end ms_end) (sym ms_is) (record {
+      text_is = ap (λ bytes. let all : Ends ℕ = record text { left = bytes } in all) (append_assoc text.left argument (concat left)) ∙ put.text_is;
+      marks_are =
+          ap (λ more. let all : Ends Mark = record ms { left = more } in all)
+          (append_assoc ms.left (mark ∷ []) (argument_marks (length (text.left ++ argument)) None left)
+          ∙ ap (λ n. ms.left ++ mark ∷ argument_marks n None left) (length-append text.left argument))
+          ∙ put.marks_are;
+      text_room = omega (arith, put.text_room, length-append text.left argument);
+      mark_room = omega (arith, put.mark_room, length-append ms.left (mark ∷ []));
+    }))
 
-functions_with : (functions : List (Kind × List (List ℕ))) (base : List ℕ) (frames : List Frame) →
-    with_functions functions (record { base = base; frames = frames }) ≡ record { base = base; frames = frames_of functions ++ frames }
-functions_with [] base frames = refl
-functions_with (function ∷ functions) base frames =
-    functions_with functions base (frame_of function.0 function.1 ∷ frames)
-    ∙ ap (λ (fs : List Frame). let n : Neutral = record { base = base; frames = fs } in n)
-    (sym (ap (λ (fs : List Frame). fs ++ frames) (reverse_first (frame_of function.0 function.1) (map (λ f. frame_of f.0 f.1) functions))
-    ∙ append_assoc (frames_of functions) (frame_of function.0 function.1 ∷ []) frames))
-
--- after a base text alone
-pub functions_of_base : (functions : List (Kind × List (List ℕ))) (base : List ℕ) →
-    with_functions functions (record { base = base; frames = [] }) ≡ record { base = base; frames = frames_of functions }
-functions_of_base functions base =
-    functions_with functions base [] ∙ ap (λ (fs : List Frame). let n : Neutral = record { base = base; frames = fs } in n) (append-nil (frames_of functions))
+-- and after the last one nothing is left to do
+pub put_all : {o : Option Kind} {left : List (List ℕ)} {text text_end : Ends ℕ} {ms ms_end : Ends Mark} → HasPut o left text ms text_end ms_end → left ≡ [] → (text ≡ text_end) × (ms ≡ ms_end)
+put_all {o} {left} {text} {ms = ms} put none = (
+  ap (λ bytes. let all : Ends ℕ = record text { left = bytes } in all) (sym (append-nil text.left) ∙ ap (λ ts. text.left ++ concat ts) (sym none)) ∙ put.text_is,
+  ap (λ more. let all : Ends Mark = record ms { left = more } in all) (sym (append-nil ms.left) ∙ ap (λ ts. ms.left ++ argument_marks (length text.left) o ts) (sym none)) ∙ put.marks_are,
+)
 
 -- ---- sizes
 
@@ -87,19 +90,12 @@ functions_of_base functions base =
 pub total_more : {A : Type 0} (texts : List (Vec ℕ A)) (i : ℕ) (text : Vec ℕ A) → i < length texts → text ≡ get_or texts i text →
     total_length (texts_of (take (i + 1) texts)) ≡ total_length (texts_of (take i texts)) + length text.items
 total_more {A} texts i text within is =
-    ap (λ (ts : List (Vec ℕ A)). total_length (texts_of ts)) (take_more texts i text within ∙ ap (λ (t : Vec ℕ A). take i texts ++ t ∷ []) (sym is))
-    ∙ ap total_length (map-append (λ (t : Vec ℕ A). t.items) (take i texts) (text ∷ []))
-    ∙ total_length-append (texts_of (take i texts)) text.items
+    ap total_length (map_next (λ (t : Vec ℕ A). t.items) texts i text within is) ∙ total_length-append (texts_of (take i texts)) text.items
 
 -- one more function
-function_more : {A : Type 0} (size : Kind × List (List ℕ) → ℕ) (total : List (Kind × List (List ℕ)) → ℕ) →
-    ((fs : List (Kind × List (List ℕ))) (f : Kind × List (List ℕ)) → total (fs ++ f ∷ []) ≡ total fs + size f) →
-    (functions : List (Kind × Vec (Vec ℕ A) A)) (i : ℕ) (f : Kind × Vec (Vec ℕ A) A) → i < length functions → f ≡ get_or functions i f →
-    total (functions_of (take (i + 1) functions)) ≡ total (functions_of (take i functions)) + size (f.0, texts_of f.1.items)
-function_more {A} size total push functions i f within is =
-    ap (λ (fs : List (Kind × Vec (Vec ℕ A) A)). total (functions_of fs)) (take_more functions i f within ∙ ap (λ (g : Kind × Vec (Vec ℕ A) A). take i functions ++ g ∷ []) (sym is))
-    ∙ ap total (map-append (λ (g : Kind × Vec (Vec ℕ A) A). (g.0, texts_of g.1.items)) (take i functions) (f ∷ []))
-    ∙ push (functions_of (take i functions)) (f.0, texts_of f.1.items)
+functions_of-next : {A : Type 0} (functions : List (Kind × Vec (Vec ℕ A) A)) (i : ℕ) (f : Kind × Vec (Vec ℕ A) A) → i < length functions → f ≡ get_or functions i f →
+    functions_of (take (i + 1) functions) ≡ functions_of (take i functions) ++ (f.0, texts_of f.1.items) ∷ []
+functions_of-next {A} = map_next (λ (g : Kind × Vec (Vec ℕ A) A). (g.0, texts_of g.1.items))
 
 function_bytes-push : (fs : List (Kind × List (List ℕ))) (f : Kind × List (List ℕ)) → function_bytes (fs ++ f ∷ []) ≡ function_bytes fs + total_length f.1
 function_bytes-push [] f = omega arith
@@ -111,105 +107,13 @@ argument_count-push (g ∷ fs) f = omega (arith, argument_count-push fs f)
 
 module _ {A : Type 0} (functions : List (Kind × Vec (Vec ℕ A) A)) (i : ℕ) (f : Kind × Vec (Vec ℕ A) A) (within : i < length functions) (is : f ≡ get_or functions i f) where
   pub bytes_more : function_bytes (functions_of (take (i + 1) functions)) ≡ function_bytes (functions_of (take i functions)) + total_length (texts_of f.1.items)
-  bytes_more = function_more (λ g. total_length g.1) function_bytes function_bytes-push functions i f within is
+  bytes_more = ap function_bytes (functions_of-next functions i f within is) ∙ function_bytes-push (functions_of (take i functions)) (f.0, texts_of f.1.items)
 
   pub count_more : argument_count (functions_of (take (i + 1) functions)) ≡ argument_count (functions_of (take i functions)) + length f.1.items
   count_more =
-      function_more (λ g. length g.1) argument_count argument_count-push functions i f within is
+      ap argument_count (functions_of-next functions i f within is)
+      ∙ argument_count-push (functions_of (take i functions)) (f.0, texts_of f.1.items)
       ∙ ap (λ n. argument_count (functions_of (take i functions)) + n) (length-map f.1.items (λ (t : Vec ℕ A). t.items))
-
--- no part of the texts has more bytes than all of them
-pub total_within : (texts : List (List ℕ)) (i : ℕ) → total_length (take i texts) ≤ total_length texts
-total_within [] zero = omega arith
-total_within [] (suc i) = omega arith
-total_within (text ∷ texts) zero = omega arith
-total_within (text ∷ texts) (suc i) = omega (arith, total_within texts i)
-
--- ---- the loop over the arguments of one function
-
--- what has been put so far, of these arguments of a function of this kind
-pub record HasPut {A : Type 0} (kind : Kind) (arguments : List (Vec ℕ A)) (text : Ends ℕ) (ms : Ends Mark) (i : ℕ) (o : Option Kind) (text_now : Ends ℕ) (ms_now : Ends Mark) : Type 0 where
-  pub neutral : with_arguments o (texts_of (drop i arguments)) (neutral_of (marked_in text_now ms_now)) ≡ with_arguments (Some kind) (texts_of arguments) (neutral_of (marked_in text ms))
-  pub ordered : IsOrdered (marked_in text_now ms_now)
-  pub grown : HasGrown (total_length (texts_of (take i arguments))) text text_now
-  pub marks_grown : HasGrown i ms ms_now
-  pub above : o ≡ None → 0 < length ms_now.left
-
-module _ {A : Type 0} (kind : Kind) (arguments : List (Vec ℕ A)) (text : Ends ℕ) (ms : Ends Mark) where
-  -- one more
-  pub put_next : (i : ℕ) (o : Option Kind) (text_now text_next : Ends ℕ) (ms_now ms_next : Ends Mark) (argument : Vec ℕ A) → i < length arguments → argument ≡ get_or arguments i argument →
-      HasPut kind arguments text ms i o text_now ms_now → text_next ≡ text_with text_now argument.items → ms_next ≡ marks_with text_now ms_now o →
-      HasPut kind arguments text ms (i + 1) None text_next ms_next
-  put_next i o text_now text_next ms_now ms_next argument within is put text_is ms_is =
-      subst (λ (e : Ends ℕ). HasPut kind arguments text ms (i + 1) None e ms_next) (sym text_is)
-      (subst (λ (e : Ends Mark). HasPut kind arguments text ms (i + 1) None (text_with text_now argument.items) e) (sym ms_is) (record {
-        neutral =
-            ap (with_arguments None (texts_of (drop (i + 1) arguments))) (neutral_with text_now ms_now o argument.items)
-            ∙ ap (λ ts. with_arguments o ts (neutral_of (marked_in text_now ms_now))) (sym rest)
-            ∙ put.neutral;
-        ordered = ordered_with text_now ms_now o argument.items put.above put.ordered;
-        grown = record {
-          left = omega (arith, length-append text_now.left argument.items, put.grown.left, total_more arguments i argument within is);
-          right = put.grown.right;
-          capacity = put.grown.capacity;
-        };
-        marks_grown = record {
-          left = omega (arith, length-append ms_now.left (mark_at (length text_now.left) o ∷ []), put.marks_grown.left);
-          right = put.marks_grown.right;
-          capacity = put.marks_grown.capacity;
-        };
-        above = λ _. omega (arith, length-append ms_now.left (mark_at (length text_now.left) o ∷ []));
-      }))
-    where
-      rest : texts_of (drop i arguments) ≡ argument.items ∷ texts_of (drop (i + 1) arguments)
-      rest =
-          ap texts_of (drop-cons arguments i argument within)
-          ∙ ap (λ (t : Vec ℕ A). t.items ∷ texts_of (drop (suc i) arguments)) (sym is)
-          ∙ (let next : suc i ≡ i + 1 = omega arith in ap (λ n. argument.items ∷ texts_of (drop n arguments)) next)
-
-  -- and there is room for it
-  pub room_next : (i : ℕ) (o : Option Kind) (text_now : Ends ℕ) (ms_now : Ends Mark) (argument : Vec ℕ A) → i < length arguments → argument ≡ get_or arguments i argument →
-      HasPut kind arguments text ms i o text_now ms_now → item_count text + total_length (texts_of arguments) ≤ text.capacity → item_count ms + length arguments ≤ ms.capacity →
-      (item_count text_now + length argument.items ≤ text_now.capacity) × (item_count ms_now < ms_now.capacity)
-  room_next i o text_now ms_now argument within is put text_room mark_room = (
-    omega (
-      arith,
-      put.grown.left,
-      ap length put.grown.right,
-      put.grown.capacity,
-      text_room,
-      total_more arguments i argument within is,
-      total_within (texts_of arguments) (i + 1),
-      ap total_length (map-take (i + 1)),
-    ),
-    omega (arith, put.marks_grown.left, ap length put.marks_grown.right, put.marks_grown.capacity, mark_room),
-  )
-    where
-      map-take : (n : ℕ) → texts_of (take n arguments) ≡ take n (texts_of arguments)
-      map-take n = sym (take-map (λ (t : Vec ℕ A). t.items) n arguments)
-
-  -- all of them
-  pub put_all : (i : ℕ) (o : Option Kind) (text_now : Ends ℕ) (ms_now : Ends Mark) → 1 ≤ length arguments → length arguments ≤ i → i ≤ length arguments →
-      HasPut kind arguments text ms i o text_now ms_now →
-      (neutral_of (marked_in text_now ms_now) ≡ with_function (kind, texts_of arguments) (neutral_of (marked_in text ms))) × IsOrdered (marked_in text_now ms_now)
-      × HasGrown (total_length (texts_of arguments)) text text_now × HasGrown (length arguments) ms ms_now
-  put_all i o text_now ms_now some past within put = (
-    ap (λ (ts : List (Vec ℕ A)). with_arguments o (texts_of ts) (neutral_of (marked_in text_now ms_now))) (sym (drop_all i arguments past))
-        ∙ put.neutral
-        ∙ function_with kind (texts_of arguments) (neutral_of (marked_in text ms)) (omega (arith, length-map arguments (λ (t : Vec ℕ A). t.items), some)),
-    put.ordered,
-    subst (λ (ts : List (Vec ℕ A)). HasGrown (total_length (texts_of ts)) text text_now) (take_all i arguments past) put.grown,
-    (let same : i ≡ length arguments = omega arith in subst (λ n. HasGrown n ms ms_now) same put.marks_grown),
-  )
-
--- ---- the loop over functions
-
--- what has been begun so far, of these functions
-pub record HasBegun {A : Type 0} (functions : List (Kind × Vec (Vec ℕ A) A)) (text : Ends ℕ) (ms : Ends Mark) (i : ℕ) (text_now : Ends ℕ) (ms_now : Ends Mark) : Type 0 where
-  pub neutral : with_functions (functions_of (drop i functions)) (neutral_of (marked_in text_now ms_now)) ≡ with_functions (functions_of functions) (neutral_of (marked_in text ms))
-  pub ordered : IsOrdered (marked_in text_now ms_now)
-  pub grown : HasGrown (function_bytes (functions_of (take i functions))) text text_now
-  pub marks_grown : HasGrown (argument_count (functions_of (take i functions))) ms ms_now
 
 -- no part of the functions has more bytes, and more arguments, than all of them
 bytes_within : (functions : List (Kind × List (List ℕ))) (i : ℕ) → function_bytes (take i functions) ≤ function_bytes functions
@@ -224,89 +128,7 @@ count_within [] (suc i) = omega arith
 count_within (f ∷ functions) zero = omega arith
 count_within (f ∷ functions) (suc i) = omega (arith, count_within functions i)
 
-module _ {A : Type 0} (functions : List (Kind × Vec (Vec ℕ A) A)) (text : Ends ℕ) (ms : Ends Mark) where
-  abbrev seen : Kind × Vec (Vec ℕ A) A → Kind × List (List ℕ)
-  seen f = (f.0, texts_of f.1.items)
-
-  functions-take : (n : ℕ) → functions_of (take n functions) ≡ take n (functions_of functions)
-  functions-take n = sym (take-map seen n functions)
-
-  -- one more
-  pub begun_next : (i : ℕ) (text_now text_next : Ends ℕ) (ms_now ms_next : Ends Mark) (f : Kind × Vec (Vec ℕ A) A) → i < length functions → f ≡ get_or functions i f →
-      HasBegun functions text ms i text_now ms_now →
-      neutral_of (marked_in text_next ms_next) ≡ with_function (seen f) (neutral_of (marked_in text_now ms_now)) →
-      IsOrdered (marked_in text_next ms_next) → HasGrown (total_length (texts_of f.1.items)) text_now text_next → HasGrown (length f.1.items) ms_now ms_next →
-      HasBegun functions text ms (i + 1) text_next ms_next
-  begun_next i text_now text_next ms_now ms_next f within is begun one ordered grown marks_grown = record {
-    neutral =
-        ap (with_functions (functions_of (drop (i + 1) functions))) one
-        ∙ ap (λ fs. with_functions fs (neutral_of (marked_in text_now ms_now))) (sym rest)
-        ∙ begun.neutral;
-    ordered = ordered;
-    grown = record {
-      left = omega (arith, begun.grown.left, grown.left, bytes_more functions i f within is);
-      right = grown.right ∙ begun.grown.right;
-      capacity = grown.capacity ∙ begun.grown.capacity;
-    };
-    marks_grown = record {
-      left = omega (arith, begun.marks_grown.left, marks_grown.left, count_more functions i f within is);
-      right = marks_grown.right ∙ begun.marks_grown.right;
-      capacity = marks_grown.capacity ∙ begun.marks_grown.capacity;
-    };
-  }
-    where
-      rest : functions_of (drop i functions) ≡ seen f ∷ functions_of (drop (i + 1) functions)
-      rest =
-          ap functions_of (drop-cons functions i f within)
-          ∙ ap (λ (g : Kind × Vec (Vec ℕ A) A). seen g ∷ functions_of (drop (suc i) functions)) (sym is)
-          ∙ (let next : suc i ≡ i + 1 = omega arith in ap (λ n. seen f ∷ functions_of (drop n functions)) next)
-
-  -- and there is room for it
-  pub room_of_next : (i : ℕ) (text_now : Ends ℕ) (ms_now : Ends Mark) (f : Kind × Vec (Vec ℕ A) A) → i < length functions → f ≡ get_or functions i f →
-      HasBegun functions text ms i text_now ms_now → item_count text + function_bytes (functions_of functions) ≤ text.capacity →
-      item_count ms + argument_count (functions_of functions) ≤ ms.capacity →
-      (item_count text_now + total_length (texts_of f.1.items) ≤ text_now.capacity) × (item_count ms_now + length f.1.items ≤ ms_now.capacity)
-  room_of_next i text_now ms_now f within is begun text_room mark_room = (
-    omega (
-      arith,
-      begun.grown.left,
-      ap length begun.grown.right,
-      begun.grown.capacity,
-      text_room,
-      bytes_more functions i f within is,
-      bytes_within (functions_of functions) (i + 1),
-      ap function_bytes (functions-take (i + 1)),
-    ),
-    omega (
-      arith,
-      begun.marks_grown.left,
-      ap length begun.marks_grown.right,
-      begun.marks_grown.capacity,
-      mark_room,
-      count_more functions i f within is,
-      count_within (functions_of functions) (i + 1),
-      ap argument_count (functions-take (i + 1)),
-    ),
-  )
-
-  -- all of them
-  pub begun_all : (i : ℕ) (text_now : Ends ℕ) (ms_now : Ends Mark) → length functions ≤ i → HasBegun functions text ms i text_now ms_now →
-      (neutral_of (marked_in text_now ms_now) ≡ with_functions (functions_of functions) (neutral_of (marked_in text ms))) × IsOrdered (marked_in text_now ms_now)
-      × HasGrown (function_bytes (functions_of functions)) text text_now × HasGrown (argument_count (functions_of functions)) ms ms_now
-  begun_all i text_now ms_now past begun = (
-    ap (λ (fs : List (Kind × Vec (Vec ℕ A) A)). with_functions (functions_of fs) (neutral_of (marked_in text_now ms_now))) (sym (drop_all i functions past))
-        ∙ begun.neutral,
-    begun.ordered,
-    subst (λ (fs : List (Kind × Vec (Vec ℕ A) A)). HasGrown (function_bytes (functions_of fs)) text text_now) (take_all i functions past) begun.grown,
-    subst (λ (fs : List (Kind × Vec (Vec ℕ A) A)). HasGrown (argument_count (functions_of fs)) ms ms_now) (take_all i functions past) begun.marks_grown,
-  )
-
 -- ---- the sizes of frames are those of the functions
-
--- all texts but the last, and the last one
-texts-last : (texts : List (List ℕ)) → 1 ≤ length texts → texts ≡ take (length texts - 1) texts ++ get_or texts (length texts - 1) [] ∷ []
-texts-last texts some =
-    sym (take_all (length texts - 1 + 1) texts (omega arith)) ∙ take_more texts (length texts - 1) [] (omega arith)
 
 frame_bytes : (kind : Kind) (texts : List (List ℕ)) → total_length (frame_of kind texts).arguments + length (frame_of kind texts).gathered ≡ total_length texts
 frame_bytes kind [] = omega arith
@@ -355,11 +177,61 @@ marks_of_frames {A} (f ∷ functions) each =
       count,
     )
 
--- ---- each function has an argument
+-- ---- the loop over functions
 
--- one more has
-pub gathers_next : {A : Type 0} (functions : List (Kind × Vec (Vec ℕ A) A)) (i : ℕ) (f : Kind × Vec (Vec ℕ A) A) → i < length functions → f ≡ get_or functions i f →
-    1 ≤ length f.1.items → EachGathers (take i functions) → EachGathers (take (i + 1) functions)
-gathers_next {A} functions i f within is here so_far =
-    subst EachGathers (sym (take_more functions i f within ∙ ap (λ (g : Kind × Vec (Vec ℕ A) A). take i functions ++ g ∷ []) (sym is)))
-    (All-push (λ (g : Kind × Vec (Vec ℕ A) A). 1 ≤ length g.1.items) (take i functions) f so_far here)
+-- what has been begun so far, of these functions: they stand within the base text, and nothing else has changed
+pub record HasBegun {A : Type 0} (functions : List (Kind × Vec (Vec ℕ A) A)) (text : Ends ℕ) (ms : Ends Mark) (i : ℕ) (text_now : Ends ℕ) (ms_now : Ends Mark) : Type 0 where
+  pub shows : Shows text_now.left ms_now.left (record { base = text.left; frames = frames_of (functions_of (take i functions)) })
+  pub text_is : text_now ≡ record text { left = text_now.left }
+  pub marks_are : ms_now ≡ record ms { left = ms_now.left }
+
+module _ {A : Type 0} {functions : List (Kind × Vec (Vec ℕ A) A)} {text text_now : Ends ℕ} {ms ms_now : Ends Mark} {i : ℕ} (begun : HasBegun functions text ms i text_now ms_now) where
+  -- how large texts and marks are now
+  begun_sizes : EachGathers functions → ms.left ≡ [] → (item_count text_now ≡ item_count text + function_bytes (functions_of (take i functions))) × (text_now.capacity ≡ text.capacity)
+      × (item_count ms_now ≡ item_count ms + argument_count (functions_of (take i functions))) × (ms_now.capacity ≡ ms.capacity)
+  begun_sizes each none =
+      let part = All-take (λ (g : Kind × Vec (Vec ℕ A) A). 1 ≤ length g.1.items) i functions each in (
+        omega (arith, text_size text_now.left ms_now.left _ begun.shows, bytes_of_frames (functions_of (take i functions)), ap (λ (e : Ends ℕ). length e.right) begun.text_is),
+        ap (λ (e : Ends ℕ). e.capacity) begun.text_is,
+        omega (arith, mark_size text_now.left ms_now.left _ begun.shows, marks_of_frames (take i functions) part, ap length none, ap (λ (e : Ends Mark). length e.right) begun.marks_are),
+        ap (λ (e : Ends Mark). e.capacity) begun.marks_are,
+      )
+
+  -- there is room for the next one
+  pub begun_room : (f : Kind × Vec (Vec ℕ A) A) → i < length functions → f ≡ get_or functions i f → EachGathers functions → ms.left ≡ [] →
+      item_count text + function_bytes (functions_of functions) ≤ text.capacity → item_count ms + argument_count (functions_of functions) ≤ ms.capacity →
+      (item_count text_now + total_length (texts_of f.1.items) ≤ text_now.capacity) × (item_count ms_now + length f.1.items ≤ ms_now.capacity)
+  begun_room f within is each none text_room mark_room =
+      let sizes = begun_sizes each none in
+      let part : functions_of (take (i + 1) functions) ≡ take (i + 1) (functions_of functions) = sym (take-map (λ (g : Kind × Vec (Vec ℕ A) A). (g.0, texts_of g.1.items)) (i + 1) functions) in (
+        omega (arith, sizes.0, sizes.1, text_room, bytes_more functions i f within is, bytes_within (functions_of functions) (i + 1), ap function_bytes part),
+        omega (arith, sizes.2, sizes.3, mark_room, count_more functions i f within is, count_within (functions_of functions) (i + 1), ap argument_count part),
+      )
+
+  -- all of them fit
+  pub begun_all : EachGathers functions → length functions ≤ i → ms.left ≡ [] → item_count text + function_bytes (functions_of functions) ≤ text.capacity →
+      item_count ms + argument_count (functions_of functions) ≤ ms.capacity →
+      Shows text_now.left ms_now.left (record { base = text.left; frames = frames_of (functions_of functions) }) × (item_count text_now ≤ text_now.capacity) × (item_count ms_now ≤ ms_now.capacity)
+  begun_all each past none text_room mark_room =
+      let all = take_all i functions past in
+      let sizes = rw all at begun_sizes each none in
+      (rw all at begun.shows, omega (arith, sizes.0, sizes.1, text_room), omega (arith, sizes.2, sizes.3, mark_room))
+
+  -- and then it is begun
+  pub begun_next : (f : Kind × Vec (Vec ℕ A) A) → i < length functions → f ≡ get_or functions i f → EachGathers functions → {text_next : Ends ℕ} {ms_next : Ends Mark} →
+      text_next ≡ record text_now { left = text_now.left ++ concat (texts_of f.1.items) } →
+      ms_next ≡ record ms_now { left = ms_now.left ++ argument_marks (length text_now.left) (Some f.0) (texts_of f.1.items) } → HasBegun functions text ms (i + 1) text_next ms_next
+  begun_next f within is each {text_next} {ms_next} text_is ms_is = record {
+    shows = rw (text_is, ms_is, functions_of-next functions i f within is)
+        (rw (map-append (λ g. frame_of g.0 g.1) (functions_of (take i functions)) ((f.0, texts_of f.1.items) ∷ []), reverse_push)
+        (shows_texts text_now.left ms_now.left _ f.0 (texts_of f.1.items) some begun.shows));
+    text_is = text_is ∙ ap (λ (e : Ends ℕ). let all : Ends ℕ = record e { left = text_now.left ++ concat (texts_of f.1.items) } in all) begun.text_is
+        ∙ ap (λ (e : Ends ℕ). let all : Ends ℕ = record text { left = e.left } in all) (sym text_is);
+    marks_are = ms_is ∙ ap (λ (e : Ends Mark). let all : Ends Mark = record e { left = ms_now.left ++ argument_marks (length text_now.left) (Some f.0) (texts_of f.1.items) } in all) begun.marks_are
+        ∙ ap (λ (e : Ends Mark). let all : Ends Mark = record ms { left = e.left } in all) (sym ms_is);
+  }
+    where
+      some : 1 ≤ length (texts_of f.1.items)
+      some =
+          let here : 1 ≤ length f.1.items = subst (λ (g : Kind × Vec (Vec ℕ A) A). 1 ≤ length g.1.items) (sym is) (All-get_or (λ (g : Kind × Vec (Vec ℕ A) A). 1 ≤ length g.1.items) functions i f within each) in
+          omega (arith, here, length-map f.1.items (λ (t : Vec ℕ A). t.items))

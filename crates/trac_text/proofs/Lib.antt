@@ -6,8 +6,8 @@ pub mod Walking
 pub mod Depth
 pub mod Protected
 pub mod Marking
-pub mod Framed
 pub mod Joined
 pub mod NeutralAgain
+pub mod Framed
 pub mod TakenOut
 pub mod Lengths

@@ -5,6 +5,8 @@ use Rattle.std.specs.List.{concat}
 use Rattle.std.proofs.lemmas.List.{append-nil, append_assoc, length-append, length-reverse}
 use Rattle.std.proofs.lemmas.Option.{none-some}
 use Rattle.trac_rules.specs.declared.kind.Kind.{Kind}
+use Rattle.trac_rules.proofs.Bounded.{total_length-append}
+use Rattle.trac_text.proofs.Joined.{total-joined}
 use Rattle.trac_rules.specs.Limits.{argument_bytes, marks, total_length}
 use Rattle.trac_rules.specs.State.{Frame}
 use Rattle.trac_text.specs.declared.mark.Mark.{Mark}
@@ -85,8 +87,7 @@ mark_size text ms n shown = sym (length-reverse ms) ∙ sym (marks-neutral text 
 
 -- the bytes of a function are those of its arguments
 pub function_bytes : (finished : List (List ℕ)) (gathered : List ℕ) → length (concat (finished ++ gathered ∷ [])) ≡ total_length finished + length gathered
-function_bytes [] gathered = omega (arith, ap length (append-nil gathered))
-function_bytes (text ∷ finished) gathered = omega (arith, length-append text (concat (finished ++ gathered ∷ [])), function_bytes finished gathered)
+function_bytes finished gathered = sym (total-joined (finished ++ gathered ∷ [])) ∙ total_length-append finished gathered
 
 -- a function after those that are left, and those that are put back already, are no more than all together
 pub function_fits : (left back : List (Kind × Arguments)) (kind : Kind) (a : Arguments) →

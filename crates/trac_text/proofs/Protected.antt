@@ -1,7 +1,7 @@
--- A protected text, moved to the end of the text on the left; and lists that are filled anew.
-use Rattle.std.proofs.Common.{◌≡◌, ℕ, ◌+◌, ◌-◌, ◌<◌, ◌≤◌, List, [], ◌++◌, length, take, drop, sym, ap, ◌∙◌, arith}
+-- A protected text, moved to the end of the text on the left.
+use Rattle.std.proofs.Common.{◌≡◌, ℕ, ◌+◌, ◌<◌, ◌≤◌, List, ◌++◌, length, take, drop, sym, ap, ◌∙◌, arith}
 use Rattle.std.specs.Prelude.{Option, Some, None}
-use Rattle.std.proofs.lemmas.List.{append-nil, length-drop, length-take, drop-drop, take_all, drop_all}
+use Rattle.std.proofs.lemmas.List.{length-drop, length-take, drop-drop, take_all, drop_all}
 use Rattle.trac_gap.specs.Ends.{Ends}
 use Rattle.trac_rules.specs.Matching.{match_of, protected, protected_up_to}
 use Rattle.trac_text.specs.Moving.{with_protected}
@@ -39,17 +39,3 @@ taken_unmatched old cut last n c is l found =
     ∙ ap (λ (e : Ends ℕ). record e { left = e.left ++ take (length e.right) e.right; right = drop (length e.right) e.right }) c
     ∙ (λ i. record old { left = old.left ++ take_all (length (drop 1 old.right)) (drop 1 old.right) (omega arith) i; right = drop_all (length (drop 1 old.right)) (drop 1 old.right) (omega arith) i })
     ∙ ap (λ (o : Option ℕ). with_protected (protected_up_to o (drop 1 old.right)) old) (sym found)
-
--- ---- other items in the place of all
-
-pub refilled : {T : Type 0} (old a b c d : Ends T) (left right : List T) (n m : ℕ) → n ≡ length old.left → m ≡ length a.right → a ≡ record old { left = take (length old.left - n) old.left } →
-    b ≡ record a { right = drop m a.right } → c ≡ record b { left = b.left ++ left } → d ≡ record c { right = right ++ c.right } → d ≡ record old { left = left; right = right }
-refilled {T} old a b c d left right n m all rest cut gone put last =
-    let none : length old.left - n ≡ 0 = omega (arith, all) in
-    last
-    ∙ ap (λ (e : Ends T). record e { right = right ++ e.right }) put
-    ∙ ap (λ (e : Ends T). record e { left = e.left ++ left; right = right ++ e.right }) gone
-    ∙ ap (λ (xs : List T). record a { left = a.left ++ left; right = right ++ xs }) (drop_all m a.right (omega (arith, rest)))
-    ∙ ap (λ (e : Ends T). record e { left = e.left ++ left; right = right ++ [] }) cut
-    ∙ ap (λ (k : ℕ). record old { left = take k old.left ++ left; right = right ++ [] }) none
-    ∙ ap (λ (xs : List T). record old { left = left; right = xs }) (append-nil right)

@@ -167,8 +167,9 @@ none_left m number h =
 pub argument_counts : (marks : List Mark) (place : ℕ) → place < length marks → is_some (get_or marks place no_mark).frame ≡ false → function_count (take (place + 1) marks) ≡ function_count (take place marks)
 argument_counts marks place l none = count_by_more_no (λ m. is_some m.frame) marks place no_mark l none
 
-pub function_counts : (marks : List Mark) (place : ℕ) → IsNextFunction marks place → place < length marks → function_count (take (place + 1) marks) ≡ function_count (take place marks) + 1
-function_counts marks place next l = count_by_more_yes (λ m. is_some m.frame) marks place no_mark l (next.begins l)
+pub next_counts : (marks : List Mark) (place next : ℕ) → IsNextFunction marks place → place < length marks → function_count (take next marks) ≡ function_count (take (place + 1) marks) →
+    function_count (take next marks) ≡ function_count (take place marks) + 1
+next_counts marks place next begins l count = count ∙ count_by_more_yes (λ m. is_some m.frame) marks place no_mark l (begins.begins l)
 
 get_of_drop : {X : Type 0} (n : ℕ) (xs : List X) → slice_get (drop n xs) 0 ≡ slice_get xs n
 get_of_drop zero xs = refl

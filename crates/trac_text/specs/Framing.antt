@@ -1,12 +1,12 @@
 -- Begun functions as they are put into the neutral text, from the outermost on.
-use Rattle.std.specs.Prelude.{◌≡◌, ℕ, ◌+◌, ◌-◌, ◌≤◌, List, [], ◌∷◌, length, map, reverse, take, get_or, Vec}
+use Rattle.std.specs.Prelude.{ℕ, ◌+◌, ◌-◌, ◌≤◌, List, [], ◌∷◌, length, map, reverse, take, get_or, Vec}
 use Rattle.std.specs.List.{All}
 use Rattle.trac_gap.specs.Ends.{Ends}
 use Rattle.trac_rules.specs.declared.kind.Kind.{Kind}
 use Rattle.trac_rules.specs.Limits.{total_length}
 use Rattle.trac_rules.specs.State.{Frame}
 use Rattle.trac_text.specs.declared.mark.Mark.{Mark}
-use Rattle.trac_text.specs.Neutral.{MarkedText, Neutral}
+use Rattle.trac_text.specs.Neutral.{MarkedText}
 
 -- ---- as the code is given them
 
@@ -46,23 +46,8 @@ abbrev pub argument_count : List (Kind × List (List ℕ)) → ℕ
 argument_count [] = 0
 argument_count (function ∷ functions) = length function.1 + argument_count functions
 
--- base text and begun functions with one more, the innermost
-abbrev pub with_function : Kind × List (List ℕ) → Neutral → Neutral
-with_function function n = record n { frames = frame_of function.0 function.1 ∷ n.frames }
-
--- and with all of these
-abbrev pub with_functions : List (Kind × List (List ℕ)) → Neutral → Neutral
-with_functions [] n = n
-with_functions (function ∷ functions) n = with_functions functions (with_function function n)
-
 -- ---- in the texts
 
 -- the neutral text, on the left, with its marks
 abbrev pub marked_in : Ends ℕ → Ends Mark → MarkedText
 marked_in text marks = record { text = text.left; marks = marks.left }
-
--- only the list on the left has changed: it is so many items longer
-pub record HasGrown {T : Type 0} (n : ℕ) (old new : Ends T) : Type 0 where
-  pub left : length new.left ≡ length old.left + n
-  pub right : new.right ≡ old.right
-  pub capacity : new.capacity ≡ old.capacity

@@ -1,5 +1,5 @@
 //! The arguments of a function, borrowed from the neutral text.
-ghost use Rattle.std.specs.Prelude.{◌≡◌, ◌≤◌, ◌+◌, ◌-◌, ◌<◌, ◌^◌, ◌++◌, [], length, map, get_or, take, drop};
+ghost use Rattle.std.specs.Prelude.{◌≡◌, ℕ, ◌≤◌, ◌+◌, ◌-◌, ◌<◌, ◌^◌, ◌++◌, List, [], length, map, get_or, take, drop};
 ghost use Rattle.std.specs.List.{concat};
 ghost use Rattle.trac_text.specs.Cuts.{AreCuts, cut, lengths_between, start_of, end_of};
 
@@ -11,15 +11,12 @@ use trac_gap::SlidingBuf;
 /// Arguments that lie one after another in a text: seen as the list of these texts.
 #[derive(Drop)]
 pub struct Args<'a> {
+    from: usize,
     text: &'a [u8],
     marks: &'a [Mark],
-    from: usize,
 }
 
 impl<'a> Model for Args<'a> {
-    ghost use Rattle.std.specs.Prelude.{ℕ, List, length};
-    ghost use Rattle.trac_text.specs.Cuts.{AreCuts, cut};
-
     ghost Value = { List (List ℕ) };
 
     ghost view = { λ a. cut a.from a.marks.now a.text.now };

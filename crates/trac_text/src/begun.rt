@@ -15,9 +15,9 @@ use trac_rules::kind::Kind;
 #[derive(Drop)]
 pub struct BegunFunctions<'a> {
     text: &'a [u8],
-    marks: &'a [Mark],
     // the number of the mark at which the next one begins, or how many marks there are
     next: usize,
+    marks: &'a [Mark],
 }
 
 impl<'a> Model for BegunFunctions<'a> {

@@ -2,7 +2,7 @@
 ghost use Rattle.std.specs.Prelude.{◌≡◌, ◌==◌, ◌≤◌, [], length, reverse, slice_get, MatchOption};
 ghost use Rattle.trac_text.specs.Cuts.{AreArguments, BeginsFunction};
 ghost use Rattle.trac_text.specs.Frames.{IsFrame, IsInnermost};
-ghost use Rattle.trac_text.specs.Neutral.{AreMarks, IsDepth, IsOrdered, cut_back, neutral_of};
+ghost use Rattle.trac_text.specs.Neutral.{AreMarks, IsDepth, IsOrdered, MarkedText, cut_back, marked_text_code, neutral_of};
 
 use crate::args::Args;
 use crate::begun::BegunFunctions;
@@ -21,8 +21,6 @@ pub struct NeutralText<'a> {
 }
 
 impl<'a> Model for NeutralText<'a> {
-    ghost use Rattle.trac_text.specs.Neutral.{IsDepth, IsOrdered, MarkedText, marked_text_code};
-
     ghost Value = { MarkedText };
 
     ghost coded = { marked_text_code };

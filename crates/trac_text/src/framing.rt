@@ -1,11 +1,12 @@
 //! Texts and marks from active text, base text and begun functions.
-ghost use Rattle.std.specs.Prelude.{◌≡◌, ◌+◌, ◌-◌, ◌≤◌, ◌<◌, ◌^◌, ◌++◌, ◌∷◌, [], length, min, IfOk, IsOkUnless, IsTrue};
+ghost use Rattle.std.specs.Prelude.{◌≡◌, ◌+◌, ◌-◌, ◌≤◌, ◌<◌, ◌^◌, ◌++◌, [], length, min, IfOk, IsOkUnless, IsTrue, Some};
+ghost use Rattle.std.specs.List.{concat};
 ghost use Rattle.trac_gap.specs.Ends.{item_count};
 ghost use Rattle.trac_rules.specs.declared.limit.TheConstants.{MARK_LIMIT, TEXT_LIMIT};
 ghost use Rattle.trac_rules.specs.Limits.{total_length};
-ghost use Rattle.trac_text.specs.Framing.{EachGathers, HasGrown, argument_count, frames_of, function_bytes};
-ghost use Rattle.trac_text.specs.Framing.{functions_of, marked_in, texts_of, with_function, with_functions};
-ghost use Rattle.trac_text.specs.Marks.{mark_at};
+ghost use Rattle.trac_text.specs.Framing.{EachGathers, argument_count, frames_of, function_bytes, functions_of};
+ghost use Rattle.trac_text.specs.Framing.{marked_in, texts_of};
+ghost use Rattle.trac_text.specs.Marks.{argument_marks};
 ghost use Rattle.trac_text.specs.Neutral.{IsOrdered, neutral_of};
 
 use crate::ends;
@@ -63,28 +64,6 @@ pub fn mark_count<A: Allocator + Copy>(functions: &[Function<A>]) -> usize
     total
 }
 
-// Puts a mark at the end of the text on the left, and an argument after it: of a function of this kind, which is begun,
-// or, where none is named, a further one of the innermost.
-fn put_argument<A: Allocator + Copy, E: TwoEnds<u8, A>, M: TwoEnds<Mark, A>>(
-    text: &mut E,
-    marks: &mut M,
-    frame: Option<Kind>,
-    argument: &[u8],
-)
-    requires text { item_count (E.ends text.old) + length argument.now ≤ (E.ends text.old).capacity }
-    requires marks { item_count (M.ends marks.old) < (M.ends marks.old).capacity }
-    ensures text { E.ends text.new ≡ record (E.ends text.old) { left = (E.ends text.old).left ++ argument.now } }
-    ensures marks { M.ends marks.new ≡ record (M.ends marks.old) {
-      left = (M.ends marks.old).left ++ mark_at (length (E.ends text.old).left) frame ∷ [];
-    } }
-{
-    marks.push_left(Mark {
-        place: text.left().len(),
-        frame,
-    });
-    text.put_left(argument);
-}
-
 // Begins a function of this kind with these arguments.
 fn put_function<A: Allocator + Copy, E: TwoEnds<u8, A>, M: TwoEnds<Mark, A>>(
     text: &mut E,
@@ -92,40 +71,43 @@ fn put_function<A: Allocator + Copy, E: TwoEnds<u8, A>, M: TwoEnds<Mark, A>>(
     kind: Kind,
     arguments: &[Vec<u8, A>],
 )
-    requires some { 1 ≤ length arguments.now }
-    requires ordered { IsOrdered (marked_in (E.ends text.old) (M.ends marks.old)) }
     requires text { item_count (E.ends text.old) + total_length (texts_of arguments.now) ≤ (E.ends text.old).capacity }
     requires marks { item_count (M.ends marks.old) + length arguments.now ≤ (M.ends marks.old).capacity }
-    ensures neutral { neutral_of (marked_in (E.ends text.new) (M.ends marks.new))
-        ≡ with_function (kind, texts_of arguments.now) (neutral_of (marked_in (E.ends text.old) (M.ends marks.old))) }
-    ensures ordered { IsOrdered (marked_in (E.ends text.new) (M.ends marks.new)) }
-    ensures text { HasGrown (total_length (texts_of arguments.now)) (E.ends text.old) (E.ends text.new) }
-    ensures marks { HasGrown (length arguments.now) (M.ends marks.old) (M.ends marks.new) }
+    ensures text { E.ends text.new
+        ≡ record (E.ends text.old) { left = (E.ends text.old).left ++ concat (texts_of arguments.now) } }
+    ensures marks { M.ends marks.new ≡ record (M.ends marks.old) {
+      left = (M.ends marks.old).left
+          ++ argument_marks (length (E.ends text.old).left) (Some kind) (texts_of arguments.now);
+    } }
 {
     let mut frame = Some(kind);
     for argument in arguments {
-        put_argument(text, marks, frame, argument.as_slice());
+        let place = text.left().len();
+        marks.push_left(Mark { place, frame });
+        text.put_left(argument.as_slice());
         frame = None;
     }
 }
 
-// Begins functions, from the outermost on.
+// Begins functions within the text on the left, which has no marks, from the outermost on.
 fn put_functions<A: Allocator + Copy, E: TwoEnds<u8, A>, M: TwoEnds<Mark, A>>(
     text: &mut E,
     marks: &mut M,
     functions: &[Function<A>],
 )
     requires some { EachGathers functions.now }
-    requires ordered { IsOrdered (marked_in (E.ends text.old) (M.ends marks.old)) }
+    requires none { (M.ends marks.old).left ≡ [] }
     requires text { item_count (E.ends text.old) + function_bytes (functions_of functions.now)
         ≤ (E.ends text.old).capacity }
     requires marks { item_count (M.ends marks.old) + argument_count (functions_of functions.now)
         ≤ (M.ends marks.old).capacity }
     ensures neutral { neutral_of (marked_in (E.ends text.new) (M.ends marks.new))
-        ≡ with_functions (functions_of functions.now) (neutral_of (marked_in (E.ends text.old) (M.ends marks.old))) }
+        ≡ record { base = (E.ends text.old).left; frames = frames_of (functions_of functions.now) } }
     ensures ordered { IsOrdered (marked_in (E.ends text.new) (M.ends marks.new)) }
-    ensures text { HasGrown (function_bytes (functions_of functions.now)) (E.ends text.old) (E.ends text.new) }
-    ensures marks { HasGrown (argument_count (functions_of functions.now)) (M.ends marks.old) (M.ends marks.new) }
+    ensures text { E.ends text.new ≡ record (E.ends text.old) { left = (E.ends text.new).left } }
+    ensures marks { M.ends marks.new ≡ record (M.ends marks.old) { left = (M.ends marks.new).left } }
+    ensures holds { item_count (E.ends text.new) ≤ (E.ends text.new).capacity }
+    ensures mark_holds { item_count (M.ends marks.new) ≤ (M.ends marks.new).capacity }
 {
     for (kind, arguments) in functions {
         put_function(text, marks, *kind, arguments.as_slice());

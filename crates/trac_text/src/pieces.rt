@@ -1,7 +1,7 @@
 //! The arguments of begun functions, kept apart from the neutral text.
 ghost use Rattle.std.specs.Prelude.{◌≡◌, ◌+◌, ◌≤◌, ◌<◌, ◌^◌, ◌++◌, [], length, map, IfOk, IsOkUnless};
 ghost use Rattle.std.specs.List.{concat, sum};
-ghost use Rattle.trac_text.specs.Pieces.{all_texts, cut_at};
+ghost use Rattle.trac_text.specs.Pieces.{Arguments, all_texts, arguments_code, cut_at};
 
 use crate::args::Args;
 use std::alloc::{Allocator, Global};
@@ -19,10 +19,6 @@ pub struct Pieces<A: Allocator + Copy = Global> {
 }
 
 impl<A: Allocator + Copy> Model for Pieces<A> {
-    ghost use Rattle.std.specs.Prelude.{◌≤◌, length};
-    ghost use Rattle.std.specs.List.{sum};
-    ghost use Rattle.trac_text.specs.Pieces.{Arguments, arguments_code, cut_at};
-
     ghost Value = { Arguments };
 
     ghost coded = { arguments_code };
@@ -40,10 +36,6 @@ pub struct PiecesRef<'a> {
 }
 
 impl<'a> Model for PiecesRef<'a> {
-    ghost use Rattle.std.specs.Prelude.{◌≤◌, length};
-    ghost use Rattle.std.specs.List.{sum};
-    ghost use Rattle.trac_text.specs.Pieces.{Arguments, arguments_code, cut_at};
-
     ghost Value = { Arguments };
 
     ghost coded = { arguments_code };

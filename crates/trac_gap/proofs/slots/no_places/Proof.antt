@@ -28,7 +28,7 @@ use denote.Param.{layout}
 use denote.RawPtr.{Ptr, block_ptr}
 use denote.Steps.{nothing}
 use denote.Struct.Tuple.{Tuple}
-use denote.Triple.Clauses.{Clauses, Ended, closing}
+use denote.Triple.Clauses.{closing}
 use denote.Triple.Entry.{on_entry}
 use denote.Triple.Spec.{Meets, triple_of}
 use denote.Triple.Table.{entered}
@@ -46,13 +46,7 @@ module _ (E : El) where
   abbrev function : Fn
   function = inst_fn (args E) code.function
 
-  abbrev ended : Ended
-  ended = F.ended E.row
-
-  abbrev clauses : {M : Type 1} {𝓤 : Ura M} (𝓛 : Logic 𝓤) → (Memory → SProp 𝓤) → (Routine → Fun 𝓤) → Clauses 𝓤 ended
-  clauses 𝓛 = F.clauses E.row 𝓛
-
-  abbrev stayed : Stays ended.signature.params ended.kept
+  abbrev stayed : Stays (F.ended E.row).signature.params (F.ended E.row).kept
   stayed = tt
 
   abbrev Out : RattleType
@@ -64,18 +58,18 @@ module _ (E : El) where
 module _ (E : El) {M : Type 1} {𝓤 : Ura M} (𝓛 : Logic 𝓤) (at_mem : Memory → SProp 𝓤) (run : Routine → Fun 𝓤) (C : Calls 𝓤 𝓛.H) (Λ : Loops 𝓤 𝓛.H) (κ : Lft) (q : Share) where
   open 𝓛 use {H}
 
-  abbrev bound : (walk_of 𝓛 (ended E) (stayed E) (clauses E 𝓛 at_mem run)).Ghost
+  abbrev bound : (walk_of 𝓛 (F.ended E.row) (stayed E) (F.clauses E.row 𝓛 at_mem run)).Ghost
   bound = (((κ, tt), (q, tt), tt, tt, tt), tt)
 
   abbrev Post : Val → SProp 𝓤
-  Post = (walk_of 𝓛 (ended E) (stayed E) (clauses E 𝓛 at_mem run)).post bound
+  Post = (walk_of 𝓛 (F.ended E.row) (stayed E) (F.clauses E.row 𝓛 at_mem run)).post bound
 
   abbrev Had : List (Item 𝓤)
   Had = (‵ (flft κ q) ⊛ ‵ ftrue) ∷ []
 
   exits : (r : (Out E).Denot) (v : Val) → Gives E r → ent 𝓤 (⋆ 𝓛 (‵ ((Out E).own_val r (v ∷ [])) ∷ Had)) (Post v)
   exits r v gives =
-      qed 𝓛 (‵ ((Out E).own_val r (v ∷ [])) ∷ Had) ∵ suffices ! _ (ends_at 𝓛 (ended E) (stayed E) (clauses E 𝓛 at_mem run) bound v r tt tt) $ says ! gives $
+      qed 𝓛 (‵ ((Out E).own_val r (v ∷ [])) ∷ Had) ∵ suffices ! _ (ends_at 𝓛 (F.ended E.row) (stayed E) (F.clauses E.row 𝓛 at_mem run) bound v r tt tt) $ says ! gives $
       move ! (1 ∷ []) $ frame ! $ nothing ! $ done !
 
   walk : ent 𝓤 (⋆ 𝓛 Had) (WpFn 𝓤 H C Λ (function E) [] Post)
@@ -96,13 +90,13 @@ module _ (E : El) {M : Type 1} {𝓤 : Ura M} (𝓛 : Logic 𝓤) (at_mem : Memo
       use2 𝓛 (‵ ((Out E).own_val (start, places) (made ∷ []))) (pair_of 𝓛 (StartRow E) (PlacesRow E) start places (word p) mark) $
       returns ! (look_at ! 0 refl) $ free_all ! refl $ keep ! (0 ∷ 1 ∷ []) $ by ! (exits (start, places) made (refl, refl)))
 
-  entry : ent 𝓤 (on_entry 𝓛 (ended E).signature (κ, tt) (q, tt) tt tt) (WpFn 𝓤 H C Λ (function E) [] Post)
+  entry : ent 𝓤 (on_entry 𝓛 (F.ended E.row).signature (κ, tt) (q, tt) tt tt) (WpFn 𝓤 H C Λ (function E) [] Post)
   entry = qed 𝓛 ((‵ (flft κ q) ⊛ ‵ ftrue) ∷ ‵ (owns [] tt tt) ∷ []) ∵ keep ! (0 ∷ []) $ by ! walk
 
 meets : (E : El) {M : Type 1} {𝓤 : Ura M} (𝓛 : Logic 𝓤) (at_mem : Memory → SProp 𝓤) (run : Routine → Fun 𝓤) (𝓣 : Tables 𝓤 𝓛.H)
-    → Meets 𝓛 (ended E).signature (WpFn 𝓤 𝓛.H 𝓣.C 𝓣.Λ (function E)) (closing 𝓛 (ended E) (clauses E 𝓛 at_mem run))
+    → Meets 𝓛 (F.ended E.row).signature (WpFn 𝓤 𝓛.H 𝓣.C 𝓣.Λ (function E)) (closing 𝓛 (F.ended E.row) (F.clauses E.row 𝓛 at_mem run))
 meets E {𝓤 = 𝓤} 𝓛 at_mem run 𝓣 =
-    walk_Meets 𝓛 (ended E) (stayed E) tt (clauses E 𝓛 at_mem run) (WpFn 𝓤 𝓛.H 𝓣.C 𝓣.Λ (function E)) (WpFn-mono 𝓤 𝓛.H 𝓛.laws 𝓣 (function E))
+    walk_Meets 𝓛 (F.ended E.row) (stayed E) tt (F.clauses E.row 𝓛 at_mem run) (WpFn 𝓤 𝓛.H 𝓣.C 𝓣.Λ (function E)) (WpFn-mono 𝓤 𝓛.H 𝓛.laws 𝓣 (function E))
     (λ z. via 𝓤 _ (fst∗ 𝓤 _ (sep 𝓤 (fact 𝓤 (z.0.0.0 ⊑ E.row.lives)) (emp 𝓤))) (entry E 𝓛 at_mem run 𝓣.C 𝓣.Λ z.0.0.0 z.0.1.0))
 
 pub no_places_spec : {M : Type 1} → stated.statement M
@@ -110,5 +104,5 @@ unfolding tables_of
 no_places_spec 𝓤 𝓛 𝓜 𝓡 wired X LX =
     let E : El = record { row = X; laws = LX } in
     let 𝓣 : Tables 𝓤 𝓛.H = tables_of 𝓤 𝓛.H 𝓜 (tables 𝓤 𝓛.H 𝓜 𝓡 𝓡.env) in
-    entered 𝓤 𝓛.H (triple_of 𝓛 (ended E).signature (F.spec X 𝓛 𝓜.mem 𝓡.returns)) 𝓣.C 𝓣.Λ (#self (args E)) (function E) (code.unfolded 𝓤 𝓛.H 𝓜 𝓡 wired (X, tt))
+    entered 𝓤 𝓛.H (triple_of 𝓛 (F.ended E.row).signature (F.spec X 𝓛 𝓜.mem 𝓡.returns)) 𝓣.C 𝓣.Λ (#self (args E)) (function E) (code.unfolded 𝓤 𝓛.H 𝓜 𝓡 wired (X, tt))
     (meets E 𝓛 𝓜.mem 𝓡.returns 𝓣)

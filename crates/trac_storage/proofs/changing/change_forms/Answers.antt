@@ -1,30 +1,13 @@
 -- A change that stays in its place, under the name that the call gave.
 use Rattle.std.proofs.Common.{List, ℕ, [], ◌∷◌, ap, sym, subst, ◌∙◌, IsTrue}
-use Rattle.std.specs.FinMap as finite
 use Rattle.std.specs.FinSet as set
 use Rattle.std.proofs.lemmas.Result.{on_err_weaker, on_ok_weaker}
-use Rattle.trac_rules.specs.Undone.{pointer_lost}
-use Rattle.trac_change.specs.Changed.{pointed}
-use Rattle.trac_forms.specs.Stored.{Stored, storage_in}
+use Rattle.trac_forms.specs.Stored.{Stored}
 use Rattle.trac_storage.proofs.Known.{knows_same}
 use Rattle.trac_storage.proofs.changing.change_forms.Goals as goal
 
-pub returns-in-Point-clause-storage : goal.returns-in-Point-clause-storage
-returns-in-Point-clause-storage g c =
-    let store = c.args.store.now in
-    rw c.in-Point.is
-    (c.set_pointer.ensures.storage ∙ ap (λ n. pointed n c.in-Point.place (finite.get store.forms n) (storage_in store)) c.as_slice.ensures.value)
-
-pub returns-in-Point-clause-undone : goal.returns-in-Point-clause-undone
-returns-in-Point-clause-undone g c =
-    rw c.in-Point.is
-    (c.set_pointer.ensures.undone ∙ ap (λ n. pointer_lost (finite.get c.args.store.now.forms n)) c.as_slice.ensures.value)
-
-pub returns-in-Point-clause-names : goal.returns-in-Point-clause-names
-returns-in-Point-clause-names g c = rw c.in-Point.is c.set_pointer.ensures.names
-
-pub returns-in-Point-clause-places : goal.returns-in-Point-clause-places
-returns-in-Point-clause-places g c = rw c.in-Point.is c.set_pointer.ensures.places
+pub returns-in-Point : goal.returns-in-Point
+returns-in-Point g c = rw (c.in-Point.is, ← c.as_slice.ensures.value) (assumption)
 
 pub returns-in-Put-clause-names : goal.returns-in-Put-clause-names
 returns-in-Put-clause-names g c =

@@ -1,9 +1,10 @@
 use Rattle.std.proofs.Common.{List, ℕ, All, sym, subst, ◌∙◌, arith}
 use Rattle.std.specs.Prelude.{Option, Vec}
 use Rattle.std.proofs.lemmas.List.{take_all}
+use Rattle.std.proofs.lemmas.List.Elements.{All-more}
 use Rattle.trac_rules.specs.Form.{Form}
 use Rattle.trac_storage.specs.Loading.{IsProperList, block_entries_fit}
-use Rattle.trac_storage.proofs.Entries.{All_more, all_blocks_within, all_next, block_fails_within, blocks_over}
+use Rattle.trac_storage.proofs.Entries.{all_blocks_within, all_next, block_fails_within, blocks_over}
 use Rattle.trac_storage.proofs.parts.blocks_within.Goals as goal
 
 pub returns-then-blocks-gt-BLOCK_LIMIT-clause-fits : goal.returns-then-blocks-gt-BLOCK_LIMIT-clause-fits
@@ -20,8 +21,8 @@ loop-block-preserved g c =
     let fits = sym c.block_within.ensures.fits ∙ c.if-not-block_within.false in
     record {
       fits = all_next block_entries_fit c.args.blocks.now at.block-index c.block-item.result (omega (arith, c.loop-block-test.true)) c.block-item.is at.invariant.fits fits;
-      proper = All_more IsProperList c.args.blocks.now at.block-index c.block-item.result (omega (arith, c.loop-block-test.true)) c.block-item.is
-          (c.block_within.ensures.proper c.if-not-block_within.false) at.invariant.proper;
+      proper = All-more IsProperList c.args.blocks.now at.block-index c.block-item.result (omega (arith, c.loop-block-test.true)) at.invariant.proper
+          (subst IsProperList c.block-item.is (c.block_within.ensures.proper c.if-not-block_within.false));
     }
 
 pub returns-clause-fits : goal.returns-clause-fits

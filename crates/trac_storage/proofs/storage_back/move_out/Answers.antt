@@ -1,10 +1,7 @@
 -- The last block was there, and its forms have known names.
-use Rattle.std.proofs.Common.{ap, drop, sym, subst, ◌∙◌}
-use Rattle.std.specs.Prelude.{Some}
-use Rattle.trac_rules.specs.Blocks.{with_all}
+use Rattle.std.proofs.Common.{drop, sym}
 use Rattle.trac_rules.specs.Undone.{swapped_back}
-use Rattle.trac_forms.specs.Stored.{KnowsAll, Names, Stored, storage_in}
-use Rattle.trac_storage.specs.Changing.{KnowsNamed}
+use Rattle.trac_forms.specs.Stored.{storage_in}
 use Rattle.trac_storage.proofs.StorageBack.{is_moved_out, knows_each, knows_fewer, never_none}
 use Rattle.trac_storage.proofs.storage_back.move_out.Goals as goal
 
@@ -17,24 +14,17 @@ swap-requires g c =
     let store = c.args.store.now in
     let held = c.in-Some.block.held in
     let back = is_moved_out store.known c.get-name.ensures (drop 2 c.args.arguments.now) c.args.old (storage_in store) held (sym c.in-Some.ensures.last) c.requires in
-    subst (λ (s : Stored). KnowsAll s.known (swapped_back c.get-name.result.now c.args.old s.forms)) (sym c.pop_block.ensures.others)
-    (knows_fewer held store.known (swapped_back c.get-name.result.now c.args.old store.forms) back.knows)
+    rw c.pop_block.ensures.others (knows_fewer held store.known (swapped_back c.get-name.result.now c.args.old store.forms) back.knows)
 
 pub put_held-requires : goal.put_held-requires
 put_held-requires g c =
     let store = c.args.store.now in
     let held = c.in-Some.block.held in
     let back = is_moved_out store.known c.get-name.ensures (drop 2 c.args.arguments.now) c.args.old (storage_in store) held (sym c.in-Some.ensures.last) c.requires in
-    subst (λ (known : Names). KnowsNamed held known) (sym (ap (λ (s : Stored). s.known) c.swap.ensures ∙ ap (λ (s : Stored). s.known) c.pop_block.ensures.others))
-    (knows_each held store.known (swapped_back c.get-name.result.now c.args.old store.forms) back.knows)
+    rw (c.swap.ensures, c.pop_block.ensures.others) (knows_each held store.known (swapped_back c.get-name.result.now c.args.old store.forms) back.knows)
 
 pub returns-clause-storage : goal.returns-clause-storage
 returns-clause-storage g c =
     let store = c.args.store.now in
-    let held = c.in-Some.block.held in
-    (is_moved_out store.known c.get-name.ensures (drop 2 c.args.arguments.now) c.args.old (storage_in store) held (sym c.in-Some.ensures.last) c.requires).state
-    ∙ sym (
-    ap (λ (s : Stored). Some (storage_in s)) c.put_held.ensures
-    ∙ ap (λ (s : Stored). Some (storage_in (record s { forms = with_all held s.forms }))) c.swap.ensures
-    ∙ ap (λ (s : Stored). Some (storage_in (record s { forms = with_all held (swapped_back c.get-name.result.now c.args.old s.forms) }))) c.pop_block.ensures.others
-    )
+    rw (c.put_held.ensures, c.swap.ensures, c.pop_block.ensures.others)
+    (is_moved_out store.known c.get-name.ensures (drop 2 c.args.arguments.now) c.args.old (storage_in store) c.in-Some.block.held (sym c.in-Some.ensures.last) c.requires).state

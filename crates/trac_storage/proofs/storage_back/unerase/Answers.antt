@@ -1,10 +1,6 @@
 -- The erased block is there, and its address has a known name.
-use Rattle.std.proofs.Common.{ap, sym, subst, ◌∙◌, IsTrue}
-use Rattle.std.specs.Prelude.{Some, ◌&&◌}
+use Rattle.std.specs.Prelude.{◌&&◌}
 use Rattle.std.proofs.lemmas.Bool.{and_parts}
-use Rattle.std.specs.FinMap as finite
-use Rattle.std.specs.FinSet as set
-use Rattle.trac_forms.specs.Stored.{Stored, storage_in}
 use Rattle.trac_rules.specs.Undone.{is_erased, is_free}
 use Rattle.trac_storage.proofs.StorageBack.{erased_there, knows_put, tested}
 use Rattle.trac_storage.proofs.storage_back.unerase.Goals as goal
@@ -19,12 +15,9 @@ set_block-requires g c =
 pub put-requires : goal.put-requires
 put-requires g c =
     let store = c.args.store.now in
-    subst (λ (s : Stored). IsTrue (set.contains s.known c.args.name.now)) (sym c.set_block.ensures)
-    (knows_put store.known store.forms c.args.name.now c.args.address (tested (is_erased c.args.number store.blocks && is_free c.args.name.now store.forms) store.known _ c.requires).1)
+    rw c.set_block.ensures (knows_put store.known store.forms c.args.name.now c.args.address (tested (is_erased c.args.number store.blocks && is_free c.args.name.now store.forms) store.known _ c.requires).1)
 
 pub returns-clause-storage : goal.returns-clause-storage
 returns-clause-storage g c =
     let store = c.args.store.now in
-    (tested (is_erased c.args.number store.blocks && is_free c.args.name.now store.forms) store.known _ c.requires).2
-    ∙ ap (λ (s : Stored). Some (record { forms = finite.insert s.forms c.args.name.now c.args.address; blocks = s.blocks })) (sym c.set_block.ensures)
-    ∙ ap (λ (s : Stored). Some (storage_in s)) (sym c.put.ensures.put)
+    rw (c.put.ensures.put, c.set_block.ensures) (tested (is_erased c.args.number store.blocks && is_free c.args.name.now store.forms) store.known _ c.requires).2

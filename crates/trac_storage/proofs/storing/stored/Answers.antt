@@ -1,61 +1,48 @@
 -- The store holds what the parts say, or there is too much of it.
-use Rattle.std.proofs.Common.{List, All, map, IsTrue, refl, sym, ap, ◌∙◌, subst}
-use Rattle.std.specs.Prelude.{ℕ, Ok, Vec}
-use Rattle.std.specs.FinSet as set
+use Rattle.std.proofs.Common.{◌≡◌, ◌++◌, List, map, ap, ◌∙◌, refl, sym}
+use Rattle.std.specs.Prelude.{Ok}
 use Rattle.std.specs.List.{list_all}
 use Rattle.std.proofs.lemmas.Result.{err_from_is_err_and}
-use Rattle.trac_rules.specs.Outcomes.{MayRefuse, limited}
-use Rattle.trac_rules.specs.State.{Block, Forms, Storage, storage_of}
+use Rattle.trac_rules.specs.State.{Block, Storage, storage_of}
 use Rattle.trac_rules.proofs.Outcomes.{lacks_limited, limited_beyond, limited_within}
 use Rattle.trac_forms.specs.Outcomes.{as_refusal}
-use Rattle.trac_forms.specs.Stored.{KnowsAll}
 use Rattle.trac_change.specs.Changed.{named_forms}
-use Rattle.trac_text.specs.Framing.{texts_of}
-use Rattle.trac_rules.specs.Form.{Form}
-use Rattle.trac_storage.specs.Changing.{KnowsNamed}
-use Rattle.trac_storage.specs.Loading.{block_few, block_of, counts_fit, state_in}
+use Rattle.trac_storage.specs.Loading.{block_few, block_of, counts_fit, forms_of, state_in}
 use Rattle.trac_storage.proofs.Loaded.{knows_forms}
 use Rattle.trac_storage.proofs.MovedForms.{knows_still}
 use Rattle.trac_storage.proofs.Outcomes.{refuses_memory, refuses_with}
-use Rattle.trac_storage.proofs.Filling.{blocks_many, counts_kept, forms_many, whole_storage}
+use Rattle.trac_storage.proofs.Filling.{blocks_many, counts_kept, forms_many}
 use Rattle.trac_storage.proofs.storing.stored.Goals as goal
 
 pub returns-in_err-push_copies-clause-answer : goal.returns-in_err-push_copies-clause-answer
 returns-in_err-push_copies-clause-answer g c =
     let p = err_from_is_err_and c.from_residual-in_err-push_copies.result c.from_residual-in_err-push_copies.ensures.1 in
     let parts = c.args.parts.now in
-    let blocks = c.as_slice-2.result.now in
-    rw p.1
-    (refuses_with (λ (bs : List Block). list_all block_few bs) (map block_of blocks) counts_fit (storage_of (state_in parts)) p.0
-    (blocks_many parts c.as_slice.result.now blocks c.in_ok-store.store c.push_copies.new.store c.push_copies.new.store c.as_slice.ensures.value c.as_slice-2.ensures.value c.in_ok-store.ensures.forms)
-    (subst (MayRefuse (limited (λ (bs : List Block). list_all block_few bs) (Ok (map block_of blocks)))) (sym p.2) c.in_err-push_copies.ensures.err))
+    rw (p.1, p.2)
+    (refuses_with (λ (bs : List Block). list_all block_few bs) (map block_of parts.blocks.items) counts_fit (storage_of (state_in parts)) _ (blocks_many parts)
+    (rw c.as_slice-2.ensures.value at c.in_err-push_copies.ensures.err))
 
 pub returns-clause-answer : goal.returns-clause-answer
 returns-clause-answer g c =
     let parts = c.args.parts.now in
-    let same = whole_storage parts c.as_slice.result.now c.as_slice-2.result.now c.in_ok-store.store c.push_copies.new.store c.know_names.new.store c.as_slice.ensures.value c.as_slice-2.ensures.value
-    c.in_ok-store.ensures.forms c.in_ok-push_copies.ensures.pushed c.know_names.ensures.kept in
-    let counts = counts_kept parts c.as_slice.result.now c.as_slice-2.result.now c.in_ok-store.store c.push_copies.new.store c.know_names.new.store c.as_slice.ensures.value
-    c.as_slice-2.ensures.value c.in_ok-store.ensures.forms c.form_count.result c.form_count.ensures c.if-form_count-gt-FORM_COUNT_LIMIT.false c.in_ok-push_copies.ensures.few in
-    limited_within counts_fit (storage_of (state_in parts)) counts ∙ ap Ok (sym same)
+    let store_is = rw c.as_slice.ensures.value at c.in_ok-store.ensures.forms in
+    let few = rw c.as_slice-2.ensures.value at c.in_ok-push_copies.ensures.few in
+    let same = c.know_names.ensures.kept ∙ c.in_ok-push_copies.ensures.pushed
+    ∙ ap (λ (s : Storage). let all : Storage = record s { blocks = s.blocks ++ map block_of c.as_slice-2.result.now } in all) store_is in
+    limited_within counts_fit (storage_of (state_in parts)) (counts_kept parts c.in_ok-store.store store_is (rw c.form_count.ensures at c.if-form_count-gt-FORM_COUNT_LIMIT.false) few)
+    ∙ ap Ok (sym (rw c.as_slice-2.ensures.value at same))
 
 pub returns-clause-names : goal.returns-clause-names
 returns-clause-names g c =
-    let parts = c.args.parts.now in
-    let forms = named_forms c.as_slice.result.now in
+    let held = named_forms c.args.parts.now.forms.items in
     let known = c.know_names.new.store.known in
-    let same = whole_storage parts c.as_slice.result.now c.as_slice-2.result.now c.in_ok-store.store c.push_copies.new.store c.know_names.new.store c.as_slice.ensures.value c.as_slice-2.ensures.value
-    c.in_ok-store.ensures.forms c.in_ok-push_copies.ensures.pushed c.know_names.ensures.kept in
-    let among = λ (name : List ℕ) (h : IsTrue (set.contains c.in_ok-store.store.known name)).
-    c.know_names.ensures.names name (subst (λ names. IsTrue (set.contains names name)) (sym c.in_ok-push_copies.ensures.names) h) in
-    let named = knows_still forms c.in_ok-store.store.known known among c.in_ok-store.ensures.names in
-    subst (λ (fs : Forms). KnowsAll known fs) (sym (ap (λ (s : Storage). s.forms) same))
-    (knows_forms (named_forms parts.forms.items) known
-    (subst (λ (fs : List (Vec ℕ g.row.A.Denot × Form)). KnowsNamed (named_forms fs) known) c.as_slice.ensures.value named))
+    let among = rw c.in_ok-push_copies.ensures.names at c.know_names.ensures.names in
+    let forms : c.know_names.new.store.forms ≡ forms_of held =
+    ap (λ (s : Storage). s.forms) (c.know_names.ensures.kept ∙ c.in_ok-push_copies.ensures.pushed) ∙ ap (λ (s : Storage). s.forms) c.in_ok-store.ensures.forms ∙ rw c.as_slice.ensures.value refl in
+    rw forms (knows_forms held known (knows_still held c.in_ok-store.store.known known among (rw c.as_slice.ensures.value at c.in_ok-store.ensures.names)))
 
 pub returns-clause-further : goal.returns-clause-further
-returns-clause-further g c =
-    subst (λ (names : List (Vec ℕ g.row.A.Denot)). All (λ name. IsTrue (set.contains c.know_names.new.store.known name)) (texts_of names)) c.as_slice-3.ensures.value c.in_ok-know_names.ensures.known
+returns-clause-further g c = rw c.as_slice-3.ensures.value at c.in_ok-know_names.ensures.known
 
 pub returns-in_err-store-clause-answer : goal.returns-in_err-store-clause-answer
 returns-in_err-store-clause-answer g c =
@@ -65,10 +52,8 @@ returns-in_err-store-clause-answer g c =
 pub returns-then-form_count-gt-FORM_COUNT_LIMIT-clause-answer : goal.returns-then-form_count-gt-FORM_COUNT_LIMIT-clause-answer
 returns-then-form_count-gt-FORM_COUNT_LIMIT-clause-answer g c =
     let parts = c.args.parts.now in
-    let store = c.in_ok-store.store in
     limited_beyond counts_fit (storage_of (state_in parts))
-    (forms_many parts c.as_slice.result.now parts.blocks.items store store store c.as_slice.ensures.value refl c.in_ok-store.ensures.forms c.form_count.result c.form_count.ensures
-    c.if-form_count-gt-FORM_COUNT_LIMIT.true)
+    (forms_many parts c.in_ok-store.store (rw c.as_slice.ensures.value at c.in_ok-store.ensures.forms) (rw c.form_count.ensures at c.if-form_count-gt-FORM_COUNT_LIMIT.true))
 
 pub returns-in_err-know_names-clause-answer : goal.returns-in_err-know_names-clause-answer
 returns-in_err-know_names-clause-answer g c =

@@ -1,9 +1,11 @@
-use Rattle.std.proofs.Common.{length, ap}
-use Rattle.trac_text.proofs.Protected.{refilled}
+use Rattle.std.proofs.Common.{◌≡◌, ◌-◌, length, refl, ap, arith}
+use Rattle.std.proofs.lemmas.List.{append-nil, drop_all}
+use Rattle.trac_gap.specs.Ends.{Ends}
 use Rattle.trac_text.proofs.ends.refill.Goals as goal
 
 pub returns : goal.returns
 returns g c =
-    refilled (g.E.TwoEnds.ends c.args.list.now) (g.E.TwoEnds.ends c.cut_left.new.self) (g.E.TwoEnds.ends c.cut_right.new.self) (g.E.TwoEnds.ends c.put_left.new.self)
-    (g.E.TwoEnds.ends c.put_right.new.self) c.args.left.now c.args.right.now (length c.left.result.now) (length c.right.result.now) (ap length c.left.ensures.left) (ap length c.right.ensures.right)
-    c.cut_left.ensures c.cut_right.ensures c.put_left.ensures c.put_right.ensures
+    let old = g.E.TwoEnds.ends c.args.list.now in
+    let none : length old.left - length c.left.result.now ≡ 0 = omega (arith, ap length c.left.ensures.left) in
+    let gone = drop_all (length c.right.result.now) old.right (omega (arith, ap length c.right.ensures.right, ap (λ (e : Ends g.row.T.Denot). length e.right) c.cut_left.ensures)) in
+    rw (c.put_right.ensures, c.put_left.ensures, c.cut_right.ensures, c.cut_left.ensures, none, gone, append-nil) refl

@@ -1,47 +1,37 @@
 -- Each function is begun within the one before.
-use Rattle.std.proofs.Common.{ℕ, List, length, refl, ap, ◌∙◌, subst, arith}
-use Rattle.std.specs.Prelude.{Vec}
-use Rattle.trac_rules.specs.Limits.{total_length}
-use Rattle.trac_text.specs.Framing.{texts_of, HasGrown, marked_in, with_function}
-use Rattle.trac_text.specs.Neutral.{neutral_of}
-use Rattle.trac_text.proofs.Framed.{begun_all, begun_next, room_of_next}
+use Rattle.std.proofs.Common.{ℕ, List, [], ◌++◌, length, refl, sym, ap, ◌∙◌, subst, arith}
+use Rattle.std.specs.Prelude.{Some, Vec}
+use Rattle.std.specs.List.{concat}
+use Rattle.trac_gap.specs.Ends.{Ends}
+use Rattle.trac_text.specs.declared.mark.Mark.{Mark}
+use Rattle.trac_text.specs.Framing.{texts_of}
+use Rattle.trac_text.specs.Marks.{argument_marks}
+use Rattle.trac_text.proofs.Framed.{begun_all, begun_next, begun_room}
+use Rattle.trac_text.proofs.NeutralAgain.{Shows, shows_base}
 use Rattle.trac_text.proofs.framing.put_functions.Goals as goal
 
 pub loop-kind-init : goal.loop-kind-init
-loop-kind-init g c = record {
-  neutral = refl;
-  ordered = c.requires.ordered;
-  grown = record { left = omega arith; right = refl; capacity = refl };
-  marks_grown = record { left = omega arith; right = refl; capacity = refl };
-}
+loop-kind-init g c =
+    let base = (g.E.TwoEnds.ends c.args.text.now).left in
+    record { shows = subst (λ (ms : List Mark). Shows base ms (record { base = base; frames = [] })) (sym c.requires.none) (shows_base base); text_is = refl; marks_are = refl }
 
-pub returns : goal.returns
-returns g c =
-    let all = begun_all c.args.functions.now (g.E.TwoEnds.ends c.args.text.now) (g.M.TwoEnds.ends c.args.marks.now) c.loop-kind.kind-index
-    (g.E.TwoEnds.ends c.loop-kind.text) (g.M.TwoEnds.ends c.loop-kind.marks) (omega arith) c.loop-kind.invariant in
-    record { neutral = all.0; ordered = all.1; text = all.2; marks = all.3 }
-
-pub put_function-requires-clause-text : goal.put_function-requires-clause-text
-put_function-requires-clause-text g c =
-    let room = room_of_next c.args.functions.now (g.E.TwoEnds.ends c.args.text.now) (g.M.TwoEnds.ends c.args.marks.now) c.loop-kind.kind-index (g.E.TwoEnds.ends c.loop-kind.text)
-    (g.M.TwoEnds.ends c.loop-kind.marks) c.loop-kind-item.result (omega arith) c.loop-kind-item.is c.loop-kind.invariant c.requires.text c.requires.marks in
-    omega (arith, room.0, ap (λ (ts : List (Vec ℕ g.row.A.Denot)). total_length (texts_of ts)) c.as_slice.ensures.value)
-
-pub put_function-requires-clause-marks : goal.put_function-requires-clause-marks
-put_function-requires-clause-marks g c =
-    let room = room_of_next c.args.functions.now (g.E.TwoEnds.ends c.args.text.now) (g.M.TwoEnds.ends c.args.marks.now) c.loop-kind.kind-index (g.E.TwoEnds.ends c.loop-kind.text)
-    (g.M.TwoEnds.ends c.loop-kind.marks) c.loop-kind-item.result (omega arith) c.loop-kind-item.is c.loop-kind.invariant c.requires.text c.requires.marks in
-    omega (arith, room.1, ap length c.as_slice.ensures.value)
+pub put_function-requires : goal.put_function-requires
+put_function-requires g c =
+    let room = begun_room c.loop-kind.invariant c.loop-kind-item.result (omega arith) c.loop-kind-item.is c.requires.some c.requires.none c.requires.text c.requires.marks in
+    rw c.as_slice.ensures.value (record { text = room.0; marks = room.1 })
 
 pub loop-kind-preserved : goal.loop-kind-preserved
 loop-kind-preserved g c =
     let f = c.loop-kind-item.result in
-    let same = c.as_slice.ensures.value in
-    begun_next c.args.functions.now (g.E.TwoEnds.ends c.args.text.now) (g.M.TwoEnds.ends c.args.marks.now) c.loop-kind.kind-index
-    (g.E.TwoEnds.ends c.loop-kind.text) (g.E.TwoEnds.ends c.put_function.new.text) (g.M.TwoEnds.ends c.loop-kind.marks) (g.M.TwoEnds.ends c.put_function.new.marks)
-    f (omega arith) c.loop-kind-item.is c.loop-kind.invariant
-    (c.put_function.ensures.neutral
-    ∙ ap (λ (ts : List (Vec ℕ g.row.A.Denot)). with_function (f.0, texts_of ts) (neutral_of (marked_in (g.E.TwoEnds.ends c.loop-kind.text) (g.M.TwoEnds.ends c.loop-kind.marks)))) same)
-    c.put_function.ensures.ordered
-    (subst (λ (ts : List (Vec ℕ g.row.A.Denot)). HasGrown (total_length (texts_of ts)) (g.E.TwoEnds.ends c.loop-kind.text) (g.E.TwoEnds.ends c.put_function.new.text)) same c.put_function.ensures.text)
-    (subst (λ (ts : List (Vec ℕ g.row.A.Denot)). HasGrown (length ts) (g.M.TwoEnds.ends c.loop-kind.marks) (g.M.TwoEnds.ends c.put_function.new.marks)) same c.put_function.ensures.marks)
+    let text = g.E.TwoEnds.ends c.loop-kind.text in
+    let marks = g.M.TwoEnds.ends c.loop-kind.marks in
+    begun_next c.loop-kind.invariant f (omega arith) c.loop-kind-item.is c.requires.some
+    (c.put_function.ensures.text ∙ ap (λ (ts : List (Vec ℕ g.row.A.Denot)). let more : Ends ℕ = record text { left = text.left ++ concat (texts_of ts) } in more) c.as_slice.ensures.value)
+    (c.put_function.ensures.marks
+    ∙ ap (λ (ts : List (Vec ℕ g.row.A.Denot)). let more : Ends Mark = record marks { left = marks.left ++ argument_marks (length text.left) (Some f.0) (texts_of ts) } in more) c.as_slice.ensures.value)
+
+pub returns : goal.returns
+returns g c =
+    let begun = c.loop-kind.invariant in
+    let all = begun_all begun c.requires.some (omega arith) c.requires.none c.requires.text c.requires.marks in
+    record { neutral = all.0.same; ordered = all.0.ordered; text = begun.text_is; marks = begun.marks_are; holds = all.1; mark_holds = all.2 }

@@ -28,11 +28,9 @@ returns g c =
         reads = ap (λ (x : CallEntry). x.read) (sym first.1);
         prints = ap (λ (x : CallEntry). x.printed) (sym first.1);
       },
-      λ i. record {
+      λ i. record (c.self.view_is i).listed {
         calls = sym first.0 i;
         bytes = (ap (λ (w : Window ℕ). w.items) c.drop_front.ensures ∙ (λ j. drop (sym first.1 j).bytes (c.self.view_is j).listed.bytes)) i;
         commas = (ap (λ (w : Window ℕ). w.items) c.drop_front-2.ensures ∙ (λ j. drop (sym first.1 j).commas (c.self.view_is j).listed.commas)) i;
-        undone = (c.self.view_is i).listed.undone;
-        emptied = (c.self.view_is i).listed.emptied;
       },
     )

@@ -18,11 +18,5 @@ returns g c =
     λ texts newer last.
     let first = first_of texts_in newer texts c.in-Some.ensures.items (ap (λ (v : Lists). v.listed.emptied) c.self.view_is) last in (
       c.weight.ensures ∙ ap (λ (t : List ℕ × List Frame). weight (Idle t.0 t.1)) (sym first.1),
-      λ i. record {
-        calls = (c.self.view_is i).listed.calls;
-        bytes = (c.self.view_is i).listed.bytes;
-        commas = (c.self.view_is i).listed.commas;
-        undone = (c.self.view_is i).listed.undone;
-        emptied = sym first.0 i;
-      },
+      λ i. record (c.self.view_is i).listed { emptied = sym first.0 i },
     )

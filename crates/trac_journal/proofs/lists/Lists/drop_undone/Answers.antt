@@ -17,11 +17,5 @@ returns g c =
     λ undone newer last.
     let first = first_of undone_in newer undone c.in-Some.ensures.items (ap (λ (v : Lists). v.listed.undone) c.self.view_is) last in (
       c.weight.ensures ∙ ap undone_weight (sym first.1),
-      λ i. record {
-        calls = (c.self.view_is i).listed.calls;
-        bytes = (c.self.view_is i).listed.bytes;
-        commas = (c.self.view_is i).listed.commas;
-        undone = sym first.0 i;
-        emptied = (c.self.view_is i).listed.emptied;
-      },
+      λ i. record (c.self.view_is i).listed { undone = sym first.0 i },
     )

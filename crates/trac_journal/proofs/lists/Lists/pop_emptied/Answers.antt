@@ -10,13 +10,4 @@ pub returns : goal.returns
 returns g c =
     let seen = push_seen texts_in c.self.inside.emptied.items c.pop_back.new.self.items c.in-Some.emptied c.args.self.now.listed.emptied
     (ap (λ (v : Lists). v.listed.emptied) c.self.view_is) c.in-Some.ensures.items in
-    record {
-      others = λ i. record {
-        calls = (c.self.view_is i).listed.calls;
-        bytes = (c.self.view_is i).listed.bytes;
-        commas = (c.self.view_is i).listed.commas;
-        undone = (c.self.view_is i).listed.undone;
-        emptied = drop 1 (sym seen i);
-      };
-      first = ap idle_of (sym seen);
-    }
+    record { others = λ i. record (c.self.view_is i).listed { emptied = drop 1 (sym seen i) }; first = ap idle_of (sym seen) }

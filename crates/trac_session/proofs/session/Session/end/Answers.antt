@@ -1,4 +1,4 @@
-use Rattle.std.proofs.Common.{true, refl}
+use Rattle.std.proofs.Common.{refl}
 use Rattle.trac_rules.specs.declared.reply.Reply.TheVariants.{Done}
 use Rattle.trac_rules.specs.Session.{End}
 use Rattle.trac_session.proofs.Journaled.{End_of_fields}
@@ -10,6 +10,4 @@ returns g c = End_of_fields _ _ _ c.self.inside.journal.records _ _ c.self.view_
 
 pub invariant_of-self : goal.invariant_of-self
 invariant_of-self g c =
-    let inside = c.self.inside in
-    answered End Done inside.limit inside.width inside.tape.items inside.tape.items inside.ended true inside.journal.records inside.journal.records inside.machine inside.machine
-    c.self.invariant refl c.self.invariant.sound (End_of_fields _ _ _ inside.journal.records _ _ refl)
+    answered End Done c.self.invariant refl c.self.invariant.sound (End_of_fields _ _ _ c.self.inside.journal.records _ _ refl)

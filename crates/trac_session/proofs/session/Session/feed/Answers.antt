@@ -33,9 +33,6 @@ invariant_of-self g c =
 pub invariant_of-self-2 : goal.invariant_of-self-2
 invariant_of-self-2 g c =
     let count : c.len.result ≡ length c.self.inside.tape.items = c.len.ensures.len in
-    let inside = c.self.inside in
-    let longer = c.extend_from_slice.new.self.items in
-    answered (Feed c.args.bytes.now) Done inside.limit inside.width inside.tape.items longer inside.ended inside.ended inside.journal.records inside.journal.records inside.machine inside.machine
-    c.self.invariant refl
-    (IsSound-feed _ _ _ c.args.bytes.now inside.journal.records _ c.in-Ok.ensures.ok (omega (arith, c.self.invariant.sound.tape_limit)) c.self.invariant.sound)
-    (Feed_room_of_fields _ _ _ _ inside.journal.records _ _ _ refl c.if-self.false (omega (arith, c.self.invariant.sound.tape_limit)) c.in-Ok.ensures.ok)
+    answered (Feed c.args.bytes.now) Done c.self.invariant refl
+    (IsSound-feed _ _ _ c.args.bytes.now c.self.inside.journal.records _ c.in-Ok.ensures.ok (omega (arith, c.self.invariant.sound.tape_limit)) c.self.invariant.sound)
+    (Feed_room_of_fields _ _ _ _ c.self.inside.journal.records _ _ _ refl c.if-self.false (omega (arith, c.self.invariant.sound.tape_limit)) c.in-Ok.ensures.ok)

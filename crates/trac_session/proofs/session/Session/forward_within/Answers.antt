@@ -5,8 +5,8 @@ use Rattle.trac_session.proofs.session.Session.forward_within.Goals as goal
 
 pub returns-in-Err : goal.returns-in-Err
 returns-in-Err g c =
-    within_refused c.args.most no_goal c.args.n c.loop-done.done c.args.self.now c.loop-done.self c.step.new.self c.in-Err.refusal
-    c.loop-done.invariant.1 c.loop-done-test.true c.in-Err.ensures
+    rw c.refused.ensures
+    (within_refused c.args.most no_goal c.args.n c.loop-done.done c.args.self.now c.loop-done.self c.step.new.self c.in-Err.refusal c.loop-done.invariant.1 c.loop-done-test.true c.in-Err.ensures)
 
 pub returns-then-weight-most : goal.returns-then-weight-most
 returns-then-weight-most g c =

@@ -7,11 +7,9 @@ use Rattle.trac_session.proofs.session.Session.keep_none.Goals as goal
 
 pub invariant_of-self : goal.invariant_of-self
 invariant_of-self g c =
-    let inside = c.self.inside in
-    answered (Commit 0) Done inside.limit inside.width inside.tape.items c.settle.new.tape.items inside.ended inside.ended
-    inside.journal.records c.clear.new.self.records inside.machine c.settle.new.machine c.self.invariant c.settle.ensures.width
-    (IsSound-alone _ _ _ inside.journal.records c.clear.new.self.records _ _ c.settle.ensures.tape c.clear.ensures c.settle.ensures.state c.self.invariant.sound)
-    (Commit_alone _ _ _ _ inside.journal.records c.clear.new.self.records _ _ _ refl c.settle.ensures.tape c.clear.ensures c.settle.ensures.state c.settle.ensures.width)
+    answered (Commit 0) Done c.self.invariant c.settle.ensures.width
+    (IsSound-alone _ _ _ c.self.inside.journal.records c.clear.new.self.records _ _ c.settle.ensures.tape c.clear.ensures c.settle.ensures.state c.self.invariant.sound)
+    (Commit_alone _ _ _ _ c.self.inside.journal.records c.clear.new.self.records _ _ _ refl c.settle.ensures.tape c.clear.ensures c.settle.ensures.state c.settle.ensures.width)
 
 pub returns : goal.returns
 returns g c =

@@ -15,8 +15,7 @@ invariant_of-self g c =
     let count : c.len.result ≡ length c.self.inside.journal.records = c.len.ensures in
     let room : length c.self.inside.journal.records < c.self.inside.limit = omega arith in
     let inside = c.self.inside in
-    answered Step (reply_of c.step_into.result) inside.limit inside.width inside.tape.items inside.tape.items inside.ended inside.ended
-    inside.journal.records c.step_into.new.journal.records inside.machine c.step_into.new.self c.self.invariant c.step_into.ensures.room.width
+    answered Step (reply_of c.step_into.result) c.self.invariant c.step_into.ensures.room.width
     (IsSound-step _ _ inside.ended inside.journal.records c.step_into.new.journal.records _ _ c.step_into.result room c.self.invariant.sound
     c.step_into.ensures.room c.step_into.ensures.held (rw (← c.as_slice.ensures.items) c.step_into.ensures.taken) (rw (← c.as_slice.ensures.items) c.step_into.ensures.kept) c.step_into.ensures.unchanged)
     (Step_of_fields _ _ _ inside.ended inside.journal.records c.step_into.new.journal.records _ _ c.step_into.result room c.self.invariant.sound.records

@@ -21,8 +21,7 @@ pub invariant_of-self : goal.invariant_of-self
 invariant_of-self g c =
     let none = c.step_back.ensures.none c.if-not-step_back.true in
     let inside = c.self.inside in
-    answered Back (Refused AtStart) inside.limit inside.width inside.tape.items inside.tape.items inside.ended inside.ended
-    inside.journal.records c.step_back.new.journal.records inside.machine c.step_back.new.self c.self.invariant (ap (λ (m : Shown). m.width) none.1.1)
+    answered Back (Refused AtStart) c.self.invariant (ap (λ (m : Shown). m.width) none.1.1)
     (IsSound-same _ _ inside.journal.records c.step_back.new.journal.records inside.machine c.step_back.new.self none.0 none.1.0 none.1.1 c.self.invariant.sound)
     (Back_start_of_fields _ _ _ inside.journal.records c.step_back.new.journal.records inside.machine c.step_back.new.self _ refl none.0 none.1.0 none.1.1)
 
@@ -30,8 +29,7 @@ pub invariant_of-self-2 : goal.invariant_of-self-2
 invariant_of-self-2 g c =
     let back = c.step_back.ensures.back c.if-not-step_back.false in
     let inside = c.self.inside in
-    answered Back Done inside.limit inside.width inside.tape.items inside.tape.items inside.ended inside.ended
-    inside.journal.records c.step_back.new.journal.records inside.machine c.step_back.new.self c.self.invariant c.step_back.ensures.room.width
+    answered Back Done c.self.invariant c.step_back.ensures.room.width
     (IsSound-back _ _ inside.journal.records c.step_back.new.journal.records back.newest _ _ back.taken back.leads_back c.step_back.ensures.room c.self.invariant.sound)
     (Back_of_fields _ _ _ inside.journal.records c.step_back.new.journal.records back.newest _ _ _ refl back.taken back.leads_back c.step_back.ensures.room.width)
 

@@ -9,9 +9,10 @@ loop-done-init g c = (omega arith, goes_on_first (command_towards c.args.directi
 
 pub returns-in-Err : goal.returns-in-Err
 returns-in-Err g c =
-    stopped_walk (command_towards c.args.direction) (goal_of c.args.goal.now) c.args.n c.loop-done.done c.args.self.now c.loop-done.self c.go_on.new.self c.in-Err.refusal
+    rw c.refused.ensures
+    (stopped_walk (command_towards c.args.direction) (goal_of c.args.goal.now) c.args.n c.loop-done.done c.args.self.now c.loop-done.self c.go_on.new.self c.in-Err.refusal
     c.loop-done.invariant.1 c.loop-done-test.true
-    (refused_same c.args.direction c.loop-done.self c.go_on.new.self c.in-Err.refusal c.in-Err.ensures.refused) c.in-Err.ensures.refused
+    (refused_same c.args.direction c.loop-done.self c.go_on.new.self c.in-Err.refusal c.in-Err.ensures.refused) c.in-Err.ensures.refused)
 
 pub returns-then-has_met : goal.returns-then-has_met
 returns-then-has_met g c =

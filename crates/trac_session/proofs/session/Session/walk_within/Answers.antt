@@ -8,8 +8,8 @@ use Rattle.trac_session.proofs.session.Session.walk_within.Goals.{then-has_met-v
 
 pub returns-in-Err : goal.returns-in-Err
 returns-in-Err g c =
-    within_refused c.args.most (goal_of c.args.goal.now) c.args.n c.loop-done.done c.args.self.now c.loop-done.self c.go_on.new.self c.in-Err.refusal
-    c.loop-done.invariant.1 c.loop-done-test.true c.in-Err.ensures.refused
+    rw c.refused.ensures (within_refused c.args.most (goal_of c.args.goal.now) c.args.n c.loop-done.done c.args.self.now c.loop-done.self c.go_on.new.self c.in-Err.refusal
+    c.loop-done.invariant.1 c.loop-done-test.true c.in-Err.ensures.refused)
 
 pub returns-then-has_met : goal.returns-then-has_met
 returns-then-has_met g c = elim c.then-has_met.branch [

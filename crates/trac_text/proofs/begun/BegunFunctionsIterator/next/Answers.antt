@@ -1,11 +1,10 @@
 -- The next function is the innermost of the front that ends where the one after it begins.
-use Rattle.std.proofs.Common.{◌≡◌, ◌+◌, ◌<◌, List, [], drop, length, sym, ap, ◌∙◌, subst, take, arith, rules}
+use Rattle.std.proofs.Common.{◌≡◌, List, [], drop, length, sym, ap, ◌∙◌, subst, arith, rules}
 use Rattle.std.specs.Prelude.{slice_get}
 use Rattle.trac_rules.specs.State.{Frame}
-use Rattle.trac_text.specs.Cuts.{function_count}
 use Rattle.trac_text.specs.Frames.{IsFrame}
 use Rattle.trac_text.specs.Neutral.{MarkedText}
-use Rattle.trac_text.proofs.Walking.{front_has_frames, function_counts, gives_frame, none_left, one_less, others_left}
+use Rattle.trac_text.proofs.Walking.{front_has_frames, gives_frame, next_counts, none_left, one_less, others_left}
 use Rattle.trac_text.proofs.begun.BegunFunctionsIterator.next.Goals as goal
 
 pub returns-then-self-clause-steps : goal.returns-then-self-clause-steps
@@ -18,18 +17,14 @@ pub returns-in_err-innermost-clause-steps : goal.returns-in_err-innermost-clause
 returns-in_err-innermost-clause-steps c =
     let m : MarkedText = record { text = c.self.inside.text.now; marks = c.self.inside.marks.now } in
     let front : MarkedText = record { text = c.front_of.result.0.now; marks = c.front_of.result.1.now } in
-    let inside : c.self.inside.next < length m.marks = omega (arith, c.self.invariant.1.within, c.if-self.false) in
-    let one_more : function_count (take c.next_function-self-inside.result m.marks) ≡ function_count (take c.self.inside.next m.marks) + 1 =
-    c.next_function-self-inside.ensures.count ∙ function_counts m.marks c.self.inside.next c.self.invariant.1 inside in
+    let one_more = next_counts m.marks c.self.inside.next c.next_function-self-inside.result c.self.invariant.1 (omega (arith, c.self.invariant.1.within, c.if-self.false)) c.next_function-self-inside.ensures.count in
     absurd (front_has_frames m front c.self.inside.next c.next_function-self-inside.result c.front_of.ensures.front one_more c.in_err-innermost.ensures)
 
 pub returns-clause-steps : goal.returns-clause-steps
 returns-clause-steps c =
     let m : MarkedText = record { text = c.self.inside.text.now; marks = c.self.inside.marks.now } in
     let front : MarkedText = record { text = c.front_of.result.0.now; marks = c.front_of.result.1.now } in
-    let inside : c.self.inside.next < length m.marks = omega (arith, c.self.invariant.1.within, c.if-self.false) in
-    let one_more : function_count (take c.next_function-self-inside.result m.marks) ≡ function_count (take c.self.inside.next m.marks) + 1 =
-    c.next_function-self-inside.ensures.count ∙ function_counts m.marks c.self.inside.next c.self.invariant.1 inside in
+    let one_more = next_counts m.marks c.self.inside.next c.next_function-self-inside.result c.self.invariant.1 (omega (arith, c.self.invariant.1.within, c.if-self.false)) c.next_function-self-inside.ensures.count in
     let inner = c.in_ok-innermost.innermost in (
       subst (λ (fs : List Frame). IsFrame (slice_get fs 0) inner.kind inner.arguments) c.self.view_is
           (gives_frame m front c.self.inside.next c.next_function-self-inside.result c.front_of.ensures.front one_more
@@ -42,8 +37,6 @@ pub returns-clause-goes : goal.returns-clause-goes
 returns-clause-goes c =
     let m : MarkedText = record { text = c.self.inside.text.now; marks = c.self.inside.marks.now } in
     let front : MarkedText = record { text = c.front_of.result.0.now; marks = c.front_of.result.1.now } in
-    let inside : c.self.inside.next < length m.marks = omega (arith, c.self.invariant.1.within, c.if-self.false) in
-    let one_more : function_count (take c.next_function-self-inside.result m.marks) ≡ function_count (take c.self.inside.next m.marks) + 1 =
-    c.next_function-self-inside.ensures.count ∙ function_counts m.marks c.self.inside.next c.self.invariant.1 inside in
+    let one_more = next_counts m.marks c.self.inside.next c.next_function-self-inside.result c.self.invariant.1 (omega (arith, c.self.invariant.1.within, c.if-self.false)) c.next_function-self-inside.ensures.count in
     let shorter = one_less m front c.self.inside.next c.next_function-self-inside.result c.front_of.ensures.front one_more ∙ ap length c.self.view_is in
     search rules
