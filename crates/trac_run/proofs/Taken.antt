@@ -20,7 +20,7 @@ use Rattle.trac_streams.specs.Written.{WritesFront, Closes}
 use Rattle.trac_run.specs.Runs.{Shows, ending_of_feed, IsFresh, turns_left, unread_count, most_read, GoesOn, Finishes, EndsFor, TakesNone, TakesMore}
 use Rattle.trac_streams.proofs.Gathered.{came_by_none, came_by_one, empty_reads_open, end_reads_ended, end_reads_open, fault_reads_one, if_ended, if_open}
 use Rattle.trac_streams.proofs.Known.{Appends-both, Appends-kept, Consumes-nothing, front_of_front, front_of_itself, empty_front}
-use Rattle.trac_run.proofs.Turned.{closed_sound, front_pending, Shows-Write, ended_after_Commit, end_turns, few_of_none, few_reads_of_none, none_counted, unread_after_Commit, writer_sound}
+use Rattle.trac_run.proofs.Turned.{closed_sound, finishes_here, front_pending, Shows-Write, ended_after_Commit, end_turns, few_of_none, few_reads_of_none, none_counted, unread_after_Commit, writer_sound}
 
 -- ---- one read
 
@@ -199,21 +199,9 @@ taken_fewer in_old in_new q r s n wanted e taken start =
 -- a front of what is pending was written, and nothing read
 pub unwritten_finish : (input : Option (List ℕ)) (out_old out_new : Option (List ℕ)) (reads : ℕ) (q : PlainSession) (n : ℕ) (ending : Ending) → answer Step q ≡ refused refusals.NeedInput q → ending ≡ Write →
     WritesFront out_old out_new q.last.output → Finishes input input out_old out_new reads reads q n n ending
-unwritten_finish input out_old out_new reads q n ending wanted fault front = record {
-  got = [];
-  written = front.written;
-  took = Consumes-nothing input;
-  gave = front.gave;
-  closed = λ _. refl;
-  at_end = λ over. absurd (false≢true (sym (wanted_open q wanted) ∙ over));
-  front = λ more none. front_of_front front.written q.last.output (going_on_from q more n).bytes front.front (front_pending q more n);
-  shows = λ more none. Shows-Write ending front.written (going_on_from q more n) fault;
-  few = few_of_none q n n (omega arith);
-  full = 0;
-  came = came_by_none;
-  counted = none_counted reads q ending (writer_sound ending fault);
-  few_reads = few_reads_of_none q n n ending (omega arith);
-}
+unwritten_finish input out_old out_new reads q n ending wanted fault front =
+    finishes_here input out_old out_new reads q n front.written ending (writer_sound ending fault) (λ over. absurd (false≢true (sym (wanted_open q wanted) ∙ over))) front.front front.gave
+    (λ more none. Shows-Write ending front.written (going_on_from q more n) fault)
 
 -- all that is pending was written, and a flush failed
 pub unflushed_finish : (input : Option (List ℕ)) (out_old out_mid out_new : Option (List ℕ)) (reads : ℕ) (q : PlainSession) (n : ℕ) (ending : Ending) → answer Step q ≡ refused refusals.NeedInput q → ending ≡ Write →

@@ -141,10 +141,6 @@ refused_for_none q refusal h not_full not_long not_input not_ended =
     others)
     (Step_refusals q q refusal h)
 
--- the input is known to be whole on the one tape where it is on the other
-pub none_after : (p q : PlainSession) (more : List ℕ) → q.tape ≡ p.tape → (p.tape.ended ≡ true → more ≡ []) → q.tape.ended ≡ true → more ≡ []
-none_after p q more same none ended = none (sym (ap (λ t. t.ended) same) ∙ ended)
-
 -- ---- the end of a run
 
 -- what is pending is a front of what is written
@@ -163,29 +159,72 @@ Shows-closed ending result written text o ends shows =
     (λ (fault : result ≡ Write). Shows-Write result written o fault)
     ends
 
--- a run that ends after the walk
+-- a run that ends here, with nothing read
+pub finishes_here : (input : Option (List ℕ)) (out_old out_new : Option (List ℕ)) (reads : ℕ) (q : PlainSession) (n : ℕ) (written : List ℕ) (ending : Ending) → fault_reads ending ≡ 0 →
+    (q.tape.ended ≡ true → IsAtEnd input) → IsFrontOf written q.last.output → Appends out_old out_new written → ((more : List ℕ) → (q.tape.ended ≡ true → more ≡ []) → Shows ending written (going_on_from q more n)) →
+    Finishes input input out_old out_new reads reads q n n ending
+finishes_here input out_old out_new reads q n written ending sound at_end front gave shows = record {
+  got = [];
+  written = written;
+  took = Consumes-nothing input;
+  gave = gave;
+  closed = λ _. refl;
+  at_end = at_end;
+  front = λ more none. front_of_front written q.last.output (going_on_from q more n).bytes front (front_pending q more n);
+  shows = shows;
+  few = few_of_none q n n (omega arith);
+  full = 0;
+  came = came_by_none;
+  counted = none_counted reads q ending sound;
+  few_reads = few_reads_of_none q n n ending (omega arith);
+}
+
+-- finishing from the session after the walk
+walked_end : (in_old in_new out_old out_new : Option (List ℕ)) (reads_old reads_new : ℕ) (p : PlainSession) (m k : ℕ) (q : PlainSession) (n : ℕ) (ending : Ending) →
+    AfterWalk p m k q → Finishes in_old in_new out_old out_new reads_old reads_new q (m - k) n ending → Finishes in_old in_new out_old out_new reads_old reads_new p m n ending
+walked_end in_old in_new out_old out_new reads_old reads_new p m k q n ending after on =
+    let ended : q.tape.ended ≡ p.tape.ended = ap (λ t. t.ended) after.tape in
+    let all : (more : List ℕ) → (p.tape.ended ≡ true → more ≡ []) → going_on_from p (on.got ++ more) m ≡ going_on_from q (on.got ++ more) (m - k) =
+    λ more none. after.rest (on.got ++ more) (λ over. ap (λ g. g ++ more) (on.closed (ended ∙ over)) ∙ none over) in
+    record {
+      got = on.got;
+      written = on.written;
+      took = on.took;
+      gave = on.gave;
+      closed = λ over. on.closed (ended ∙ over);
+      at_end = λ over. on.at_end (ended ∙ over);
+      front = λ more none. subst (λ (o : Output). IsFrontOf on.written o.bytes) (sym (all more none)) (on.front more (λ over. none (sym ended ∙ over)));
+      shows = λ more none. subst (λ (o : Output). Shows ending on.written o) (sym (all more none)) (on.shows more (λ over. none (sym ended ∙ over)));
+      few = λ fits_. omega (arith, on.few (omega (arith, fits_, tape_after_walk p m k q after)), unread_by_walk p m k q after fits_, after.within);
+      full = on.full;
+      came = on.came;
+      counted = omega (arith, on.counted, ap end_reads ended, ap (λ b. empty_reads b ending) ended);
+      few_reads = λ fits_. omega (
+        arith,
+        on.few_reads (omega (arith, fits_, tape_after_walk p m k q after)),
+        ap (λ b. empty_reads b ending) ended,
+        unread_by_walk p m k q after fits_,
+        after.within,
+      );
+    }
+
+-- a run that ends after the walk, with nothing read since
+ends_after : (input : Option (List ℕ)) (out_old out_new : Option (List ℕ)) (reads : ℕ) (p : PlainSession) (m k : ℕ) (q : PlainSession) (written : List ℕ) (ending : Ending) → AfterWalk p m k q →
+    (p.tape.ended ≡ true → IsAtEnd input) → fault_reads ending ≡ 0 → IsFrontOf written q.last.output → Appends out_old out_new written →
+    ((more : List ℕ) → (q.tape.ended ≡ true → more ≡ []) → Shows ending written (going_on_from q more (m - k))) → Finishes input input out_old out_new reads reads p m (m - k) ending
+ends_after input out_old out_new reads p m k q written ending after at_end sound front gave shows =
+    walked_end input input out_old out_new reads reads p m k q (m - k) ending after
+    (finishes_here input out_old out_new reads q (m - k) written ending sound (λ over. at_end (sym (ap (λ t. t.ended) after.tape) ∙ over)) front gave shows)
+
+-- the same by its last writes
 pub closed_run : (input : Option (List ℕ)) (out_old out_new : Option (List ℕ)) (reads : ℕ) {p : PlainSession} {m k : ℕ} {q : PlainSession} (text : List ℕ) (ending result : Ending) →
     fault_reads ending ≡ 0 → AfterWalk p m k q → (p.tape.ended ≡ true → IsAtEnd input) → text ≡ q.last.output → Closes out_old out_new text ending result →
     ((more : List ℕ) → (q.tape.ended ≡ true → more ≡ []) → Shows ending q.last.output (going_on_from q more (m - k))) →
     Finishes input input out_old out_new reads reads p m (m - k) result
-closed_run input out_old out_new reads {p} {m} {k} {q} text ending result sound after at_end pending closes shows = record {
-  got = [];
-  written = closes.written;
-  took = Consumes-nothing input;
-  gave = closes.gave;
-  closed = λ _. refl;
-  at_end = at_end;
-  front = λ more none. subst (λ (o : Output). IsFrontOf closes.written o.bytes) (sym (after.rest more none))
-      (front_of_front closes.written q.last.output (going_on_from q more (m - k)).bytes (subst (IsFrontOf closes.written) pending closes.front) (front_pending q more (m - k)));
-  shows = λ more none. subst (λ (o : Output). Shows result closes.written o) (sym (after.rest more none))
-      (Shows-closed ending result closes.written q.last.output (going_on_from q more (m - k))
-      (subst (λ t. ((result ≡ ending) × (closes.written ≡ t)) ⊎ (result ≡ Write)) pending closes.ends) (shows more (none_after p q more after.tape none)));
-  few = few_of_none p m (m - k) (omega arith);
-  full = 0;
-  came = came_by_none;
-  counted = none_counted reads p result (closed_sound ending result closes.ends sound);
-  few_reads = few_reads_of_none p m (m - k) result (omega arith);
-}
+closed_run input out_old out_new reads {p} {m} {k} {q} text ending result sound after at_end pending closes shows =
+    ends_after input out_old out_new reads p m k q closes.written result after at_end (closed_sound ending result closes.ends sound) (subst (IsFrontOf closes.written) pending closes.front) closes.gave
+    (λ more none. Shows-closed ending result closes.written q.last.output (going_on_from q more (m - k))
+    (subst (λ t. ((result ≡ ending) × (closes.written ≡ t)) ⊎ (result ≡ Write)) pending closes.ends) (shows more none))
 
 -- the budget is spent
 pub shows_spent : (q : PlainSession) (n : ℕ) → n ≡ 0 → (more : List ℕ) → (q.tape.ended ≡ true → more ≡ []) → Shows Budget q.last.output (going_on_from q more n)
@@ -233,67 +272,6 @@ released_rest p m k q r after h more none = after.rest more none ∙ going_on-Co
 pub ended_after_Commit : (q r : PlainSession) → answer (Commit 0) q ≡ done r → r.tape.ended ≡ q.tape.ended
 ended_after_Commit q r h = ap (λ (s : PlainSession). s.tape.ended) (Commit_done 0 q r h)
 
--- a release
-pub released_on : (input : Option (List ℕ)) (out_old out_new : Option (List ℕ)) (reads : ℕ) {p : PlainSession} {m k : ℕ} {q : PlainSession} (r : PlainSession) (result : Result (Unit {0}) Ending) →
-    AfterWalk p m k q → (p.tape.ended ≡ true → IsAtEnd input) → OnOk result (Appends out_old out_new q.last.output) → OnOk result (answer (Commit 0) q ≡ done r) →
-    OnOk result (GoesOn input input out_old out_new reads reads p m r (m - k))
-released_on input out_old out_new reads {p} {m} {k} {q} r (Err e) after at_end gave h = tt
-released_on input out_old out_new reads {p} {m} {k} {q} r (Ok u) after at_end gave h =
-    let ended : r.tape.ended ≡ p.tape.ended = ended_after_Commit q r h ∙ ap (λ t. t.ended) after.tape in
-    record {
-      got = [];
-      written = q.last.output;
-      took = Consumes-nothing input;
-      gave = gave;
-      closed = λ over. (refl, ended ∙ over);
-      at_end = λ over. at_end (sym ended ∙ over);
-      rest = λ more none. released_rest p m k q r after h more (λ over. none (ended ∙ over));
-      fits = λ fits_. omega (arith, fits_, (unread_after_Commit q r h).0, tape_after_walk p m k q after);
-      few = λ fits_. omega (arith, (unread_after_Commit q r h).1, unread_by_walk p m k q after fits_, after.within);
-      full = 0;
-      came = came_by_none;
-      counted = omega (arith, ap end_reads ended);
-    }
-
--- a front of what is pending was written
-pub finished_front : (input : Option (List ℕ)) (out_old out_new : Option (List ℕ)) (reads : ℕ) (p : PlainSession) (m k : ℕ) (q : PlainSession) (ending : Ending) →
-    AfterWalk p m k q → (p.tape.ended ≡ true → IsAtEnd input) → ending ≡ Write → WritesFront out_old out_new q.last.output → Finishes input input out_old out_new reads reads p m (m - k) ending
-finished_front input out_old out_new reads p m k q ending after at_end fault front = record {
-  got = [];
-  written = front.written;
-  took = Consumes-nothing input;
-  gave = front.gave;
-  closed = λ _. refl;
-  at_end = at_end;
-  front = λ more none. subst (λ (o : Output). IsFrontOf front.written o.bytes) (sym (after.rest more none))
-      (front_of_front front.written q.last.output (going_on_from q more (m - k)).bytes front.front (front_pending q more (m - k)));
-  shows = λ more none. Shows-Write ending front.written (going_on_from p more m) fault;
-  few = few_of_none p m (m - k) (omega arith);
-  full = 0;
-  came = came_by_none;
-  counted = none_counted reads p ending (writer_sound ending fault);
-  few_reads = few_reads_of_none p m (m - k) ending (omega arith);
-}
-
--- a release that failed
-pub released_failed : (input : Option (List ℕ)) (out_old out_new : Option (List ℕ)) (reads : ℕ) {p : PlainSession} {m k : ℕ} {q : PlainSession} (result : Result (Unit {0}) Ending) →
-    AfterWalk p m k q → (p.tape.ended ≡ true → IsAtEnd input) → IfErr result (λ ending. (ending ≡ Write) × WritesFront out_old out_new q.last.output) →
-    IfErr result (Finishes input input out_old out_new reads reads p m (m - k))
-released_failed input out_old out_new reads {p} {m} {k} {q} (Ok u) after at_end failed = tt
-released_failed input out_old out_new reads {p} {m} {k} {q} (Err e) after at_end failed = finished_front input out_old out_new reads p m k q e after at_end failed.0 failed.1
-
--- the committed session is fresh
-pub released_fresh : {p : PlainSession} {m k : ℕ} {q : PlainSession} (r : PlainSession) (result : Result (Unit {0}) Ending) → AfterWalk p m k q → OnOk result (answer (Commit 0) q ≡ done r) → OnOk result (IsFresh r)
-released_fresh {p} {m} {k} {q} r (Err e) after h = tt
-released_fresh {p} {m} {k} {q} r (Ok u) after h =
-    let left = after_Commit q r h in
-    record {
-      some_records = omega (arith, left.3, after.some_records);
-      first = left.1;
-      nothing_pending = left.0;
-      nothing_read = left.2;
-    }
-
 -- ---- the turns
 
 -- the end adds at most one
@@ -305,10 +283,48 @@ end_turns false = omega arith
 pub fewer_by_step : (p r : PlainSession) (m n : ℕ) → n < m → turns_left r n < turns_left p m
 fewer_by_step p r m n l = omega (arith, end_turns r.tape.ended)
 
--- after a release, a step having been taken
-pub released_fewer : {p q : PlainSession} (r : PlainSession) {m k : ℕ} (result : Result (Unit {0}) Ending) → AfterWalk p m k q → 0 < k → OnOk result (turns_left r (m - k) < turns_left p m)
-released_fewer {p} {q} r {m} {k} (Err e) after some = tt
-released_fewer {p} {q} r {m} {k} (Ok u) after some = fewer_by_step p r m (m - k) (omega (arith, after.within))
+-- a release, a step having been taken: the run goes on with the committed session, which is fresh and has fewer turns
+-- left; or a front of what is pending was written
+pub released : (input : Option (List ℕ)) (out_old out_new : Option (List ℕ)) (reads : ℕ) {p : PlainSession} {m k : ℕ} {q : PlainSession} (r : PlainSession) (result : Result (Unit {0}) Ending) →
+    AfterWalk p m k q → (p.tape.ended ≡ true → IsAtEnd input) → 0 < k → OnOk result (Appends out_old out_new q.last.output) → OnOk result (answer (Commit 0) q ≡ done r) →
+    IfErr result (λ ending. (ending ≡ Write) × WritesFront out_old out_new q.last.output) →
+    OnOk result (GoesOn input input out_old out_new reads reads p m r (m - k)) × IfErr result (Finishes input input out_old out_new reads reads p m (m - k))
+    × OnOk result (IsFresh r) × OnOk result (turns_left r (m - k) < turns_left p m)
+released input out_old out_new reads {p} {m} {k} {q} r (Err ending) after at_end some gave h failed =
+    let fault : ending ≡ Write = failed.0 in
+    let front = failed.1 in (
+      tt,
+      ends_after input out_old out_new reads p m k q front.written ending after at_end (writer_sound ending fault) front.front front.gave
+          (λ more none. Shows-Write ending front.written (going_on_from q more (m - k)) fault),
+      tt,
+      tt,
+    )
+released input out_old out_new reads {p} {m} {k} {q} r (Ok u) after at_end some gave h failed =
+    let ended : r.tape.ended ≡ p.tape.ended = ended_after_Commit q r h ∙ ap (λ t. t.ended) after.tape in
+    let left = after_Commit q r h in (
+      record {
+        got = [];
+        written = q.last.output;
+        took = Consumes-nothing input;
+        gave = gave;
+        closed = λ over. (refl, ended ∙ over);
+        at_end = λ over. at_end (sym ended ∙ over);
+        rest = λ more none. released_rest p m k q r after h more (λ over. none (ended ∙ over));
+        fits = λ fits_. omega (arith, fits_, (unread_after_Commit q r h).0, tape_after_walk p m k q after);
+        few = λ fits_. omega (arith, (unread_after_Commit q r h).1, unread_by_walk p m k q after fits_, after.within);
+        full = 0;
+        came = came_by_none;
+        counted = omega (arith, ap end_reads ended);
+      },
+      tt,
+      record {
+        some_records = omega (arith, left.3, after.some_records);
+        first = left.1;
+        nothing_pending = left.0;
+        nothing_read = left.2;
+      },
+      fewer_by_step p r m (m - k) (omega (arith, some, after.within)),
+    )
 
 -- a full journal has a step
 pub taken_when_full : {p q : PlainSession} {m k : ℕ} → AfterWalk p m k q → answer Step q ≡ refused refusals.JournalFull q → 0 < k
@@ -340,35 +356,11 @@ walked_on in_old in_new out_old out_new reads_old reads_new {p} {m} {k} {q} r (O
       counted = omega (arith, on.counted, ap end_reads ended);
     }
 
--- finishing from the session after the walk
-pub walked_finish : (in_old in_new out_old out_new : Option (List ℕ)) (reads_old reads_new : ℕ) (p : PlainSession) (m k : ℕ) (q : PlainSession) (n : ℕ) (result : Result (Unit {0}) Ending) →
+-- finishing from it
+walked_finish : (in_old in_new out_old out_new : Option (List ℕ)) (reads_old reads_new : ℕ) (p : PlainSession) (m k : ℕ) (q : PlainSession) (n : ℕ) (result : Result (Unit {0}) Ending) →
     AfterWalk p m k q → IfErr result (Finishes in_old in_new out_old out_new reads_old reads_new q (m - k) n) → IfErr result (Finishes in_old in_new out_old out_new reads_old reads_new p m n)
 walked_finish in_old in_new out_old out_new reads_old reads_new p m k q n (Ok u) after on = tt
-walked_finish in_old in_new out_old out_new reads_old reads_new p m k q n (Err e) after on =
-    let ended : q.tape.ended ≡ p.tape.ended = ap (λ t. t.ended) after.tape in
-    let all : (more : List ℕ) → (p.tape.ended ≡ true → more ≡ []) → going_on_from p (on.got ++ more) m ≡ going_on_from q (on.got ++ more) (m - k) =
-    λ more none. after.rest (on.got ++ more) (λ over. ap (λ g. g ++ more) (on.closed (ended ∙ over)) ∙ none over) in
-    record {
-      got = on.got;
-      written = on.written;
-      took = on.took;
-      gave = on.gave;
-      closed = λ over. on.closed (ended ∙ over);
-      at_end = λ over. on.at_end (ended ∙ over);
-      front = λ more none. subst (λ (o : Output). IsFrontOf on.written o.bytes) (sym (all more none)) (on.front more (λ over. none (sym ended ∙ over)));
-      shows = λ more none. subst (λ (o : Output). Shows e on.written o) (sym (all more none)) (on.shows more (λ over. none (sym ended ∙ over)));
-      few = λ fits_. omega (arith, on.few (omega (arith, fits_, tape_after_walk p m k q after)), unread_by_walk p m k q after fits_, after.within);
-      full = on.full;
-      came = on.came;
-      counted = omega (arith, on.counted, ap end_reads ended, ap (λ b. empty_reads b e) ended);
-      few_reads = λ fits_. omega (
-        arith,
-        on.few_reads (omega (arith, fits_, tape_after_walk p m k q after)),
-        ap (λ b. empty_reads b e) ended,
-        unread_by_walk p m k q after fits_,
-        after.within,
-      );
-    }
+walked_finish in_old in_new out_old out_new reads_old reads_new p m k q n (Err e) after on = walked_end in_old in_new out_old out_new reads_old reads_new p m k q n e after on
 
 -- the same with at least one step left, which the input says with a number after it
 pub walked_finish_one : (in_old in_new out_old out_new : Option (List ℕ)) (reads_old reads_new : ℕ) {p : PlainSession} {m k : ℕ} {q : PlainSession} (result : Result (Unit {0}) Ending) →
@@ -388,4 +380,5 @@ walked_fewer p m zero q r result fresh after fewer =
     let count : m - 0 ≡ m = omega arith in
     subst (λ (s : PlainSession). OnOk result (turns_left r (m - 0) < turns_left s m)) same
     (subst (λ (n : ℕ). OnOk result (turns_left r (m - 0) < turns_left q n)) count (fewer start))
-walked_fewer p m (suc k) q r result fresh after fewer = released_fewer r result after (omega arith)
+walked_fewer p m (suc k) q r (Err e) fresh after fewer = tt
+walked_fewer p m (suc k) q r (Ok u) fresh after fewer = fewer_by_step p r m (m - suc k) (omega (arith, after.within))

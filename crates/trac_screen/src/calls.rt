@@ -2,6 +2,7 @@
 
 use crate::default::gives_nothing;
 use crate::notes::refused;
+use crate::screen_line::Part::{Number, Shown, Words};
 use crate::screen_line::ScreenLine;
 use crate::sight::{Sight, last_of};
 use crate::standing_line::call_into as shown_into;
@@ -22,8 +23,7 @@ pub fn call_into<A: Allocator + Copy>(
     sight: &Sight<'_, A>,
     line: &mut ScreenLine<A>,
 ) -> Result<(), AllocError> {
-    line.count(step)?;
-    line.say(b"  ")?;
+    line.put(&[Number(step), Words(b"  ")])?;
     for _ in 0..depth.saturating_sub(2).min(MOST_INDENTS) {
         line.say(INDENT)?;
     }
@@ -43,10 +43,7 @@ pub fn outcome_into<A: Allocator + Copy>(
 ) -> Result<(), AllocError> {
     match why {
         None => value_into(before.value(sight), before, line),
-        Some(refusal) => {
-            line.say(b": ")?;
-            line.say(refused(refusal))
-        }
+        Some(refusal) => line.put(&[Words(b": "), Words(refused(refusal))]),
     }
 }
 
@@ -64,8 +61,7 @@ fn value_into<A: Allocator + Copy>(
         (false, false) => b" gives ",
         (true, false) => b" defaults to ",
     };
-    line.say(words)?;
-    line.show(value)
+    line.put(&[Words(words), Shown(value)])
 }
 
 /// What tells the value of a call when it is performed.

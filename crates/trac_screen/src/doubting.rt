@@ -1,5 +1,6 @@
 //! Doubts in words.
 
+use crate::screen_line::Part::{Number, Words};
 use crate::screen_line::{ScreenLine, front};
 use crate::sight::Sight;
 use std::alloc::{AllocError, Allocator};
@@ -16,11 +17,18 @@ pub fn doubt_into<A: Allocator + Copy>(
     line: &mut ScreenLine<A>,
 ) -> Result<(), AllocError> {
     match doubt {
-        Doubt::Unused(k) => argument_into(sight, k, b" is not used: ", line),
-        Doubt::NoNumber(k) => argument_into(sight, k, b" has no number, and counts as 0: ", line),
-        Doubt::Nowhere(k) => nowhere_into(sight, k, line),
+        Doubt::Unused(k) => argument_into(sight, k, b" is not used: ", k, line),
+        Doubt::NoNumber(k) => {
+            argument_into(sight, k, b" has no number, and counts as 0: ", k, line)
+        }
+        Doubt::Nowhere(k) => argument_into(sight, k, b" is nowhere in the form ", 1, line),
         Doubt::Unended(1) => line.say(b"1 call was begun and never ended"),
-        Doubt::Unended(count) => unended_into(count as u64, line),
+        Doubt::Unended(count) => {
+            line.put(&[
+                Number(count as u64),
+                Words(b" calls were begun and never ended"),
+            ])
+        }
         doubt => plain_into(sight, doubt, line),
     }
 }
@@ -41,15 +49,6 @@ pub fn argument_doubted<A: Allocator + Copy>(sight: &Sight<'_, A>, doubt: Doubt)
         return None;
     }
     Some(0)
-}
-
-// That so many calls were begun.
-fn unended_into<A: Allocator + Copy>(
-    count: u64,
-    line: &mut ScreenLine<A>,
-) -> Result<(), AllocError> {
-    line.count(count)?;
-    line.say(b" calls were begun and never ended")
 }
 
 // A doubt that shows one argument at most.
@@ -80,39 +79,18 @@ fn words_of(doubt: Doubt) -> (&'static [u8], Option<usize>, &'static [u8]) {
     }
 }
 
-// That of an argument something is so, and the argument.
+// That of the argument of this number something is so, and the argument that this is said with.
 fn argument_into<A: Allocator + Copy>(
     sight: &Sight<'_, A>,
     number: usize,
     words: &[u8],
+    shown: usize,
     line: &mut ScreenLine<A>,
 ) -> Result<(), AllocError> {
-    numbered_into(sight, number, line)?;
+    line.put(&[Words(b"argument "), Number(number as u64), Words(b" of ")])?;
+    text_into(argument_of(sight, 0), line)?;
     line.say(words)?;
-    text_into(argument_of(sight, number), line)
-}
-
-// That a text stands nowhere in the form that argument 1 names.
-fn nowhere_into<A: Allocator + Copy>(
-    sight: &Sight<'_, A>,
-    number: usize,
-    line: &mut ScreenLine<A>,
-) -> Result<(), AllocError> {
-    numbered_into(sight, number, line)?;
-    line.say(b" is nowhere in the form ")?;
-    text_into(argument_of(sight, 1), line)
-}
-
-// Which argument of which call it is.
-fn numbered_into<A: Allocator + Copy>(
-    sight: &Sight<'_, A>,
-    number: usize,
-    line: &mut ScreenLine<A>,
-) -> Result<(), AllocError> {
-    line.say(b"argument ")?;
-    line.count(number as u64)?;
-    line.say(b" of ")?;
-    text_into(argument_of(sight, 0), line)
+    text_into(argument_of(sight, shown), line)
 }
 
 // The front of a text; of an empty one that it is empty.

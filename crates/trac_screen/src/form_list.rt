@@ -1,6 +1,7 @@
 //! The forms, listed and shown.
 
-use crate::screen_line::ScreenLine;
+use crate::screen_line::Part::{Number, Shown, Words};
+use crate::screen_line::put_line;
 use std::alloc::{AllocError, Allocator};
 use trac_forms::{Form, Store};
 use trac_rules::item::Item;
@@ -25,32 +26,15 @@ pub fn list_into<A: Allocator + Copy>(
             Some(form) => form.len(),
             None => 0,
         };
-        length_into(alloc, name, len, out)?;
+        let parts = [
+            Words(b"length "),
+            Number(len as u64),
+            Words(b"  "),
+            Shown(name),
+        ];
+        put_line(alloc, &parts, out)?;
     }
     Ok(())
-}
-
-// A line for a form of this name that has so many items.
-fn length_into<A: Allocator + Copy>(
-    alloc: A,
-    name: &[u8],
-    len: usize,
-    out: &mut Vec<u8, A>,
-) -> Result<(), AllocError> {
-    let mut line = ScreenLine::new(alloc);
-    say_length(name, len, &mut line)?;
-    line.end_into(out)
-}
-
-fn say_length<A: Allocator + Copy>(
-    name: &[u8],
-    len: usize,
-    line: &mut ScreenLine<A>,
-) -> Result<(), AllocError> {
-    line.say(b"length ")?;
-    line.count(len as u64)?;
-    line.say(b"  ")?;
-    line.show(name)
 }
 
 /// Puts the form of a name at the end of a text, all of it, in one line: a gap of number k as `[k]`, and the pointer as

@@ -1,5 +1,6 @@
 //! The bytes that a call was given.
 
+use crate::screen_line::Part::{Number, Words};
 use crate::screen_line::ScreenLine;
 use crate::sight::{Sight, performed_in};
 use std::alloc::{AllocError, Allocator};
@@ -61,12 +62,9 @@ fn say_bytes<A: Allocator + Copy>(
     len: u64,
     line: &mut ScreenLine<A>,
 ) -> Result<(), AllocError> {
-    line.say(b"y . ")?;
-    line.count(argument)?;
-    line.say(b" 1")?;
-    if len == 1 {
-        return Ok(());
+    line.put(&[Words(b"y . "), Number(argument), Words(b" 1")])?;
+    match len {
+        1 => Ok(()),
+        len => line.put(&[Words(b" to "), Number(len)]),
     }
-    line.say(b" to ")?;
-    line.count(len)
 }

@@ -1,6 +1,7 @@
 //! What is said of a move that stopped before its goal, and other notes.
 
-use crate::screen_line::ScreenLine;
+use crate::screen_line::Part::{Number, Shown, Words};
+use crate::screen_line::{ScreenLine, put_line};
 use std::alloc::{AllocError, Allocator};
 use trac_rules::refusal::Refusal;
 
@@ -90,21 +91,16 @@ pub fn stop_into<A: Allocator + Copy>(
     line.end_into(out)?;
     match stop {
         Stop::NoForm => out.extend_from_slice(NO_FORM),
-        Stop::UnmetUpTo(_, step) | Stop::SpentUpTo(step) => recall_into(alloc, step, out),
+        Stop::UnmetUpTo(_, step) | Stop::SpentUpTo(step) => {
+            let ended = b", where the search ended";
+            put_line(
+                alloc,
+                &[Words(b"m goes to step "), Number(step), Words(ended)],
+                out,
+            )
+        }
         _ => Ok(()),
     }
-}
-
-// That `m` goes to this step, where a search has ended.
-fn recall_into<A: Allocator + Copy>(
-    alloc: A,
-    step: u64,
-    out: &mut Vec<u8, A>,
-) -> Result<(), AllocError> {
-    let mut line = ScreenLine::new(alloc);
-    line.say(b"m goes to step ")?;
-    say_count(step, b", where the search ended", &mut line)?;
-    line.end_into(out)
 }
 
 // Why a move stopped, in words.
@@ -118,60 +114,47 @@ fn say_stop<A: Allocator + Copy>(
     }
     line.say(reason(stop))?;
     match stop {
-        Stop::Spent | Stop::SpentUpTo(_) | Stop::Going => say_count(
-            SEARCH_LIMIT,
-            b" steps; an empty line goes on",
-            line,
-        ),
-        Stop::Unended => say_count(SEARCH_LIMIT, b" steps; s N goes on by N steps", line),
+        Stop::Spent | Stop::SpentUpTo(_) | Stop::Going => {
+            line.put(&[
+                Number(SEARCH_LIMIT),
+                Words(b" steps; an empty line goes on"),
+            ])
+        }
+        Stop::Unended => line.put(&[
+            Number(SEARCH_LIMIT),
+            Words(b" steps; s N goes on by N steps"),
+        ]),
         Stop::AtFirst | Stop::NotMet | Stop::NoForm => line.count(first_step),
-        Stop::NoValueSince => say_count(first_step, b", the first that is kept, ends here", line),
+        Stop::NoValueSince => {
+            line.put(&[
+                Number(first_step),
+                Words(b", the first that is kept, ends here"),
+            ])
+        }
         Stop::NotPrintedSince | Stop::PrintedEarlier => line.count(first_step),
         Stop::NoArgument(argument) => line.count(argument),
-        Stop::WhichByte(argument, len) => say_which(argument, len, line),
-        Stop::ShortArgument(argument, len) => say_length(argument, len, line),
+        Stop::WhichByte(argument, len) => {
+            line.put(&[
+                Number(argument),
+                Words(b" is not empty: y . "),
+                Number(argument),
+            ])?;
+            match len {
+                1 => line.say(b" 1 follows its byte"),
+                len => line.put(&[Words(b" K follows its byte K, 1 to "), Number(len)]),
+            }
+        }
+        Stop::ShortArgument(argument, 1) => line.put(&[Number(argument), Words(b" has 1 byte")]),
+        Stop::ShortArgument(argument, len) => {
+            line.put(&[
+                Number(argument),
+                Words(b" has "),
+                Number(len),
+                Words(b" bytes"),
+            ])
+        }
         _ => Ok(()),
     }
-}
-
-// How a byte of an argument is named that has so many, after its number.
-fn say_which<A: Allocator + Copy>(
-    argument: u64,
-    len: u64,
-    line: &mut ScreenLine<A>,
-) -> Result<(), AllocError> {
-    say_count(argument, b" is not empty: y . ", line)?;
-    line.count(argument)?;
-    match len {
-        1 => line.say(b" 1 follows its byte"),
-        len => {
-            line.say(b" K follows its byte K, 1 to ")?;
-            line.count(len)
-        }
-    }
-}
-
-// How many bytes an argument has, after its number.
-fn say_length<A: Allocator + Copy>(
-    argument: u64,
-    len: u64,
-    line: &mut ScreenLine<A>,
-) -> Result<(), AllocError> {
-    say_count(argument, b" has ", line)?;
-    match len {
-        1 => line.say(b"1 byte"),
-        len => say_count(len, b" bytes", line),
-    }
-}
-
-// A number, and words after it.
-fn say_count<A: Allocator + Copy>(
-    number: u64,
-    words: &[u8],
-    line: &mut ScreenLine<A>,
-) -> Result<(), AllocError> {
-    line.count(number)?;
-    line.say(words)
 }
 
 // Why a move stopped, up to the number that is said with it, where one is.
@@ -233,22 +216,11 @@ pub fn later_into<A: Allocator + Copy>(
     later: Later,
     out: &mut Vec<u8, A>,
 ) -> Result<(), AllocError> {
-    let mut line = ScreenLine::new(alloc);
-    match later {
-        Later::By(step) => say_step(b"it is printed first by step ", step, &mut line)?,
-        Later::NotUpTo(step) => say_step(b"nor is it printed up to step ", step, &mut line)?,
-    }
-    line.end_into(out)
-}
-
-// Words, and the number of a step.
-fn say_step<A: Allocator + Copy>(
-    words: &[u8],
-    step: u64,
-    line: &mut ScreenLine<A>,
-) -> Result<(), AllocError> {
-    line.say(words)?;
-    line.count(step)
+    let (words, step): (&[u8], u64) = match later {
+        Later::By(step) => (b"it is printed first by step ", step),
+        Later::NotUpTo(step) => (b"nor is it printed up to step ", step),
+    };
+    put_line(alloc, &[Words(words), Number(step)], out)
 }
 
 /// Why steps are forgotten.
@@ -272,10 +244,15 @@ pub fn window_into<A: Allocator + Copy>(
     why: Forgetting,
     out: &mut Vec<u8, A>,
 ) -> Result<(), AllocError> {
-    let mut line = ScreenLine::new(alloc);
-    line.say(b"steps before ")?;
-    say_count(first_step, forgotten(why), &mut line)?;
-    line.end_into(out)
+    put_line(
+        alloc,
+        &[
+            Words(b"steps before "),
+            Number(first_step),
+            Words(forgotten(why)),
+        ],
+        out,
+    )
 }
 
 // That steps are forgotten, and why.
@@ -295,9 +272,10 @@ pub fn no_end_into<A: Allocator + Copy>(
     meta: u8,
     out: &mut Vec<u8, A>,
 ) -> Result<(), AllocError> {
-    let mut line = ScreenLine::new(alloc);
-    line.say(b"no ")?;
-    line.show(&[meta])?;
-    line.say(b" in this line: rs reads on until one comes")?;
-    line.end_into(out)
+    let reads_on = b" in this line: rs reads on until one comes";
+    put_line(
+        alloc,
+        &[Words(b"no "), Shown(&[meta]), Words(reads_on)],
+        out,
+    )
 }

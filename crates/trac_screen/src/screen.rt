@@ -1,7 +1,8 @@
 //! The state on one screen.
 ghost use Rattle.std.specs.Prelude.{◌≤◌, length};
 
-use crate::screen_line::{ScreenLine, shown_tail, tail};
+use crate::screen_line::Part::{Number, Shown, Words};
+use crate::screen_line::{ScreenLine, put_line, shown_tail, tail};
 use crate::standing_line::begun_into;
 use std::alloc::{AllocError, Allocator};
 use trac_gap::TwoEnds;
@@ -277,32 +278,23 @@ fn storage_into<E: TwoEnds<u8, A>, M: TwoEnds<Mark, A>, A: Allocator + Copy>(
     machine: &Core<E, M, A>,
     out: &mut Vec<u8, A>,
 ) -> Result<(), AllocError> {
-    let store = machine.store();
-    let mut line = labelled(alloc, b"forms   ")?;
-    say_counts(store.form_count(), store.block_count(), &mut line)?;
-    say_settings(machine.meta(), machine.trace(), &mut line)?;
-    line.end_into(out)
-}
-
-// Here and below what says several words is lent the line: each word that may be refused would else let go of it.
-fn say_counts<A: Allocator + Copy>(
-    forms: usize,
-    blocks: usize,
-    line: &mut ScreenLine<A>,
-) -> Result<(), AllocError> {
-    line.count(forms as u64)?;
-    line.say(b" (f lists them), blocks ")?;
-    line.count(blocks as u64)
-}
-
-fn say_settings<A: Allocator + Copy>(
-    meta: u8,
-    trace: bool,
-    line: &mut ScreenLine<A>,
-) -> Result<(), AllocError> {
-    line.say(b", meta ")?;
-    line.show(&[meta])?;
-    line.say(if trace { b", trace on" } else { b", trace off" })
+    let forms = machine.store().form_count() as u64;
+    let blocks = machine.store().block_count() as u64;
+    let trace: &[u8] = if machine.trace() {
+        b", trace on"
+    } else {
+        b", trace off"
+    };
+    let parts = [
+        Words(b"forms   "),
+        Number(forms),
+        Words(b" (f lists them), blocks "),
+        Number(blocks),
+        Words(b", meta "),
+        Shown(&[machine.meta()]),
+        Words(trace),
+    ];
+    put_line(alloc, &parts, out)
 }
 
 // How far one can go back, and what is read and printed.
@@ -311,34 +303,23 @@ fn reach_into<A: Allocator + Copy>(
     reach: Reach,
     out: &mut Vec<u8, A>,
 ) -> Result<(), AllocError> {
-    let mut line = labelled(alloc, b"step    ")?;
-    say_steps(reach, &mut line)?;
-    say_bytes(reach, &mut line)?;
-    line.end_into(out)
+    let parts = [
+        Words(b"step    "),
+        Number(reach.step),
+        Words(b", back to "),
+        Number(reach.first_step),
+        Words(b"; "),
+        Number(reach.unread),
+        Words(bytes(reach.unread)),
+        Words(b" of input not read, "),
+        Number(reach.printed),
+        Words(bytes(reach.printed)),
+        Words(b" printed"),
+    ];
+    put_line(alloc, &parts, out)
 }
 
-fn say_steps<A: Allocator + Copy>(
-    reach: Reach,
-    line: &mut ScreenLine<A>,
-) -> Result<(), AllocError> {
-    line.count(reach.step)?;
-    line.say(b", back to ")?;
-    line.count(reach.first_step)
-}
-
-fn say_bytes<A: Allocator + Copy>(
-    reach: Reach,
-    line: &mut ScreenLine<A>,
-) -> Result<(), AllocError> {
-    line.say(b"; ")?;
-    bytes_into(reach.unread, line)?;
-    line.say(b" of input not read, ")?;
-    bytes_into(reach.printed, line)?;
-    line.say(b" printed")
-}
-
-// How many bytes, in words.
-fn bytes_into<A: Allocator + Copy>(count: u64, line: &mut ScreenLine<A>) -> Result<(), AllocError> {
-    line.count(count)?;
-    line.say(if count == 1 { b" byte" } else { b" bytes" })
+// What so many are called.
+fn bytes(count: u64) -> &'static [u8] {
+    if count == 1 { b" byte" } else { b" bytes" }
 }

@@ -14,6 +14,17 @@ const FIRST_WIDTH: usize = 56;
 // What stands at the end of a line where more does not fit.
 const CUT: &[u8] = b"..";
 
+/// A part of a line.
+#[derive(Clone, Copy)]
+pub(crate) enum Part<'a> {
+    /// Words, which are printable.
+    Words(&'a [u8]),
+    /// A number.
+    Number(u64),
+    /// A text, its bytes shown as `trac debug` shows them.
+    Shown(&'a [u8]),
+}
+
 /// A line that is being written. What does not fit the screen is not kept, so that to show a little of a long text
 /// takes the same time as to show a short one.
 #[derive(Drop)]
@@ -65,11 +76,25 @@ impl<A: Allocator + Copy> ScreenLine<A> {
         number_into(number, &mut self.bytes)
     }
 
+    /// Puts these parts at the end.
+    pub(crate) fn put(&mut self, parts: &[Part<'_>]) -> Result<(), AllocError> {
+        for part in parts {
+            match *part {
+                Part::Words(words) => self.say(words)?,
+                Part::Number(number) => self.count(number)?,
+                Part::Shown(text) => self.show(text)?,
+            }
+        }
+        Ok(())
+    }
+
     /// Puts at the end that so many are left out.
     pub fn say_left_out(&mut self, number: usize) -> Result<(), AllocError> {
-        self.say(b".. ")?;
-        self.count(number as u64)?;
-        self.say(b" more ..")
+        self.put(&[
+            Part::Words(b".. "),
+            Part::Number(number as u64),
+            Part::Words(b" more .."),
+        ])
     }
 
     /// Puts a text at the end, its bytes shown as `trac debug` shows them.
@@ -87,9 +112,7 @@ impl<A: Allocator + Copy> ScreenLine<A> {
         if !has_marks(seen) {
             return self.show(seen);
         }
-        self.say(b"(")?;
-        self.show(seen)?;
-        self.say(b")")
+        self.put(&[Part::Words(b"("), Part::Shown(seen), Part::Words(b")")])
     }
 
     /// Puts blanks at the end, two or as many as lead to this column.
@@ -133,6 +156,17 @@ impl<A: Allocator + Copy> ScreenLine<A> {
         out.extend_from_slice(self.bytes.as_slice())?;
         Ok(out.push(LINE_FEED)?)
     }
+}
+
+/// Puts a line of these parts at the end of a text.
+pub(crate) fn put_line<A: Allocator + Copy>(
+    alloc: A,
+    parts: &[Part<'_>],
+    out: &mut Vec<u8, A>,
+) -> Result<(), AllocError> {
+    let mut line = ScreenLine::new(alloc);
+    line.put(parts)?;
+    line.end_into(out)
 }
 
 /// The first bytes of a text, so many at most.

@@ -1,5 +1,6 @@
 //! Where a walk stands, in one line.
 
+use crate::screen_line::Part::{Number, Shown, Words};
 use crate::screen_line::{ScreenLine, front};
 use crate::sight::Sight;
 use std::alloc::{AllocError, Allocator};
@@ -27,40 +28,16 @@ pub fn next_into<A: Allocator + Copy>(
     sight: &Sight<'_, A>,
     line: &mut ScreenLine<A>,
 ) -> Result<(), AllocError> {
-    line.count(step)?;
-    line.say(b"  ")?;
-    match &sight.begun {
-        Some((kind, arguments)) => inside_into(sight.active, *kind, arguments, line),
-        None => outside_into(sight.active, line),
-    }
-}
-
-// What the next step does inside a function.
-fn inside_into<A: Allocator + Copy>(
-    active: &[u8],
-    kind: Kind,
-    arguments: &Args<'_>,
-    line: &mut ScreenLine<A>,
-) -> Result<(), AllocError> {
-    match active {
-        [b')', ..] => call_into(kind, arguments, line),
-        [b',', ..] => {
+    line.put(&[Number(step), Words(b"  ")])?;
+    match (sight.active, &sight.begun) {
+        ([b')', ..], Some((kind, arguments))) => call_into(*kind, arguments, line),
+        ([b',', ..], Some((kind, arguments))) => {
             line.say(b"\",\" ends an argument of ")?;
-            begun_into(kind, arguments, line)
+            begun_into(*kind, arguments, line)
         }
-        active => anywhere_into(active, line),
-    }
-}
-
-// What the next step does outside all functions.
-fn outside_into<A: Allocator + Copy>(
-    active: &[u8],
-    line: &mut ScreenLine<A>,
-) -> Result<(), AllocError> {
-    match active {
-        [b')', ..] => line.say(b"\")\" outside any call is deleted"),
-        [b',', ..] => line.say(b"\",\" outside any call is deleted"),
-        active => anywhere_into(active, line),
+        ([b')', ..], None) => line.say(b"\")\" outside any call is deleted"),
+        ([b',', ..], None) => line.say(b"\",\" outside any call is deleted"),
+        (active, _) => anywhere_into(active, line),
     }
 }
 
@@ -76,7 +53,11 @@ fn anywhere_into<A: Allocator + Copy>(
         [b'#', b'#', b'(', ..] => quoted_into(b"\"##(\" begins a call: ", active, line),
         [b'\r' | b'\n', rest @ ..] => quoted_into(b"a line end is deleted, before: ", rest, line),
         [b'\t', rest @ ..] => quoted_into(b"a tab is deleted, before: ", rest, line),
-        active => taken_into(active, line),
+        active => {
+            let first = front(active, 1);
+            let taken = b"\" is taken as it is: ";
+            line.put(&[Words(b"\""), Shown(first), Words(taken), Shown(active)])
+        }
     }
 }
 
@@ -88,24 +69,13 @@ fn words_of_opening(rest: &[u8]) -> &'static [u8] {
     }
 }
 
-// That the first byte of the active text is taken as it is.
-fn taken_into<A: Allocator + Copy>(
-    active: &[u8],
-    line: &mut ScreenLine<A>,
-) -> Result<(), AllocError> {
-    line.say(b"\"")?;
-    line.show(front(active, 1))?;
-    quoted_into(b"\" is taken as it is: ", active, line)
-}
-
 // Words, and what the active text goes on with.
 fn quoted_into<A: Allocator + Copy>(
     words: &[u8],
     text: &[u8],
     line: &mut ScreenLine<A>,
 ) -> Result<(), AllocError> {
-    line.say(words)?;
-    line.show(text)
+    line.put(&[Words(words), Shown(text)])
 }
 
 /// Puts a call with its arguments at the end of a line.

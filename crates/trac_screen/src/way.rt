@@ -1,5 +1,6 @@
 //! The way of a byte back: what steps did with it, one in a line.
 
+use crate::screen_line::Part::{Number, Words};
 use crate::screen_line::ScreenLine;
 use crate::sight::Sight;
 use crate::standing_line::next_into;
@@ -79,34 +80,31 @@ fn say_treatment<A: Allocator + Copy>(
 ) -> Result<(), AllocError> {
     line.say(words_of(treatment))?;
     match treatment {
-        Treatment::Ends(Origin::Read(row, column)) => place_into(row, column, line),
-        Treatment::Ends(Origin::ReadFed(number)) => fed_into(number, line),
-        Treatment::LeavesGap(number) => left_into(number, line),
+        Treatment::Ends(origin) => read_into(origin, line),
+        Treatment::LeavesGap(number) => line.put(&[Number(number), Words(b" empty")]),
         _ => Ok(()),
     }
 }
 
-// A place in the program, both numbers counted from 1.
-fn place_into<A: Allocator + Copy>(
-    row: u64,
-    column: u64,
+// The place of a byte that was read; nothing of another one.
+fn read_into<A: Allocator + Copy>(
+    origin: Origin,
     line: &mut ScreenLine<A>,
 ) -> Result<(), AllocError> {
-    line.count(row)?;
-    line.say(b", column ")?;
-    line.count(column)
-}
-
-// A byte of the input after the program.
-fn fed_into<A: Allocator + Copy>(number: u64, line: &mut ScreenLine<A>) -> Result<(), AllocError> {
-    line.count(number)?;
-    line.say(b" after FILE")
-}
-
-// That the gap of this number is filled with nothing.
-fn left_into<A: Allocator + Copy>(number: u64, line: &mut ScreenLine<A>) -> Result<(), AllocError> {
-    line.count(number)?;
-    line.say(b" empty")
+    match origin {
+        Origin::Read(row, column) => {
+            line.put(&[
+                Words(b"line "),
+                Number(row),
+                Words(b", column "),
+                Number(column),
+            ])
+        }
+        Origin::ReadFed(number) => {
+            line.put(&[Words(b"byte "), Number(number), Words(b" after FILE")])
+        }
+        Origin::Made | Origin::There => Ok(()),
+    }
 }
 
 /// Puts where a byte comes from at the end of a line; its way ends at the step of this number.
@@ -116,26 +114,13 @@ pub fn origin_into<A: Allocator + Copy>(
     line: &mut ScreenLine<A>,
 ) -> Result<(), AllocError> {
     match origin {
-        Origin::Read(row, column) => {
-            line.say(b"line ")?;
-            place_into(row, column, line)
-        }
-        Origin::ReadFed(number) => {
-            line.say(b"byte ")?;
-            fed_into(number, line)
-        }
-        Origin::Made => {
-            line.say(b"made by step ")?;
-            line.count(step)
-        }
-        Origin::There => {
-            line.say(b"there at step ")?;
-            line.count(step)
-        }
+        Origin::Made => line.put(&[Words(b"made by step "), Number(step)]),
+        Origin::There => line.put(&[Words(b"there at step "), Number(step)]),
+        read => read_into(read, line),
     }
 }
 
-// What was done; of what is read the words before its place.
+// What was done, in words that its place or its number may follow.
 fn words_of(treatment: Treatment) -> &'static [u8] {
     match treatment {
         Treatment::Prints => b"prints it",
@@ -146,8 +131,7 @@ fn words_of(treatment: Treatment) -> &'static [u8] {
         Treatment::MakesGap => b"makes the gap",
         Treatment::Empties => b"empties it",
         Treatment::Ends(Origin::Made) => b"makes it",
-        Treatment::Ends(Origin::Read(_, _)) => b"reads it: line ",
-        Treatment::Ends(Origin::ReadFed(_)) => b"reads it: byte ",
+        Treatment::Ends(Origin::Read(_, _) | Origin::ReadFed(_)) => b"reads it: ",
         Treatment::Ends(Origin::There) => b"it is there already",
     }
 }

@@ -1,27 +1,26 @@
 //! Whether a text that was not printed so far is printed later.
 
 use crate::aim::Aim;
+use crate::telling::Telling;
 use crate::walker::Walker;
 use memchr::memmem;
 use std::alloc::{AllocError, Allocator};
-use trac_screen::{Later, Stop, later_into, stop_into};
+use trac_screen::{Later, Stop, later_into};
 use trac_session::Refusal;
 
-/// Puts a line at the end of a text that says which step prints this text first, after where the walker stands, or up
-/// to which step none does. It looks ahead as far as it can without forgetting a step, and comes back. The error is
-/// that memory was refused for the line.
-pub fn printed_later_into<A: Allocator + Copy>(
-    alloc: A,
-    walker: &mut Walker<A>,
-    text: &[u8],
-    out: &mut Vec<u8, A>,
-) -> Result<(), AllocError> {
-    let start = walker.step();
-    let later = later_than_here(walker, text);
-    let _ = walker.back(walker.step().saturating_sub(start));
-    match later {
-        Ok(later) => later_into(alloc, later, out),
-        Err(refusal) => stop_into(alloc, walker.first_step(), Stop::Refused(refusal), out),
+impl<A: Allocator + Copy> Telling<'_, A> {
+    /// Says which step prints this text first, after where the walker stands, or up to which step none does. It looks
+    /// ahead as far as it can without forgetting a step, and comes back. The error is that memory was refused for the
+    /// line.
+    pub(crate) fn printed_later_into(&mut self, text: &[u8]) -> Result<(), AllocError> {
+        let start = self.walker.step();
+        let later = later_than_here(self.walker, text);
+        let ahead = self.walker.step().saturating_sub(start);
+        let _ = self.walker.back(ahead);
+        match later {
+            Ok(later) => later_into(self.alloc, later, self.out),
+            Err(refusal) => self.stop(Stop::Refused(refusal)),
+        }
     }
 }
 

@@ -14,7 +14,7 @@ mod output;
 mod places;
 mod replying;
 mod searching;
-mod standing;
+mod telling;
 mod walker;
 mod walking;
 

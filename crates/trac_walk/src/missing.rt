@@ -1,12 +1,12 @@
 //! Why nothing stands where a byte is wanted: in an empty argument, or in an empty form.
 
-use crate::origins::{Unsaid, followed_into, stay};
-use crate::standing::stand_into;
+use crate::origins::Unsaid;
+use crate::telling::Telling;
 use crate::walker::Walker;
 use std::alloc::{AllocError, Allocator};
 use trac_follow::{End, Place, Witness};
 use trac_forms::Item;
-use trac_screen::{Origin, Stop, Treatment, argument_count, treatment_into};
+use trac_screen::{Origin, Stop, Treatment, argument_count};
 use trac_session::Machine;
 
 // Where a byte stood in forms that calls gave it from, the latest first.
@@ -19,12 +19,7 @@ struct InForms<A: Allocator + Copy> {
 }
 
 impl<A: Allocator + Copy> Witness<A> for InForms<A> {
-    fn passed(
-        &mut self,
-        _machine: &Machine<A>,
-        steps: u64,
-        from: Place<'_>,
-    ) -> Result<(), AllocError> {
+    fn passed(&mut self, _: &Machine<A>, steps: u64, from: Place<'_>) -> Result<(), AllocError> {
         if let Place::Form(_, item) = from {
             self.places.push((self.latest, item))?;
         }
@@ -45,38 +40,54 @@ pub fn argument_len<A: Allocator + Copy>(walker: &Walker<A>, argument: u64) -> R
     }
 }
 
-/// Goes back to what left this argument of the innermost begun function empty, and says so at the end of a
-/// text: the last call that stood there, whose value is empty; the gap of a form that a call filled with
-/// nothing, with the `ss` that made it; else the way of the byte after which nothing stands. The error is that
-/// memory was refused, here and below.
-pub fn empty_argument_into<A: Allocator + Copy>(
-    alloc: A,
-    walker: &mut Walker<A>,
-    program: &[u8],
-    argument: usize,
-    out: &mut Vec<u8, A>,
-) -> Result<(), AllocError> {
-    let start = walker.step();
-    match back_into_argument(walker, argument) {
-        Within::Call => told_into(alloc, walker, Treatment::GivesNothing, out),
-        Within::Beginning(place) => unwritten_into(alloc, walker, program, place, out),
-        Within::Unkept => match walker.go_to(start) {
-            None => stay(alloc, walker, Stop::NotMet, out),
-            Some(refusal) => stay(alloc, walker, Stop::Refused(refusal), out),
-        },
+impl<A: Allocator + Copy> Telling<'_, A> {
+    /// Goes back to what left this argument of the innermost begun function empty, and says so: the last call that
+    /// stood there, whose value is empty; the gap of a form that a call filled with nothing, with the `ss` that made
+    /// it; else the way of the byte after which nothing stands. The error is that memory was refused, here and below.
+    pub(crate) fn empty_argument_into(&mut self, argument: usize) -> Result<(), AllocError> {
+        let start = self.walker.step();
+        match back_into_argument(self.walker, argument) {
+            Within::Call => self.tell_here(Treatment::GivesNothing),
+            Within::Beginning(place) => self.unwritten_into(place),
+            Within::Unkept => match self.walker.go_to(start) {
+                None => self.stay(Stop::NotMet),
+                Some(refusal) => self.stay(Stop::Refused(refusal)),
+            },
+        }
     }
-}
 
-/// Goes back to the call that emptied the form of this name, and says so at the end of a text.
-pub fn empty_form_into<A: Allocator + Copy>(
-    alloc: A,
-    walker: &mut Walker<A>,
-    name: &[u8],
-    out: &mut Vec<u8, A>,
-) -> Result<(), AllocError> {
-    match walker.return_to_change(name) {
-        None => told_into(alloc, walker, Treatment::Empties, out),
-        Some(_) => stay(alloc, walker, Stop::NotMet, out),
+    /// Goes back to the call that emptied the form of this name, and says so.
+    pub(crate) fn empty_form_into(&mut self, name: &[u8]) -> Result<(), AllocError> {
+        match self.walker.return_to_change(name) {
+            None => self.tell_here(Treatment::Empties),
+            Some(_) => self.stay(Stop::NotMet),
+        }
+    }
+
+    // Says where an argument is empty in which nothing stood: after the byte at this place of the active text.
+    fn unwritten_into(&mut self, place: usize) -> Result<(), AllocError> {
+        let start = self.walker.step();
+        if let Some((item, gap)) = to_gap(self.alloc, self.walker, place)? {
+            self.tell(Treatment::LeavesGap(u64::from(gap)))?;
+            return self.gap_into(item);
+        }
+        if let Some(refusal) = self.walker.go_to(start) {
+            return self.stay(Stop::Refused(refusal));
+        }
+        self.say(b"it is empty where it was written, after this byte:\n")?;
+        self.followed_into(Place::Active(place))
+    }
+
+    // Goes back to the call that made the gap which is this item of the form that the call names which comes next.
+    fn gap_into(&mut self, item: usize) -> Result<(), AllocError> {
+        let name = named_here(self.alloc, self.walker)?;
+        let place = Place::Form(name.as_slice(), item);
+        let end = self.walker.trace(place, &mut Unsaid).end;
+        is_told(end)?;
+        self.tell_here(match end {
+            End::Made => Treatment::MakesGap,
+            _ => Treatment::Ends(Origin::There),
+        })
     }
 }
 
@@ -108,26 +119,6 @@ fn back_into_argument<A: Allocator + Copy>(walker: &mut Walker<A>, argument: usi
         }
     }
     Within::Unkept
-}
-
-// Says where an argument is empty in which nothing stood: after the byte at this place of the active text.
-fn unwritten_into<A: Allocator + Copy>(
-    alloc: A,
-    walker: &mut Walker<A>,
-    program: &[u8],
-    place: usize,
-    out: &mut Vec<u8, A>,
-) -> Result<(), AllocError> {
-    let start = walker.step();
-    if let Some((item, gap)) = to_gap(alloc, walker, place)? {
-        told_line_into(alloc, walker, Treatment::LeavesGap(u64::from(gap)), out)?;
-        return gap_into(alloc, walker, item, out);
-    }
-    if let Some(refusal) = walker.go_to(start) {
-        return stay(alloc, walker, Stop::Refused(refusal), out);
-    }
-    out.extend_from_slice(b"it is empty where it was written, after this byte:\n")?;
-    followed_into(alloc, walker, program, Place::Active(place), out)
 }
 
 // Goes to the call that gave the byte at this place of the active text from a form in which a gap follows, which was
@@ -164,25 +155,6 @@ fn gap_at<A: Allocator + Copy>(walker: &Walker<A>, item: usize) -> Option<u32> {
     }
 }
 
-// Goes back to the call that made the gap which is this item of the form that the call names which comes next.
-fn gap_into<A: Allocator + Copy>(
-    alloc: A,
-    walker: &mut Walker<A>,
-    item: usize,
-    out: &mut Vec<u8, A>,
-) -> Result<(), AllocError> {
-    let name = named_here(alloc, walker)?;
-    let end = walker
-        .trace(Place::Form(name.as_slice(), item), &mut Unsaid)
-        .end;
-    is_told(end)?;
-    let treatment = match end {
-        End::Made => Treatment::MakesGap,
-        _ => Treatment::Ends(Origin::There),
-    };
-    told_into(alloc, walker, treatment, out)
-}
-
 // That a way was told to its end. The error is that it was not, for want of memory.
 fn is_told(end: End) -> Result<(), AllocError> {
     match end {
@@ -197,26 +169,4 @@ fn named_here<A: Allocator + Copy>(alloc: A, walker: &Walker<A>) -> Result<Vec<u
         Some((_, arguments)) => Vec::from_slice(alloc, arguments.get(1)),
         None => Ok(Vec::new(alloc)),
     }
-}
-
-// A line for the step that comes next, and what it did.
-fn told_line_into<A: Allocator + Copy>(
-    alloc: A,
-    walker: &Walker<A>,
-    treatment: Treatment,
-    out: &mut Vec<u8, A>,
-) -> Result<(), AllocError> {
-    treatment_into(alloc, walker.step(), &walker.sight(), treatment, out)
-}
-
-// The same, and that the walk stands there.
-fn told_into<A: Allocator + Copy>(
-    alloc: A,
-    walker: &Walker<A>,
-    treatment: Treatment,
-    out: &mut Vec<u8, A>,
-) -> Result<(), AllocError> {
-    told_line_into(alloc, walker, treatment, out)?;
-    out.extend_from_slice(b"here: ")?;
-    stand_into(alloc, walker, out)
 }

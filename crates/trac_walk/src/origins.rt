@@ -1,19 +1,15 @@
 //! The way of a byte back to where it comes from.
 
 use crate::calls_told::{Way, told_way};
-use crate::later::printed_later_into;
-use crate::missing::{argument_len, empty_argument_into, empty_form_into};
+use crate::missing::argument_len;
 use crate::output::{last_printed, printed, printed_text};
-use crate::standing::stand_into;
+use crate::telling::Telling;
 use crate::walker::Walker;
 use std::alloc::{AllocError, Allocator};
 use trac_follow::{End, Place, Witness};
 use trac_orders::Spot;
 use trac_rules::byte::LINE_FEED;
-use trac_screen::{
-    Origin, Stop, Treatment, left_out_into, origin_into, piece_into, step_line, stop_into,
-    treatment_into,
-};
+use trac_screen::{Origin, Stop, Treatment, left_out_into, origin_into, piece_into, step_line};
 use trac_session::Machine;
 
 /// A witness of a byte's way of which nothing is said.
@@ -21,69 +17,141 @@ use trac_session::Machine;
 pub struct Unsaid;
 
 impl<A: Allocator + Copy> Witness<A> for Unsaid {
-    fn passed(
-        &mut self,
-        _machine: &Machine<A>,
-        _steps: u64,
-        _from: Place<'_>,
-    ) -> Result<(), AllocError> {
+    fn passed(&mut self, _: &Machine<A>, _: u64, _: Place<'_>) -> Result<(), AllocError> {
         Ok(())
     }
 }
 
-/// Goes back to the step that made a byte, or read it, and puts the way there at the end of a text: a line for each
-/// call that carried it, the latest first, and then where it stands. Of a byte of the program it says the line and
-/// the column. It takes memory for the lines alone. The error is that memory was refused, here and below, or that the
-/// name of a form could not be kept.
-pub fn way_into<A: Allocator + Copy>(
-    alloc: A,
-    walker: &mut Walker<A>,
-    program: &[u8],
-    spot: Spot<'_>,
-    out: &mut Vec<u8, A>,
-) -> Result<(), AllocError> {
-    if let Some(argument) = argument_meant(walker, spot) {
-        return argument_into(alloc, walker, program, argument, out);
+impl<A: Allocator + Copy> Telling<'_, A> {
+    /// Goes back to the step that made a byte, or read it, and tells the way there: a line for each call that carried
+    /// it, the latest first, and then where it stands. Of a byte of the program it says the line and the column. It
+    /// takes memory for the lines alone. The error is that memory was refused, here and below, or that the name of a
+    /// form could not be kept.
+    pub(crate) fn way_into(&mut self, spot: Spot<'_>) -> Result<(), AllocError> {
+        if let Some(argument) = argument_meant(self.walker, spot) {
+            return self.argument_into(argument, true);
+        }
+        match place_of(self.walker, spot) {
+            Ok(place) if stands_at(self.walker, spot) => match spot {
+                Spot::Next => self.name_into(place),
+                _ => self.followed_into(place),
+            },
+            Ok(_) => self.missing_into(spot),
+            Err(stop) => self.unfollowed_into(spot, stop),
+        }
     }
-    match place_of(walker, spot) {
-        Ok(place) if stands_at(walker, spot) => match spot {
-            Spot::Next => name_into(alloc, walker, program, place, out),
-            _ => followed_into(alloc, walker, program, place, out),
-        },
-        Ok(_) => missing_into(alloc, walker, program, spot, out),
-        Err(stop) => unfollowed_into(alloc, walker, spot, stop, out),
-    }
-}
 
-/// The same of a place.
-pub fn followed_into<A: Allocator + Copy>(
-    alloc: A,
-    walker: &mut Walker<A>,
-    program: &[u8],
-    place: Place<'_>,
-    out: &mut Vec<u8, A>,
-) -> Result<(), AllocError> {
-    let (way, found) = told_way(alloc, walker, place);
-    way_told_into(alloc, walker, program, &way, found.end, out)
-}
-
-// The same of the first byte of the name of the call that comes next. Of one that is the idle program's it
-// says so, and goes forward again.
-fn name_into<A: Allocator + Copy>(
-    alloc: A,
-    walker: &mut Walker<A>,
-    program: &[u8],
-    place: Place<'_>,
-    out: &mut Vec<u8, A>,
-) -> Result<(), AllocError> {
-    let end = walker.step();
-    let (way, found) = told_way(alloc, walker, place);
-    if !is_idle(walker, &found.end) {
-        return way_told_into(alloc, walker, program, &way, found.end, out);
+    /// The same of a place.
+    pub(crate) fn followed_into(&mut self, place: Place<'_>) -> Result<(), AllocError> {
+        let (way, found) = told_way(self.alloc, self.walker, place);
+        self.way_told_into(&way, found.end)
     }
-    match walker.go_to(end) {
-        None => stay(alloc, walker, Stop::Idle, out),
-        Some(refusal) => stay(alloc, walker, Stop::Refused(refusal), out),
+
+    // The same of the first byte of the name of the call that comes next. Of one that is the idle program's it says so,
+    // and goes forward again.
+    fn name_into(&mut self, place: Place<'_>) -> Result<(), AllocError> {
+        let end = self.walker.step();
+        let (way, found) = told_way(self.alloc, self.walker, place);
+        if !is_idle(self.walker, &found.end) {
+            return self.way_told_into(&way, found.end);
+        }
+        match self.walker.go_to(end) {
+            None => self.stay(Stop::Idle),
+            Some(refusal) => self.stay(Stop::Refused(refusal)),
+        }
+    }
+
+    // What is said of a way that ended so, to which the walker has gone back.
+    fn way_told_into(&mut self, way: &Way<A>, end: End) -> Result<(), AllocError> {
+        let read = number_read(self.walker, &end);
+        let origin = match end {
+            End::Nothing => return self.stay(Stop::NoByte),
+            End::Unkept | End::Untold => return Err(AllocError),
+            end => origin_of(self.walker, self.program, end),
+        };
+        for told in way.told.iter() {
+            self.say(told.line.as_slice())?;
+        }
+        self.end_into(way.left_out(), origin)?;
+        self.source_into(read)?;
+        self.stand_here()
+    }
+
+    /// A line that says where the walker stands, and where the name of the call that comes next was written. For that
+    /// it goes back, as `way_into` does, and forward again; where a step is refused on the way there, for memory alone,
+    /// that is said, and it stands there.
+    pub(crate) fn written_into(&mut self) -> Result<(), AllocError> {
+        let place = match of_next(self.walker) {
+            Ok(place) => place,
+            Err(stop) => return self.stay(stop),
+        };
+        let end = self.walker.step();
+        let mut line = step_line(self.alloc, end, &self.walker.sight())?;
+        let found = self.walker.trace(place, &mut Unsaid).end;
+        let read = number_read(self.walker, &found);
+        let origin = origin_of(self.walker, self.program, found);
+        let is_idle = is_idle(self.walker, &found);
+        let source = self.walker.step();
+        if let Some(refusal) = self.walker.forward(end.saturating_sub(source)) {
+            return self.stay(Stop::Refused(refusal));
+        }
+        match found {
+            End::Nothing => return self.stay(Stop::NoName),
+            End::Unkept | End::Untold => return Err(AllocError),
+            _ if is_idle => return self.stay(Stop::Idle),
+            _ => {}
+        }
+        origin_into(origin, source, &mut line)?;
+        line.end_into(self.out)?;
+        self.source_into(read)
+    }
+
+    // Says why nothing stands where a byte is wanted: of an empty argument or form also what left it so.
+    fn missing_into(&mut self, spot: Spot<'_>) -> Result<(), AllocError> {
+        match spot {
+            Spot::OfForm(name, _) if is_empty_form(self.walker, name) => self.empty_form_into(name),
+            Spot::OfArgument(argument, _) => self.argument_into(argument, false),
+            spot => {
+                let stop = absent(self.walker, spot);
+                self.stay(stop)
+            }
+        }
+    }
+
+    // Of an empty argument what left it so; of another one how a byte of it is meant, where all of it was named, or
+    // that it has no such byte.
+    fn argument_into(&mut self, argument: u64, is_whole: bool) -> Result<(), AllocError> {
+        match argument_len(self.walker, argument) {
+            Ok(0) => self.empty_argument_into(argument as usize),
+            Ok(len) if is_whole => self.stay(Stop::WhichByte(argument, len)),
+            Ok(len) => self.stay(Stop::ShortArgument(argument, len)),
+            Err(stop) => self.stay(stop),
+        }
+    }
+
+    // Says why a byte cannot be looked for, and of a text that was not printed so far whether it is printed later.
+    fn unfollowed_into(&mut self, spot: Spot<'_>, stop: Stop) -> Result<(), AllocError> {
+        self.stop(stop)?;
+        if let (Spot::PrintedText(text), Stop::NotPrinted | Stop::NotPrintedSince) = (spot, stop) {
+            self.printed_later_into(text)?;
+        }
+        self.stand()
+    }
+
+    // The last lines of a way: how many are left out before it, and the step at which it ends.
+    fn end_into(&mut self, left_out: usize, origin: Origin) -> Result<(), AllocError> {
+        if left_out > 0 {
+            left_out_into(self.alloc, left_out, self.out)?;
+        }
+        self.tell(Treatment::Ends(origin))
+    }
+
+    // The line of the program that has the byte of this number of the input, if one was read.
+    fn source_into(&mut self, read: Option<u64>) -> Result<(), AllocError> {
+        match read {
+            Some(number) => piece_into(self.alloc, self.program, number, self.out),
+            None => Ok(()),
+        }
     }
 }
 
@@ -95,70 +163,6 @@ pub fn is_idle<A: Allocator + Copy>(walker: &Walker<A>, end: &End) -> bool {
         End::Earlier => walker.step() == 0,
         _ => false,
     }
-}
-
-// What is said of a way that ended so, to which the walker has gone back.
-fn way_told_into<A: Allocator + Copy>(
-    alloc: A,
-    walker: &Walker<A>,
-    program: &[u8],
-    way: &Way<A>,
-    end: End,
-    out: &mut Vec<u8, A>,
-) -> Result<(), AllocError> {
-    let read = number_read(walker, &end);
-    let origin = match end {
-        End::Nothing => return stay(alloc, walker, Stop::NoByte, out),
-        End::Unkept | End::Untold => return Err(AllocError),
-        end => origin_of(walker, program, end),
-    };
-    calls_into(way, out)?;
-    end_into(alloc, walker, way.left_out(), origin, out)?;
-    source_into(alloc, program, read, out)?;
-    out.extend_from_slice(b"here: ")?;
-    stand_into(alloc, walker, out)
-}
-
-// The lines of the calls that are shown.
-fn calls_into<A: Allocator + Copy>(way: &Way<A>, out: &mut Vec<u8, A>) -> Result<(), AllocError> {
-    for told in way.told.iter() {
-        out.extend_from_slice(told.line.as_slice())?;
-    }
-    Ok(())
-}
-
-/// Puts a line at the end of a text that says where it stands, and where the name of the call that comes next was
-/// written. For that it goes back, as `way_into` does, and forward again; where a step is refused on the way there, for
-/// memory alone, that is said, and it stands there.
-pub fn written_into<A: Allocator + Copy>(
-    alloc: A,
-    walker: &mut Walker<A>,
-    program: &[u8],
-    out: &mut Vec<u8, A>,
-) -> Result<(), AllocError> {
-    let place = match of_next(walker) {
-        Ok(place) => place,
-        Err(stop) => return stay(alloc, walker, stop, out),
-    };
-    let end = walker.step();
-    let mut line = step_line(alloc, end, &walker.sight())?;
-    let found = walker.trace(place, &mut Unsaid).end;
-    let read = number_read(walker, &found);
-    let origin = origin_of(walker, program, found);
-    let is_idle = is_idle(walker, &found);
-    let source = walker.step();
-    if let Some(refusal) = walker.forward(end.saturating_sub(source)) {
-        return stay(alloc, walker, Stop::Refused(refusal), out);
-    }
-    match found {
-        End::Nothing => return stay(alloc, walker, Stop::NoName, out),
-        End::Unkept | End::Untold => return Err(AllocError),
-        _ if is_idle => return stay(alloc, walker, Stop::Idle, out),
-        _ => {}
-    }
-    origin_into(origin, source, &mut line)?;
-    line.end_into(out)?;
-    source_into(alloc, program, read, out)
 }
 
 // Whether a byte stands, or a gap, where one is wanted of a form or of an argument. Elsewhere its place says so.
@@ -180,47 +184,11 @@ fn stands_at<A: Allocator + Copy>(walker: &Walker<A>, spot: Spot<'_>) -> bool {
     }
 }
 
-// Says why nothing stands where a byte is wanted: of an empty argument or form also what left it so.
-fn missing_into<A: Allocator + Copy>(
-    alloc: A,
-    walker: &mut Walker<A>,
-    program: &[u8],
-    spot: Spot<'_>,
-    out: &mut Vec<u8, A>,
-) -> Result<(), AllocError> {
-    match spot {
-        Spot::OfForm(name, _) if is_empty_form(walker, name) => {
-            empty_form_into(alloc, walker, name, out)
-        }
-        Spot::OfArgument(argument, _) => match argument_len(walker, argument) {
-            Ok(0) => empty_argument_into(alloc, walker, program, argument as usize, out),
-            Ok(len) => stay(alloc, walker, Stop::ShortArgument(argument, len), out),
-            Err(stop) => stay(alloc, walker, stop, out),
-        },
-        spot => stay(alloc, walker, absent(walker, spot), out),
-    }
-}
-
 // The argument that `y . A` means: it is read as of a form whose name is a dot, so it is meant where there is none.
 fn argument_meant<A: Allocator + Copy>(walker: &Walker<A>, spot: Spot<'_>) -> Option<u64> {
     match spot {
         Spot::OfForm(b".", argument) if walker.sight().store.get(b".").is_none() => Some(argument),
         _ => None,
-    }
-}
-
-// Of an empty argument what left it so; of another one how a byte of it is meant.
-fn argument_into<A: Allocator + Copy>(
-    alloc: A,
-    walker: &mut Walker<A>,
-    program: &[u8],
-    argument: u64,
-    out: &mut Vec<u8, A>,
-) -> Result<(), AllocError> {
-    match argument_len(walker, argument) {
-        Ok(0) => empty_argument_into(alloc, walker, program, argument as usize, out),
-        Ok(len) => stay(alloc, walker, Stop::WhichByte(argument, len), out),
-        Err(stop) => stay(alloc, walker, stop, out),
     }
 }
 
@@ -230,32 +198,6 @@ fn is_empty_form<A: Allocator + Copy>(walker: &Walker<A>, name: &[u8]) -> bool {
         Some(form) => form.len() == 0,
         None => false,
     }
-}
-
-// Says why a byte cannot be looked for, and of a text that was not printed so far whether it is printed later.
-fn unfollowed_into<A: Allocator + Copy>(
-    alloc: A,
-    walker: &mut Walker<A>,
-    spot: Spot<'_>,
-    stop: Stop,
-    out: &mut Vec<u8, A>,
-) -> Result<(), AllocError> {
-    stop_into(alloc, walker.first_step(), stop, out)?;
-    if let (Spot::PrintedText(text), Stop::NotPrinted | Stop::NotPrintedSince) = (spot, stop) {
-        printed_later_into(alloc, walker, text, out)?;
-    }
-    stand_into(alloc, walker, out)
-}
-
-/// Says why no byte is followed, and where it stands.
-pub fn stay<A: Allocator + Copy>(
-    alloc: A,
-    walker: &Walker<A>,
-    stop: Stop,
-    out: &mut Vec<u8, A>,
-) -> Result<(), AllocError> {
-    stop_into(alloc, walker.first_step(), stop, out)?;
-    stand_into(alloc, walker, out)
 }
 
 // ---- where a byte stands
@@ -319,26 +261,6 @@ fn of_next<'p, A: Allocator + Copy>(walker: &Walker<A>) -> Result<Place<'p>, Sto
 
 // ---- where it comes from
 
-// The last lines of a way: how many are left out before it, and the step at which it ends.
-fn end_into<A: Allocator + Copy>(
-    alloc: A,
-    walker: &Walker<A>,
-    left_out: usize,
-    origin: Origin,
-    out: &mut Vec<u8, A>,
-) -> Result<(), AllocError> {
-    if left_out > 0 {
-        left_out_into(alloc, left_out, out)?;
-    }
-    treatment_into(
-        alloc,
-        walker.step(),
-        &walker.sight(),
-        Treatment::Ends(origin),
-        out,
-    )
-}
-
 /// What is said of where a byte comes from, to which the walker has gone back.
 pub fn origin_of<A: Allocator + Copy>(walker: &Walker<A>, program: &[u8], end: End) -> Origin {
     match end {
@@ -353,19 +275,6 @@ fn number_read<A: Allocator + Copy>(walker: &Walker<A>, end: &End) -> Option<u64
     match end {
         End::Read(n) => Some(walker.input_number(*n)),
         _ => None,
-    }
-}
-
-// The line of the program that has the byte of this number of the input, if one was read.
-fn source_into<A: Allocator + Copy>(
-    alloc: A,
-    program: &[u8],
-    read: Option<u64>,
-    out: &mut Vec<u8, A>,
-) -> Result<(), AllocError> {
-    match read {
-        Some(number) => piece_into(alloc, program, number, out),
-        None => Ok(()),
     }
 }
 

@@ -2,10 +2,11 @@
 ghost use Rattle.std.specs.Prelude.{◌≤◌, ◌<◌, ◌≡◌, ◌↔◌, length};
 ghost use Rattle.std.specs.Io.KnownBytes.{Keeps};
 ghost use Rattle.trac_rules.specs.declared.limit.TheConstants.{JOURNAL_LIMIT, TAPE_LIMIT};
-ghost use Rattle.trac_dialogue.specs.Talks.{Gives, IsStop, Takes};
+ghost use Rattle.trac_dialogue.specs.Talks.{Gives, Takes};
 ghost use Rattle.trac_walk.specs.Ends.{MayEnd};
 
-use crate::replying::{Memo, reply_into};
+use crate::replying::Memo;
+use crate::telling::Telling;
 use crate::walker::Walker;
 use std::alloc::{AllocError, Allocator};
 use std::io::{Read, Write};
@@ -30,7 +31,8 @@ pub struct Settings {
 #[derive(Drop)]
 struct Guide<'p, A: Allocator + Copy> {
     walker: Walker<A>,
-    memo: Memo<'p, A>,
+    program: &'p [u8],
+    memo: Memo<A>,
 }
 
 impl<'p, A: Allocator + Copy> Replier<A> for Guide<'p, A> {
@@ -44,7 +46,13 @@ impl<'p, A: Allocator + Copy> Replier<A> for Guide<'p, A> {
         line: &[u8],
         out: &mut Vec<u8, A>,
     ) -> Result<bool, AllocError> {
-        reply_into(alloc, &mut self.walker, &mut self.memo, line, out)
+        let mut telling = Telling {
+            alloc,
+            walker: &mut self.walker,
+            program: self.program,
+            out,
+        };
+        telling.reply_into(&mut self.memo, line)
     }
 }
 
@@ -80,27 +88,14 @@ pub fn walk<R: Read, W: Write, A: Allocator + Copy>(
         settings.keep,
         settings.decimals,
     ) {
-        Ok(walker) => walk_from(alloc, walker, tape, settings.prompt, input, output),
+        Ok(walker) => {
+            let mut guide = Guide {
+                walker,
+                program: tape,
+                memo: Memo::new(alloc),
+            };
+            converse(alloc, &mut guide, settings.prompt, input, output)
+        }
         Err(ending) => ending,
     }
-}
-
-// Walks from where a walker stands.
-fn walk_from<R: Read, W: Write, A: Allocator + Copy>(
-    alloc: A,
-    walker: Walker<A>,
-    program: &[u8],
-    prompt: bool,
-    input: &mut R,
-    output: &mut W,
-) -> Ending
-    ensures took { Takes (R.remaining input.old) (R.remaining input.new) }
-    ensures gave { Gives (W.contents output.old) (W.contents output.new) }
-    ensures ends { IsStop result }
-{
-    let mut guide = Guide {
-        walker,
-        memo: Memo::new(alloc, program),
-    };
-    converse(alloc, &mut guide, prompt, input, output)
 }

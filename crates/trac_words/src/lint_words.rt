@@ -3,12 +3,10 @@ ghost use Rattle.std.specs.Prelude.{IfOk};
 ghost use Rattle.trac_words.specs.Words.{IsLintLine};
 
 use crate::help::{LINT_USAGE, LINT_USE, VERSION};
-use crate::tips::{is_unknown, unknown_place, with_file_tip, word_at};
+use crate::tips::{Program, Said, said_of};
 use crate::walk_words::{DEFAULT_KEEP, KEEP_LIMIT};
-use crate::words::{decimals, described, number_in, width_in, widths};
-use clap::builder::PossibleValue;
-use clap::error::ErrorKind;
-use clap::{Arg, ArgAction, ArgMatches, Command, Error, value_parser};
+use crate::words::{Made, Widths, decimals, described, number_in, number_option, width_in, widths};
+use clap::{Arg, ArgAction, ArgMatches, Command};
 use std::alloc::{AllocError, Global};
 use trac_rules::width::Width;
 use trac_streams::BUDGET_LIMIT;
@@ -37,18 +35,6 @@ pub enum LintLine {
     Bad(String),
 }
 
-/// Reads a command line of `trac-lint`, the program's name first. The numbers are within their ranges. The error is
-/// that memory was refused.
-pub fn read_lint_line(alloc: Global, words: &[&str]) -> Result<LintLine, AllocError>
-    ensures { IfOk result IsLintLine }
-{
-    let widths = widths();
-    match lint_command(alloc, &widths)?.try_get_matches_from(words) {
-        Ok(matches) => lint_line(alloc, &matches),
-        Err(error) => no_lint(alloc, words, &error),
-    }
-}
-
 fn lint_line(alloc: Global, found: &ArgMatches<'_>) -> Result<LintLine, AllocError>
     ensures { IfOk result IsLintLine }
 {
@@ -61,6 +47,21 @@ fn lint_line(alloc: Global, found: &ArgMatches<'_>) -> Result<LintLine, AllocErr
         keep: number_in(found, "keep", DEFAULT_KEEP, KEEP_LIMIT),
         decimals: width_in(found),
     })
+}
+
+/// Reads a command line of `trac-lint`, the program's name first. The numbers are within their ranges. The error is
+/// that memory was refused.
+pub fn read_lint_line(alloc: Global, words: &[&str]) -> Result<LintLine, AllocError>
+    ensures { IfOk result IsLintLine }
+{
+    let widths = widths();
+    match lint_command(alloc, &widths)?.try_get_matches_from(words) {
+        Err(error) => match said_of(alloc, Program::Lint, words, &error)? {
+            Said::Help(text) => Ok(LintLine::Help(text)),
+            Said::Bad(text) => Ok(LintLine::Bad(text)),
+        },
+        Ok(matches) => lint_line(alloc, &matches),
+    }
 }
 
 // The paths of the files that are named.
@@ -83,37 +84,8 @@ fn input_in(alloc: Global, found: &ArgMatches<'_>) -> Result<Option<String>, All
     }
 }
 
-// What is said where a command line names no program.
-fn no_lint(alloc: Global, words: &[&str], error: &Error) -> Result<LintLine, AllocError>
-    ensures { IfOk result IsLintLine }
-{
-    let kind = error.kind();
-    if kind == ErrorKind::OutOfMemory {
-        return Err(AllocError);
-    }
-    let text = error.to_string(alloc)?;
-    match kind {
-        ErrorKind::DisplayHelp | ErrorKind::DisplayVersion => Ok(LintLine::Help(text)),
-        kind if is_unknown(kind) => {
-            let word = unknown_in(alloc, words)?;
-            let said = with_file_tip(alloc, word, text, "trac-lint")?;
-            Ok(LintLine::Bad(said))
-        }
-        _ => Ok(LintLine::Bad(text)),
-    }
-}
-
-// The first word of a command line that `trac-lint` does not know.
-fn unknown_in<'w>(alloc: Global, words: &[&'w str]) -> Result<&'w str, AllocError> {
-    let widths = widths();
-    let place = unknown_place(lint_command(alloc, &widths)?, words)?;
-    Ok(word_at(words, place))
-}
-
-fn lint_command<'a>(
-    alloc: Global,
-    widths: &'a [PossibleValue<'a>],
-) -> Result<Command<'a>, AllocError> {
+/// The command, which takes these widths of numbers.
+pub(crate) fn lint_command<'a>(alloc: Global, widths: Widths<'a>) -> Made<'a> {
     bare_command(alloc)
         .arg(files(alloc))?
         .arg(input(alloc))?
@@ -152,19 +124,12 @@ fn input<'a>(alloc: Global) -> Arg<'a> {
 
 // The option that says how many steps a program may take.
 fn steps<'a>(alloc: Global) -> Arg<'a> {
-    Arg::new(alloc, "steps")
-        .long("steps")
-        .value_name("N")
-        .help("How many steps a program may take: 1 to 1000000000000")
-        .default_value("10000000")
-        .value_parser(value_parser!(u64).range(1..=BUDGET_LIMIT as i64))
+    let help = "How many steps a program may take: 1 to 1000000000000";
+    number_option(alloc, "steps", "N", help, BUDGET_LIMIT as i64).default_value("10000000")
 }
 
 // The option that says how much memory the way back may take.
 fn keep<'a>(alloc: Global) -> Arg<'a> {
-    Arg::new(alloc, "keep")
-        .long("keep")
-        .value_name("SIZE")
-        .value_parser(value_parser!(u64).range(1..=KEEP_LIMIT as i64))
-        .help("About how many MiB of memory the way back may take: 1 to 1048576 [default: 256]")
+    let help = "About how many MiB of memory the way back may take: 1 to 1048576 [default: 256]";
+    number_option(alloc, "keep", "SIZE", help, KEEP_LIMIT as i64)
 }

@@ -3,18 +3,80 @@
 //! The error of each function is that memory was refused.
 
 use crate::help::{BUDGET_TIP, PAGE_TIP, RUN_TIP, VERSION_TIP, WALK_TIP};
-use clap::Command;
+use crate::lint_words::lint_command;
+use crate::walk_words::walk_command;
+use crate::words::{Made, Widths, trac_command, widths};
 use clap::error::ErrorKind;
+use clap::{Command, Error};
 use std::alloc::{AllocError, Global};
 
-/// Whether an error of this kind says that a word is neither an argument nor a subcommand.
-pub(crate) fn is_unknown(kind: ErrorKind) -> bool {
+/// The programs.
+#[derive(Clone, Copy)]
+pub(crate) enum Program {
+    Trac,
+    Walk,
+    Lint,
+}
+
+/// What is said where a command line asks for nothing else.
+#[derive(Drop)]
+pub(crate) enum Said {
+    /// Help, or the version.
+    Help(String),
+    /// Why it is not understood.
+    Bad(String),
+}
+
+/// What is said of a command line that clap does not take, for this error.
+pub(crate) fn said_of(
+    alloc: Global,
+    program: Program,
+    words: &[&str],
+    error: &Error,
+) -> Result<Said, AllocError> {
+    let kind = error.kind();
+    if kind == ErrorKind::OutOfMemory {
+        return Err(AllocError);
+    }
+    let text = error.to_string(alloc)?;
+    match kind {
+        ErrorKind::DisplayHelp | ErrorKind::DisplayVersion => Ok(Said::Help(text)),
+        kind if is_unknown(kind) => {
+            let word = unknown_in(alloc, program, words)?;
+            let said = with_tip(alloc, program, words, kind, word, text)?;
+            Ok(Said::Bad(said))
+        }
+        _ => Ok(Said::Bad(text)),
+    }
+}
+
+// The first word of a command line that its program does not know.
+fn unknown_in<'w>(
+    alloc: Global,
+    program: Program,
+    words: &[&'w str],
+) -> Result<&'w str, AllocError> {
+    let widths = widths();
+    let place = unknown_place(command_of(alloc, program, &widths)?, words)?;
+    Ok(word_at(words, place))
+}
+
+fn command_of<'a>(alloc: Global, program: Program, widths: Widths<'a>) -> Made<'a> {
+    match program {
+        Program::Trac => trac_command(alloc, widths),
+        Program::Walk => walk_command(alloc, widths),
+        Program::Lint => lint_command(alloc, widths),
+    }
+}
+
+// Whether an error of this kind says that a word is neither an argument nor a subcommand.
+fn is_unknown(kind: ErrorKind) -> bool {
     kind == ErrorKind::UnknownArgument || kind == ErrorKind::InvalidSubcommand
 }
 
-/// The place of the first word of a command line that is neither an argument nor a subcommand: clap gives no more than
-/// a text of it, so it is the last one of the fewest words in which clap finds one. None where there is none.
-pub(crate) fn unknown_place<'a>(
+// The place of the first word of a command line that is neither an argument nor a subcommand: clap gives no more than
+// a text of it, so it is the last one of the fewest words in which clap finds one. None where there is none.
+fn unknown_place<'a>(
     mut command: Command<'a>,
     words: &'a [&'a str],
 ) -> Result<Option<usize>, AllocError> {
@@ -36,25 +98,30 @@ fn refusal_of<'a>(command: &mut Command<'a>, words: &'a [&'a str]) -> Option<Err
     }
 }
 
-/// The word at a place that may be none; empty where there is none.
-pub(crate) fn word_at<'w>(words: &[&'w str], place: Option<usize>) -> &'w str {
+// The word at a place that may be none; empty where there is none.
+fn word_at<'w>(words: &[&'w str], place: Option<usize>) -> &'w str {
     match place {
         Some(place) => words.get(place).copied().unwrap_or(""),
         None => "",
     }
 }
 
-/// What is said of a command line of `trac` in which this word is not known: this text of clap,
-/// with a tip where one helps.
-pub(crate) fn with_tip(
+// What is said of a command line in which this word is not known: this text of clap, with a tip where one helps.
+fn with_tip(
     alloc: Global,
+    program: Program,
     words: &[&str],
     kind: ErrorKind,
     word: &str,
     text: String,
 ) -> Result<String, AllocError> {
-    if kind == ErrorKind::InvalidSubcommand {
-        return with_subcommand_tip(alloc, word, &text);
+    match program {
+        Program::Trac if kind == ErrorKind::InvalidSubcommand => {
+            return with_subcommand_tip(alloc, word, &text);
+        }
+        Program::Trac => {}
+        Program::Walk => return with_file_tip(alloc, word, text, "trac-walk"),
+        Program::Lint => return with_file_tip(alloc, word, text, "trac-lint"),
     }
     match words.get(1).copied().unwrap_or("") {
         "run" if !is_option(word) => put_tip(alloc, &paragraphs_of(&text), Place::Last, RUN_TIP),
@@ -90,10 +157,10 @@ fn tip_for(word: &str) -> &'static str {
     }
 }
 
-/// What is said of a command that reads a FILE and was given this word, which it does not know: this text of
-/// clap. A tip stands in the place of clap's own one to write a word after --: that has a letter of the word, or
-/// an option's name, as the FILE.
-pub(crate) fn with_file_tip(
+// What is said of a command that reads a FILE and was given this word, which it does not know: this text of
+// clap. A tip stands in the place of clap's own one to write a word after --: that has a letter of the word, or
+// an option's name, as the FILE.
+fn with_file_tip(
     alloc: Global,
     word: &str,
     text: String,

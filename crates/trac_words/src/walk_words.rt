@@ -3,11 +3,12 @@ ghost use Rattle.std.specs.Prelude.{IfOk};
 ghost use Rattle.trac_words.specs.Words.{IsWalkLine};
 
 use crate::help::{VERSION, WALK_USAGE, WALK_USE};
-use crate::tips::{is_unknown, unknown_place, with_file_tip, word_at};
-use crate::words::{BACK, described, file, number_in, options_in, path_in, widths, with_options};
-use clap::builder::PossibleValue;
-use clap::error::ErrorKind;
-use clap::{Arg, ArgAction, ArgMatches, Command, Error, value_parser};
+use crate::tips::{Program, Said, said_of};
+use crate::words::{
+    BACK, Made, Widths, described, file, number_in, number_option, options_in, path_in, widths,
+    with_options,
+};
+use clap::{Arg, ArgAction, ArgMatches, Command};
 use std::alloc::{AllocError, Global};
 use trac_streams::{DEFAULT_BUDGET, Options};
 
@@ -43,7 +44,10 @@ pub fn read_walk_line(alloc: Global, words: &[&str]) -> Result<WalkLine, AllocEr
     let widths = widths();
     match walk_command(alloc, &widths)?.try_get_matches_from(words) {
         Ok(matches) => walk_line(alloc, &matches),
-        Err(error) => no_walk(alloc, words, &error),
+        Err(error) => match said_of(alloc, Program::Walk, words, &error)? {
+            Said::Help(text) => Ok(WalkLine::Help(text)),
+            Said::Bad(text) => Ok(WalkLine::Bad(text)),
+        },
     }
 }
 
@@ -59,37 +63,8 @@ fn walk_line(alloc: Global, found: &ArgMatches<'_>) -> Result<WalkLine, AllocErr
     })
 }
 
-// What is said where a command line asks for no walk.
-fn no_walk(alloc: Global, words: &[&str], error: &Error) -> Result<WalkLine, AllocError>
-    ensures { IfOk result IsWalkLine }
-{
-    let kind = error.kind();
-    if kind == ErrorKind::OutOfMemory {
-        return Err(AllocError);
-    }
-    let text = error.to_string(alloc)?;
-    match kind {
-        ErrorKind::DisplayHelp | ErrorKind::DisplayVersion => Ok(WalkLine::Help(text)),
-        kind if is_unknown(kind) => {
-            let word = unknown_in(alloc, words)?;
-            let said = with_file_tip(alloc, word, text, "trac-walk")?;
-            Ok(WalkLine::Bad(said))
-        }
-        _ => Ok(WalkLine::Bad(text)),
-    }
-}
-
-// The first word of a command line that `trac-walk` does not know.
-fn unknown_in<'w>(alloc: Global, words: &[&'w str]) -> Result<&'w str, AllocError> {
-    let widths = widths();
-    let place = unknown_place(walk_command(alloc, &widths)?, words)?;
-    Ok(word_at(words, place))
-}
-
-fn walk_command<'a>(
-    alloc: Global,
-    widths: &'a [PossibleValue<'a>],
-) -> Result<Command<'a>, AllocError> {
+/// The command, which takes these widths of numbers.
+pub(crate) fn walk_command<'a>(alloc: Global, widths: Widths<'a>) -> Made<'a> {
     with_options(alloc, bare_command(alloc).arg(file(alloc))?, BACK, widths)?
         .arg(keep(alloc))?
         .arg(prompt(alloc))
@@ -108,11 +83,8 @@ fn bare_command<'a>(alloc: Global) -> Command<'a> {
 
 // The option that says how much memory the way back may take.
 fn keep<'a>(alloc: Global) -> Arg<'a> {
-    Arg::new(alloc, "keep")
-        .long("keep")
-        .value_name("SIZE")
-        .value_parser(value_parser!(u64).range(1..=KEEP_LIMIT as i64))
-        .help("About how many MiB of memory these steps may take: 1 to 1048576 [default: 256]")
+    let help = "About how many MiB of memory these steps may take: 1 to 1048576 [default: 256]";
+    number_option(alloc, "keep", "SIZE", help, KEEP_LIMIT as i64)
 }
 
 // The flag that asks for a prompt.

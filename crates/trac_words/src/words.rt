@@ -3,10 +3,9 @@ ghost use Rattle.std.specs.Prelude.{◌≤◌, IfOk};
 ghost use Rattle.trac_words.specs.Words.{AreWithin, IsLine};
 
 use crate::help::{DEBUG_USE, NO_SUBCOMMAND, RUN_USAGE, RUN_USE, USE, VERSION};
-use crate::tips::{is_unknown, unknown_place, with_tip, word_at};
+use crate::tips::{Program, Said, said_of};
 use clap::builder::PossibleValue;
-use clap::error::ErrorKind;
-use clap::{Arg, ArgMatches, Command, Error, value_parser};
+use clap::{Arg, ArgMatches, Command, value_parser};
 use std::alloc::{AllocError, Global};
 use trac_rules::limit::JOURNAL_LIMIT;
 use trac_rules::width::Width;
@@ -34,36 +33,20 @@ pub fn read_line(alloc: Global, words: &[&str]) -> Result<Line, AllocError>
     ensures { IfOk result IsLine }
 {
     let widths = widths();
-    match command(alloc, &widths)?.try_get_matches_from(words) {
+    match trac_command(alloc, &widths)?.try_get_matches_from(words) {
         Ok(matches) => line_of(alloc, &matches),
-        Err(error) => line_without(alloc, words, &error),
+        Err(error) => match said_of(alloc, Program::Trac, words, &error)? {
+            Said::Help(text) => Ok(Line::Help(text)),
+            Said::Bad(text) => Ok(Line::Bad(text)),
+        },
     }
 }
 
-// What is said where a command line asks for no run and for no debugger.
-fn line_without(alloc: Global, words: &[&str], error: &Error) -> Result<Line, AllocError>
-    ensures { IfOk result IsLine }
+fn run_options(found: &ArgMatches<'_>) -> Options
+    ensures { AreWithin result }
 {
-    let kind = error.kind();
-    if kind == ErrorKind::OutOfMemory {
-        return Err(AllocError);
-    }
-    let text = error.to_string(alloc)?;
-    match kind {
-        ErrorKind::DisplayHelp | ErrorKind::DisplayVersion => Ok(Line::Help(text)),
-        kind if is_unknown(kind) => {
-            let word = unknown_in(alloc, words)?;
-            Ok(Line::Bad(with_tip(alloc, words, kind, word, text)?))
-        }
-        _ => Ok(Line::Bad(text)),
-    }
-}
-
-// The first word of a command line that `trac` does not know.
-fn unknown_in<'w>(alloc: Global, words: &[&'w str]) -> Result<&'w str, AllocError> {
-    let widths = widths();
-    let place = unknown_place(command(alloc, &widths)?, words)?;
-    Ok(word_at(words, place))
+    let budget = number_in(found, "budget", DEFAULT_BUDGET, BUDGET_LIMIT);
+    options_in(found, budget)
 }
 
 // What a command line that `clap` has taken asks for. It takes none without a subcommand; one would not be understood.
@@ -80,12 +63,11 @@ fn line_of(alloc: Global, matches: &ArgMatches<'_>) -> Result<Line, AllocError>
     }
 }
 
-fn run_options(found: &ArgMatches<'_>) -> Options
-    ensures { AreWithin result }
-{
-    let budget = number_in(found, "budget", DEFAULT_BUDGET, BUDGET_LIMIT);
-    options_in(found, budget)
-}
+/// The values of `--decimals`.
+pub(crate) type Widths<'a> = &'a [PossibleValue<'a>];
+
+/// A command; the error is that memory was refused.
+pub(crate) type Made<'a> = Result<Command<'a>, AllocError>;
 
 /// The options that a command line gives, with this budget: 1 to 1,000,000,000,000 steps.
 pub(crate) fn options_in(found: &ArgMatches<'_>, budget: u64) -> Options
@@ -136,9 +118,9 @@ pub(crate) fn number_in(found: &ArgMatches<'_>, option: &str, default: u64, most
     }
 }
 
-// The program's commands. Each is made by small functions: what a call of a command's own costs to prove grows
-// with the ends that still own one.
-fn command<'a>(alloc: Global, widths: &'a [PossibleValue<'a>]) -> Result<Command<'a>, AllocError> {
+/// The program's commands. Each is made by small functions: what a call of a command's own costs to prove grows
+/// with the ends that still own one.
+pub(crate) fn trac_command<'a>(alloc: Global, widths: Widths<'a>) -> Made<'a> {
     let debug = debug_command(alloc, widths)?;
     match command_to_run(alloc, widths) {
         Ok(command) => command.subcommand(debug),
@@ -153,10 +135,7 @@ fn let_go(command: Command<'_>) {
     let _last = command;
 }
 
-fn command_to_run<'a>(
-    alloc: Global,
-    widths: &'a [PossibleValue<'a>],
-) -> Result<Command<'a>, AllocError> {
+fn command_to_run<'a>(alloc: Global, widths: Widths<'a>) -> Made<'a> {
     let run = run_command(alloc, widths)?;
     whole_command(alloc).subcommand(run)
 }
@@ -170,10 +149,7 @@ fn whole_command<'a>(alloc: Global) -> Command<'a> {
         .subcommand_required(true)
 }
 
-fn run_command<'a>(
-    alloc: Global,
-    widths: &'a [PossibleValue<'a>],
-) -> Result<Command<'a>, AllocError> {
+fn run_command<'a>(alloc: Global, widths: Widths<'a>) -> Made<'a> {
     let command = described(
         subcommand_of_trac(alloc, "run")?,
         "Runs the program on standard input",
@@ -187,10 +163,7 @@ fn run_command<'a>(
     )
 }
 
-fn debug_command<'a>(
-    alloc: Global,
-    widths: &'a [PossibleValue<'a>],
-) -> Result<Command<'a>, AllocError> {
+fn debug_command<'a>(alloc: Global, widths: Widths<'a>) -> Made<'a> {
     let command = described(
         subcommand_of_trac(alloc, "debug")?,
         "Steps through the program in FILE, forwards and backwards",
@@ -200,7 +173,7 @@ fn debug_command<'a>(
 }
 
 // A subcommand of this name, shown as the program's.
-fn subcommand_of_trac<'a>(alloc: Global, name: &'a str) -> Result<Command<'a>, AllocError> {
+fn subcommand_of_trac<'a>(alloc: Global, name: &'a str) -> Made<'a> {
     Command::new(alloc, name).display_name("trac")
 }
 
@@ -215,8 +188,8 @@ pub(crate) fn with_options<'a>(
     alloc: Global,
     command: Command<'a>,
     records: &'a str,
-    widths: &'a [PossibleValue<'a>],
-) -> Result<Command<'a>, AllocError> {
+    widths: Widths<'a>,
+) -> Made<'a> {
     command
         .arg(journal(alloc, records))?
         .arg(decimals(alloc, widths))
@@ -233,26 +206,32 @@ pub(crate) fn file<'a>(alloc: Global) -> Arg<'a> {
 
 // The option that says how many steps a run may take.
 fn budget<'a>(alloc: Global) -> Arg<'a> {
-    Arg::new(alloc, "budget")
-        .long("budget")
-        .value_name("N")
-        .help("How many steps the run may take: 1 to 1000000000000")
-        .default_value("1000000000")
-        .value_parser(value_parser!(u64).range(1..=BUDGET_LIMIT as i64))
+    let help = "How many steps the run may take: 1 to 1000000000000";
+    number_option(alloc, "budget", "N", help, BUDGET_LIMIT as i64).default_value("1000000000")
 }
 
 // The option that says how many records a journal may hold, with what that means for this command.
 fn journal<'a>(alloc: Global, help: &'a str) -> Arg<'a> {
-    Arg::new(alloc, "journal")
-        .long("journal")
-        .value_name("N")
+    number_option(alloc, "journal", "N", help, JOURNAL_LIMIT as i64).default_value("65536")
+}
+
+/// An option that takes a number, 1 to this.
+pub(crate) fn number_option<'a>(
+    alloc: Global,
+    name: &'a str,
+    value: &'a str,
+    help: &'a str,
+    most: i64,
+) -> Arg<'a> {
+    Arg::new(alloc, name)
+        .long(name)
+        .value_name(value)
         .help(help)
-        .default_value("65536")
-        .value_parser(value_parser!(u64).range(1..=JOURNAL_LIMIT as i64))
+        .value_parser(value_parser!(u64).range(1..=most))
 }
 
 /// The option that says how wide numbers are.
-pub(crate) fn decimals<'a>(alloc: Global, widths: &'a [PossibleValue<'a>]) -> Arg<'a> {
+pub(crate) fn decimals<'a>(alloc: Global, widths: Widths<'a>) -> Arg<'a> {
     Arg::new(alloc, "decimals")
         .long("decimals")
         .value_name("BITS")

@@ -46,13 +46,13 @@ overflow_add-sum g c =
 
 pub overflow_sub-sum : goal.overflow_sub-sum
 overflow_sub-sum g c =
-    let items = all_items c.args.form.now in
-    let size = length c.args.text.now in
-    let within : c.loop-place.place + size < length items = omega (arith, c.len-len.ensures.len, c.if-len-size.false, c.loop-place-test.true) in
-    let moved = sum_moved items c.loop-place.place size within in
-    let coming : c.code_at-coming.result ≡ code_in items (c.loop-place.place + size) = c.code_at-coming.ensures.code in
-    let going : c.code_at-going.result ≡ code_in items c.loop-place.place = c.code_at-going.ensures.code in
-    omega (arith, moved, coming, going, c.loop-place.invariant.sum)
+    omega (
+      arith,
+      sum_moved (all_items c.args.form.now) c.loop-place.place (length c.args.text.now) (omega (arith, c.len-len.ensures.len, c.if-len-size.false, c.loop-place-test.true)),
+      c.code_at-coming.ensures.code,
+      c.code_at-going.ensures.code,
+      c.loop-place.invariant.sum,
+    )
 
 pub loop-place-preserved : goal.loop-place-preserved
 loop-place-preserved g c =

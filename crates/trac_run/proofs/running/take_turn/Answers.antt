@@ -3,22 +3,16 @@ use Rattle.std.specs.Prelude.{◌⊎◌}
 use Rattle.trac_rules.specs.declared.refusal.Refusal.TheVariants as refusals
 use Rattle.trac_streams.specs.declared.ending.Ending.TheVariants.{Ended, Budget, Limit, Memory}
 use Rattle.trac_run.proofs.Stepped.{steps_turn, steps_walk}
-use Rattle.trac_run.proofs.Turned.{after_walk, tape_after_walk, stopped_for, taken_unstopped, closed_run, shows_spent, shows_ended, shows_limit, nothing_pending_unmoved, taken_of_test, none_taken_of_test, released_on, released_failed, released_fresh, released_fewer, taken_when_full, walked_on, walked_finish_one, walked_fewer, refused_for_none}
+use Rattle.trac_run.proofs.Turned.{after_walk, tape_after_walk, stopped_for, taken_unstopped, closed_run, shows_spent, shows_ended, shows_limit, nothing_pending_unmoved, taken_of_test, none_taken_of_test, released, taken_when_full, walked_on, walked_finish_one, walked_fewer, refused_for_none}
 use Rattle.trac_run.proofs.running.take_turn.Goals as goal
 
-pub returns-then-left-gt0-clause-ok : goal.returns-then-left-gt0-clause-ok
-returns-then-left-gt0-clause-ok g c = released_on _ _ _ c.args.reads.now c.release.new.session c.release.result (after_walk {m = c.args.left.now} (omega (arith, c.min.ensures)) c.requires.fresh c.forward_within-walk.ensures) c.requires.at_end c.release.ensures.ok c.release.ensures.committed
-
-pub returns-then-left-gt0-clause-err : goal.returns-then-left-gt0-clause-err
-returns-then-left-gt0-clause-err g c = released_failed _ _ _ c.args.reads.now c.release.result (after_walk {m = c.args.left.now} (omega (arith, c.min.ensures)) c.requires.fresh c.forward_within-walk.ensures) c.requires.at_end c.release.ensures.err
-
-pub returns-then-left-gt0-clause-fresh : goal.returns-then-left-gt0-clause-fresh
-returns-then-left-gt0-clause-fresh g c = released_fresh c.release.new.session c.release.result (after_walk {m = c.args.left.now} (omega (arith, c.min.ensures)) c.requires.fresh c.forward_within-walk.ensures) c.release.ensures.committed
-
-pub returns-then-left-gt0-clause-fewer : goal.returns-then-left-gt0-clause-fewer
-returns-then-left-gt0-clause-fewer g c =
-    released_fewer c.release.new.session c.release.result (after_walk {m = c.args.left.now} (omega (arith, c.min.ensures)) c.requires.fresh c.forward_within-walk.ensures)
-    (taken_unstopped c.forward_within-walk.ensures c.in_default.is (omega (arith, c.min.ensures)))
+pub returns-then-left-gt0 : goal.returns-then-left-gt0
+returns-then-left-gt0 g c =
+    let after = after_walk {m = c.args.left.now} (omega (arith, c.min.ensures)) c.requires.fresh c.forward_within-walk.ensures in
+    let made = c.release.ensures in
+    let all = released _ _ _ c.args.reads.now c.release.new.session c.release.result after c.requires.at_end (taken_unstopped c.forward_within-walk.ensures c.in_default.is (omega (arith, c.min.ensures))) made.ok made.committed made.err in
+    let steps = steps_turn {m = c.args.left.now} c.release.new.session (omega (arith, c.min.ensures, c.forward_within-walk.ensures.walk.within, c.forward_within-walk.ensures.within)) c.forward_within-walk.ensures made.steps in
+    record { ok = all.0; err = all.1; within = omega arith; steps = steps; fresh = all.2; fewer = all.3 }
 
 pub returns-in_default-clause-err : goal.returns-in_default-clause-err
 returns-in_default-clause-err g c =
@@ -42,31 +36,21 @@ returns-in-NeedInput-clause-err g c =
 pub returns-in-NeedInput-clause-fewer : goal.returns-in-NeedInput-clause-fewer
 returns-in-NeedInput-clause-fewer g c = walked_fewer c.args.session.now c.args.left.now c.forward_within-walk.result.done c.forward_within-walk.new.self c.take_input.new.session c.take_input.result c.requires.fresh (after_walk {m = c.args.left.now} (omega (arith, c.min.ensures)) c.requires.fresh c.forward_within-walk.ensures) (c.take_input.ensures.fewer (c.args.left.now - c.forward_within-walk.result.done))
 
-pub returns-in-JournalFull-clause-ok : goal.returns-in-JournalFull-clause-ok
-returns-in-JournalFull-clause-ok g c = released_on _ _ _ c.args.reads.now c.release-in-JournalFull.new.session c.release-in-JournalFull.result (after_walk {m = c.args.left.now} (omega (arith, c.min.ensures)) c.requires.fresh c.forward_within-walk.ensures) c.requires.at_end c.release-in-JournalFull.ensures.ok c.release-in-JournalFull.ensures.committed
+pub returns-in-JournalFull : goal.returns-in-JournalFull
+returns-in-JournalFull g c =
+    let after = after_walk {m = c.args.left.now} (omega (arith, c.min.ensures)) c.requires.fresh c.forward_within-walk.ensures in
+    let made = c.release-in-JournalFull.ensures in
+    let all = released _ _ _ c.args.reads.now c.release-in-JournalFull.new.session c.release-in-JournalFull.result after c.requires.at_end (taken_when_full after (stopped_for c.forward_within-walk.ensures c.in-Some.is c.in-JournalFull.is).1) made.ok made.committed made.err in
+    let steps = steps_turn {m = c.args.left.now} c.release-in-JournalFull.new.session (omega (arith, c.min.ensures, c.forward_within-walk.ensures.walk.within, c.forward_within-walk.ensures.within)) c.forward_within-walk.ensures made.steps in
+    record { ok = all.0; err = all.1; within = omega arith; steps = steps; fresh = all.2; fewer = all.3 }
 
-pub returns-in-JournalFull-clause-err : goal.returns-in-JournalFull-clause-err
-returns-in-JournalFull-clause-err g c = released_failed _ _ _ c.args.reads.now c.release-in-JournalFull.result (after_walk {m = c.args.left.now} (omega (arith, c.min.ensures)) c.requires.fresh c.forward_within-walk.ensures) c.requires.at_end c.release-in-JournalFull.ensures.err
-
-pub returns-in-JournalFull-clause-fresh : goal.returns-in-JournalFull-clause-fresh
-returns-in-JournalFull-clause-fresh g c = released_fresh c.release-in-JournalFull.new.session c.release-in-JournalFull.result (after_walk {m = c.args.left.now} (omega (arith, c.min.ensures)) c.requires.fresh c.forward_within-walk.ensures) c.release-in-JournalFull.ensures.committed
-
-pub returns-in-JournalFull-clause-fewer : goal.returns-in-JournalFull-clause-fewer
-returns-in-JournalFull-clause-fewer g c =
-    let stop = stopped_for c.forward_within-walk.ensures c.in-Some.is c.in-JournalFull.is in
-    released_fewer c.release-in-JournalFull.new.session c.release-in-JournalFull.result (after_walk {m = c.args.left.now} (omega (arith, c.min.ensures)) c.requires.fresh c.forward_within-walk.ensures) (taken_when_full (after_walk {m = c.args.left.now} (omega (arith, c.min.ensures)) c.requires.fresh c.forward_within-walk.ensures) stop.1)
-
-pub returns-in-TooLong-clause-ok : goal.returns-in-TooLong-clause-ok
-returns-in-TooLong-clause-ok g c = released_on _ _ _ c.args.reads.now c.release-in-TooLong.new.session c.release-in-TooLong.result (after_walk {m = c.args.left.now} (omega (arith, c.min.ensures)) c.requires.fresh c.forward_within-walk.ensures) c.requires.at_end c.release-in-TooLong.ensures.ok c.release-in-TooLong.ensures.committed
-
-pub returns-in-TooLong-clause-err : goal.returns-in-TooLong-clause-err
-returns-in-TooLong-clause-err g c = released_failed _ _ _ c.args.reads.now c.release-in-TooLong.result (after_walk {m = c.args.left.now} (omega (arith, c.min.ensures)) c.requires.fresh c.forward_within-walk.ensures) c.requires.at_end c.release-in-TooLong.ensures.err
-
-pub returns-in-TooLong-clause-fresh : goal.returns-in-TooLong-clause-fresh
-returns-in-TooLong-clause-fresh g c = released_fresh c.release-in-TooLong.new.session c.release-in-TooLong.result (after_walk {m = c.args.left.now} (omega (arith, c.min.ensures)) c.requires.fresh c.forward_within-walk.ensures) c.release-in-TooLong.ensures.committed
-
-pub returns-in-TooLong-clause-fewer : goal.returns-in-TooLong-clause-fewer
-returns-in-TooLong-clause-fewer g c = released_fewer c.release-in-TooLong.new.session c.release-in-TooLong.result (after_walk {m = c.args.left.now} (omega (arith, c.min.ensures)) c.requires.fresh c.forward_within-walk.ensures) (taken_of_test c.is_empty.result (after_walk {m = c.args.left.now} (omega (arith, c.min.ensures)) c.requires.fresh c.forward_within-walk.ensures) c.is_empty.ensures c.if-not-is_empty.true)
+pub returns-in-TooLong : goal.returns-in-TooLong
+returns-in-TooLong g c =
+    let after = after_walk {m = c.args.left.now} (omega (arith, c.min.ensures)) c.requires.fresh c.forward_within-walk.ensures in
+    let made = c.release-in-TooLong.ensures in
+    let all = released _ _ _ c.args.reads.now c.release-in-TooLong.new.session c.release-in-TooLong.result after c.requires.at_end (taken_of_test c.is_empty.result after c.is_empty.ensures c.if-not-is_empty.true) made.ok made.committed made.err in
+    let steps = steps_turn {m = c.args.left.now} c.release-in-TooLong.new.session (omega (arith, c.min.ensures, c.forward_within-walk.ensures.walk.within, c.forward_within-walk.ensures.within)) c.forward_within-walk.ensures made.steps in
+    record { ok = all.0; err = all.1; within = omega arith; steps = steps; fresh = all.2; fewer = all.3 }
 
 pub returns-in-TooLong-2-clause-err : goal.returns-in-TooLong-2-clause-err
 returns-in-TooLong-2-clause-err g c =
@@ -96,20 +80,11 @@ unreachable-requires g c =
     others)
     c.in-AtStart.is
 
-pub returns-then-left-gt0-clause-steps : goal.returns-then-left-gt0-clause-steps
-returns-then-left-gt0-clause-steps g c = steps_turn {m = c.args.left.now} c.release.new.session (omega (arith, c.min.ensures, c.forward_within-walk.ensures.walk.within, c.forward_within-walk.ensures.within)) c.forward_within-walk.ensures c.release.ensures.steps
-
 pub returns-in_default-clause-steps : goal.returns-in_default-clause-steps
 returns-in_default-clause-steps g c = steps_walk {m = c.args.left.now} (omega (arith, c.min.ensures, c.forward_within-walk.ensures.walk.within, c.forward_within-walk.ensures.within)) c.forward_within-walk.ensures
 
 pub returns-in-NeedInput-clause-steps : goal.returns-in-NeedInput-clause-steps
 returns-in-NeedInput-clause-steps g c = steps_turn {m = c.args.left.now} c.take_input.new.session (omega (arith, c.min.ensures, c.forward_within-walk.ensures.walk.within, c.forward_within-walk.ensures.within)) c.forward_within-walk.ensures c.take_input.ensures.steps
-
-pub returns-in-JournalFull-clause-steps : goal.returns-in-JournalFull-clause-steps
-returns-in-JournalFull-clause-steps g c = steps_turn {m = c.args.left.now} c.release-in-JournalFull.new.session (omega (arith, c.min.ensures, c.forward_within-walk.ensures.walk.within, c.forward_within-walk.ensures.within)) c.forward_within-walk.ensures c.release-in-JournalFull.ensures.steps
-
-pub returns-in-TooLong-clause-steps : goal.returns-in-TooLong-clause-steps
-returns-in-TooLong-clause-steps g c = steps_turn {m = c.args.left.now} c.release-in-TooLong.new.session (omega (arith, c.min.ensures, c.forward_within-walk.ensures.walk.within, c.forward_within-walk.ensures.within)) c.forward_within-walk.ensures c.release-in-TooLong.ensures.steps
 
 pub returns-in-TooLong-2-clause-steps : goal.returns-in-TooLong-2-clause-steps
 returns-in-TooLong-2-clause-steps g c = steps_walk {m = c.args.left.now} (omega (arith, c.min.ensures, c.forward_within-walk.ensures.walk.within, c.forward_within-walk.ensures.within)) c.forward_within-walk.ensures

@@ -1,0 +1,61 @@
+//! What a reply is made with.
+
+use crate::walker::Walker;
+use std::alloc::{AllocError, Allocator};
+use trac_screen::{Stop, Treatment, standing_into, stop_into, treatment_into};
+
+/// The walker that a reply is about, and the text at whose end it is put.
+#[derive(Drop)]
+pub(crate) struct Telling<'t, A: Allocator + Copy> {
+    pub(crate) alloc: A,
+    pub(crate) walker: &'t mut Walker<A>,
+    /// The program.
+    pub(crate) program: &'t [u8],
+    pub(crate) out: &'t mut Vec<u8, A>,
+}
+
+impl<A: Allocator + Copy> Telling<'_, A> {
+    /// Puts words there. The error is that memory was refused, here and below.
+    pub(crate) fn say(&mut self, words: &[u8]) -> Result<(), AllocError> {
+        self.out.extend_from_slice(words)
+    }
+
+    /// Says where the walker stands.
+    pub(crate) fn stand(&mut self) -> Result<(), AllocError> {
+        standing_into(
+            self.alloc,
+            self.walker.step(),
+            &self.walker.sight(),
+            self.out,
+        )
+    }
+
+    /// The same, at the end of what is told.
+    pub(crate) fn stand_here(&mut self) -> Result<(), AllocError> {
+        self.say(b"here: ")?;
+        self.stand()
+    }
+
+    /// Says why a move stopped.
+    pub(crate) fn stop(&mut self, stop: Stop) -> Result<(), AllocError> {
+        stop_into(self.alloc, self.walker.first_step(), stop, self.out)
+    }
+
+    /// Says why no byte is followed, and where the walker stands.
+    pub(crate) fn stay(&mut self, stop: Stop) -> Result<(), AllocError> {
+        self.stop(stop)?;
+        self.stand()
+    }
+
+    /// A line for the step that comes next, and what it did.
+    pub(crate) fn tell(&mut self, treatment: Treatment) -> Result<(), AllocError> {
+        let step = self.walker.step();
+        treatment_into(self.alloc, step, &self.walker.sight(), treatment, self.out)
+    }
+
+    /// The same, and that the walker stands there.
+    pub(crate) fn tell_here(&mut self, treatment: Treatment) -> Result<(), AllocError> {
+        self.tell(treatment)?;
+        self.stand_here()
+    }
+}
