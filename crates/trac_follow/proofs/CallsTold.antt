@@ -10,17 +10,16 @@ use Rattle.trac_rules.specs.declared.width.Width.{Width}
 use Rattle.trac_rules.specs.Effect.{Effect, argument}
 use Rattle.trac_rules.specs.Goals.{IsCall, call_asked, next_call}
 use Rattle.trac_rules.specs.Limits.{texts_fit}
-use Rattle.trac_rules.specs.Performing.{after_call, changed_by, performed, placed, primitive_of}
+use Rattle.trac_rules.specs.Performing.{after_call, changed_by, performed, placed}
 use Rattle.trac_rules.specs.Scanning.{Call, Scanned, Moves, Calls, scan}
 use Rattle.trac_rules.specs.State.{Environment, Frame, State}
 use Rattle.trac_rules.specs.Stepping.{carried_out, step}
 use Rattle.trac_rules.proofs.Outcomes.{limited_Ok, seen_as-Ok}
 use Rattle.trac_rules.proofs.Scans.{gathered_in_shows}
-use Rattle.trac_origins.specs.Lengths.{current_text, in_current, is_of_text, may_put, value_at}
-use Rattle.trac_origins.specs.Places.{Place, InActive, InBase, InArgument, InForm, InOutput, Carried, arguments_of, byte_at, found_at, numbered}
+use Rattle.trac_origins.specs.Lengths.{current_text, in_current, is_of_text, value_at}
+use Rattle.trac_origins.specs.Places.{Place, InActive, InBase, InArgument, InOutput, Carried, arguments_of, byte_at, found_at, numbered}
 use Rattle.trac_origins.specs.Stepping.{origin}
 use Rattle.trac_origins.proofs.ToldCalls.{call_rest, call_stays, ended}
-use Rattle.trac_origins.proofs.ToldForms.{call_forms}
 use Rattle.trac_rules.proofs.MovedOn.{active-gathered}
 use Rattle.trac_origins.proofs.ToldSteps.{length-current, within_current, within_gathered}
 use Rattle.trac_follow.specs.declared.place.Origin as code_origin
@@ -103,9 +102,6 @@ module _ (s : State) (call : Call) (is : scan s ≡ Calls call) where
       ∙ ap look (sym (cond-false (n == length fs) (Some f) (numbered n fs) (ne_eqb n (length fs) (λ same. absurd (omega (arith, same, less))))))
       ∙ ap (λ (gs : List Frame). look (numbered n gs)) (sym at.2.frames) ∙ e
   found_without place x text e outside = absurd (cc)
-
-  pub form_without : (name : List ℕ) (i : ℕ) (x : Item) → found_at s (InForm name i) ≡ Some x → found_at call.state (InForm name i) ≡ Some x
-  form_without name i x e = ap (λ (u : State). found_at u (InForm name i)) (ended s call is).2.state ∙ e
 
   -- a place past the current text
   current_is : (fs : List Frame) → current_text fs call.state ≡ current_text fs s
@@ -226,7 +222,3 @@ module _ (environment : Environment) (s t : State) (call : Call) (item : Item) (
 
   pub output_carried : (i : ℕ) → i < length s.output → origin environment s (InOutput i) ≡ Carried (InOutput i)
   output_carried i l = let byte = byte_there i s.output l in text_carried (InOutput i) byte.0 refl byte.1 tt
-
-  pub form_carried : (name : List ℕ) (i : ℕ) (x : Item) → may_put (primitive_of (argument 0 call.arguments)) (argument 1 call.arguments) name ≡ false →
-      found_at s (InForm name i) ≡ Some x → origin environment s (InForm name i) ≡ Carried (InForm name i)
-  form_carried name i x other stands = call_forms environment s t call name i x h is other (form_without s call is name i x stands)

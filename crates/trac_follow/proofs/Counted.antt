@@ -1,9 +1,9 @@
 -- How far into the neutral text a byte of an argument stands, as the code counts it.
 use Rattle.std.proofs.Common.{◌≡◌, ℕ, zero, suc, ◌+◌, ◌-◌, ◌<◌, ◌≤◌, true, false, List, [], ◌∷◌, ◌++◌, length, take, drop, reverse, get_or, refl, sym, ap, ◌∙◌, ⊎_elim, arith}
-use Rattle.std.specs.Prelude.{Some, min, nat_lt, slice_get}
+use Rattle.std.specs.Prelude.{Some, nat_lt, slice_get}
 use Rattle.std.specs.List.{concat}
 use Rattle.std.proofs.lemmas.Bool.{cases_Bool, eq-eqb, ltb-false, ltb-true, ne_eqb}
-use Rattle.std.proofs.lemmas.List.{drop-append-le, drop-drop, drop_all, length-drop, length-reverse, reverse-append, take_all}
+use Rattle.std.proofs.lemmas.List.{drop-append-le, drop-drop, drop_all, length-drop, length-reverse, reverse-append}
 use Rattle.trac_rules.specs.declared.kind.Kind.{Kind}
 use Rattle.trac_rules.specs.Limits.{argument_bytes, total_length}
 use Rattle.trac_rules.specs.State.{Frame, State}
@@ -88,17 +88,6 @@ pub next_text : (texts : List (List ℕ)) (i : ℕ) → total_length (take (i + 
 next_text texts i =
     let same : i + 1 ≡ suc i = omega arith in
     ap (λ n. total_length (take n texts)) same ∙ next_one texts i
-
--- past the last there are no more
-pub taken_within : (texts : List (List ℕ)) (k : ℕ) → total_length (take (min k (length texts)) texts) ≡ total_length (take k texts)
-taken_within texts k =
-    ⊎_elim
-    (λ (t : nat_lt (length texts) k ≡ true).
-    let past : length texts < k = ltb-true (length texts) k t in
-    ap (λ (few : List (List ℕ)). total_length few) (take_all (min k (length texts)) texts (omega (arith, past)) ∙ sym (take_all k texts (omega (arith, past)))))
-    (λ (t : nat_lt (length texts) k ≡ false).
-    ap (λ n. total_length (take n texts)) (omega (arith, ltb-false (length texts) k t)))
-    (cases_Bool (nat_lt (length texts) k))
 
 -- ---- a byte
 

@@ -1,10 +1,9 @@
 -- What a step leaves as it is, and where what stands after a run of bytes stood before it, as the code tells them.
-use Rattle.std.proofs.Common.{◌≡◌, ◌⊎◌, ℕ, ◌+◌, ◌-◌, ◌<◌, ◌≤◌, Bool, true, false, not, List, length, take, drop, inl, inr, refl, sym, ap, subst, ◌∙◌, ⊎_elim, arith}
+use Rattle.std.proofs.Common.{◌≡◌, ◌⊎◌, ℕ, ◌+◌, ◌-◌, ◌<◌, Bool, true, false, not, List, length, take, drop, inl, inr, refl, sym, ap, subst, ◌∙◌, ⊎_elim, arith}
 use Rattle.std.specs.Prelude.{Option, None, Some, Ok, if◌then◌else◌, nat_lt, slice_get}
 use Rattle.std.specs.FinMap as finite
 use Rattle.std.specs.List.{concat}
 use Rattle.std.proofs.lemmas.Bool.{cond-true, cond-false, lt-ltb}
-use Rattle.std.proofs.lemmas.List.{length-drop}
 use Rattle.trac_rules.specs.declared.item.Item.{Item}
 use Rattle.trac_rules.specs.declared.kind.Kind.{Kind}
 use Rattle.trac_rules.specs.Effect.{argument}
@@ -25,7 +24,6 @@ use Rattle.trac_origins.specs.Stepping.{origin}
 use Rattle.trac_origins.proofs.Moved.{not_less, past_place, stood}
 use Rattle.trac_origins.proofs.Told.{byte_within}
 use Rattle.trac_origins.proofs.ToldCalls.{ended}
-use Rattle.trac_rules.proofs.MovedOn.{active-gathered}
 use Rattle.trac_origins.proofs.Unchanged.{Unchanged, calls_held, calls_unchanged, moves_held, moves_unchanged}
 use Rattle.trac_text.proofs.NeutralAgain.{function_bytes}
 use Rattle.trac_follow.specs.Items.{IsMeasured}
@@ -160,14 +158,6 @@ text_stays s bytes gap p text less environment t item h stands placed =
     (step_scans environment s t h) in
     (all.0, record { measured = measured_aside bytes gap s p text; before = λ text. all.1 }, all.2)
 
--- so much a step leaves
-pub all_left : (s : State) → next_call s ≡ None → bytes_left s ≡ neutral_bytes s
-all_left s none = go (scan s) none
-  where
-    go : (x : Scanned) → call_asked x ≡ None → left_by x s ≡ neutral_bytes s
-    go (Moves t) none = refl
-    go (Calls call) none = absurd (cc)
-
 pub call_leaves : (s : State) (kind : Kind) (arguments : List (List ℕ)) → IsCall (next_call s) kind arguments → neutral_bytes s ≡ bytes_left s + length (concat arguments)
 call_leaves s kind arguments is =
     let call = given_call s kind arguments is in
@@ -183,17 +173,6 @@ call_leaves s kind arguments is =
     )
 
 -- ---- before a run
-
--- a byte of the active text stood so many further on
-pub active_before : (n : ℕ) (s : State) (i : ℕ) (item : Item) → n ≤ length s.active → found_at (moved_on n s) (InActive i) ≡ Some item → n + i < length s.active
-active_before n s i item within e =
-    omega (
-      arith,
-      within,
-      byte_within i (moved_on n s).active item e,
-      length-drop n s.active,
-      ap (λ (text : List ℕ). length text) (active-gathered s.frames (take n s.active) (deleted n s)),
-    )
 
 -- what is measured stays
 measured_or : (bytes : ℕ) (gap : Bool) (s : State) (past : Option ℕ) (p : Place) → IsMeasured bytes gap s p → IsMeasured bytes gap s (in_active past p)
