@@ -87,7 +87,7 @@ class Machine:
         self.tape, self.position, self.meta = tape, 0, ord("'")
         self.least, self.most = -(1 << bits - 1), (1 << bits - 1) - 1
         self.forms, self.blocks = {}, []
-        self.steps, self.doubts, self.told, self.advised = 0, [], set(), None
+        self.steps, self.doubts, self.told, self.scanned, self.advised = 0, [], set(), (0, b""), None
         self.load()
 
     # ---- the input
@@ -110,6 +110,10 @@ class Machine:
             if self.position == end:
                 raise Refused
         text = [(self.tape[i], i) for i in range(self.position, end)]
+        # (the idle program's rs is in its ps, and nothing stands after that)
+        if len(self.active) == 2 and len(self.frames) == 2 and bytes_of(self.frames[-1][1][0]) == b"rs":
+            start = self.begin(self.position)
+            self.scanned = start, self.tape[start : max(start, end)]
         self.position = min(end + 1, len(self.tape))
         return text
 
@@ -206,18 +210,13 @@ class Machine:
             self.told.add((kind, place))
             self.doubts.append((place, words, self.steps))
             if kind in ("opening", "closing") or kind[0] == "unended":
-                self.advise(place)
+                self.advise()
 
-    def advise(self, place):
-        """Notes which parenthesis is probably wrong in the text of a doubt, once for each text."""
-        start = place
-        if any(byte in b"()" for byte in self.tape[max(place - 1, 0) : place + 1]):
-            start = self.begin(self.tape[: max(self.position - 1, 0)].rfind(bytes([self.meta])) + 1)
-        if start == self.advised:
-            return
+    def advise(self):
+        """Notes which parenthesis is probably wrong in the text that the idle program read last, once for each text."""
+        start, text = self.scanned
+        given = advice.advice(text) if start != self.advised else None
         self.advised = start
-        text = self.tape[start : self.position].split(bytes([self.meta]))[0]
-        given = advice.advice(text)
         if given:
             self.doubts.append((start + given[1], b"note: " + given[0], None))
 
