@@ -119,7 +119,7 @@ pub(crate) fn advice_on<A: Allocator + Copy>(
         return Ok(None);
     }
     Ok(Some(
-        signs.unclosed.unwrap_or(Advice {
+        signs.unclosed.or(signs.within).unwrap_or(Advice {
             fault: Fault::MissingClosing,
             place: before.end,
         }),
