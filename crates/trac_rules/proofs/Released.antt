@@ -162,16 +162,14 @@ before-released o k r s t read printed back =
 
 -- ---- what a step keeps
 
-recorded_at-released : (at : Front) (o k : ℕ) (s : State) → recorded_at at (released o k s) ≡ recorded_at at s
-recorded_at-released at o k s = go at
-  where
-    comma : (frames : List Frame) → comma_recorded frames (released o k s) ≡ comma_recorded frames s
-    comma [] = refl
-    comma (f ∷ fs) = refl
+-- what is seen of begun functions is seen where there is none and where there is one
+by_frames : (P : List Frame → Type 0) → P [] → ((f : Frame) (fs : List Frame) → P (f ∷ fs)) → (frames : List Frame) → P frames
+by_frames P none some [] = none
+by_frames P none some (f ∷ fs) = some f fs
 
-    go : (a : Front) → recorded_at a (released o k s) ≡ recorded_at a s
-    go front.Comma = comma s.frames
-    go other = refl
+recorded_at-released : (at : Front) (o k : ℕ) (s : State) → recorded_at at (released o k s) ≡ recorded_at at s
+recorded_at-released front.Comma o k s = by_frames (λ frames. comma_recorded frames (released o k s) ≡ comma_recorded frames s) refl (λ f fs. refl) s.frames
+recorded_at-released other o k s = refl
 
 -- it weighs as much
 pub step_weight-released : (o k : ℕ) (s : State) → step_weight (released o k s) ≡ step_weight s
@@ -186,12 +184,8 @@ step_weight-released o k s =
 pub loss-released : (o k : ℕ) (s : State) → loss (released o k s) ≡ loss s
 loss-released o k s = go (front_of s.active)
   where
-    closing : (frames : List Frame) → closing_loss frames (released o k s) ≡ closing_loss frames s
-    closing [] = refl
-    closing (f ∷ fs) = refl
-
     go : (at : Front) → loss_at at (released o k s) ≡ loss_at at s
-    go front.Closing = closing s.frames
+    go front.Closing = by_frames (λ frames. closing_loss frames (released o k s) ≡ closing_loss frames s) refl (λ f fs. refl) s.frames
     go other = refl
 
 -- ---- a commit
