@@ -1,4 +1,3 @@
--- The law is that of `Replies`.
 use Rattle.trac_rules.proofs.Replies.{answer_width}
 use Rattle.trac_rules.proofs.laws.widths_stay.Goals as goal
 
