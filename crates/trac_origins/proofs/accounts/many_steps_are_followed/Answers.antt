@@ -1,4 +1,3 @@
--- The law is that of `Accounted`.
 use Rattle.trac_origins.proofs.Accounted.{followed_back}
 use Rattle.trac_origins.proofs.accounts.many_steps_are_followed.Goals as goal
 

@@ -1,4 +1,3 @@
--- The law is that of `Accounted`.
 use Rattle.trac_origins.proofs.Accounted.{accounted}
 use Rattle.trac_origins.proofs.accounts.origins_are_true.Goals as goal
 

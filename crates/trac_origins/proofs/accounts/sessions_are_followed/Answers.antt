@@ -1,4 +1,3 @@
--- The law is that of `Accounted`.
 use Rattle.trac_origins.proofs.Accounted.{followed_in_session}
 use Rattle.trac_origins.proofs.accounts.sessions_are_followed.Goals as goal
 
