@@ -148,7 +148,6 @@ module _ (R : Origin → Item → Type 0) where
           let within = number_within n fs g there in
           cond-false (n == length fs) (Some f) (numbered n fs) (ne_eqb n (length fs) (λ e. absurd (omega (arith, e, within)))) ∙ there
 
-  -- each place is related to what stands there
   pub kept_beside : (s : State) → ((place : Place) (item : Item) → found_at s place ≡ Some item → R (Carried place) item) → StateBeside (all_kept s) s
   kept_beside s h = record {
     active = each OfByte (λ i. Carried (InActive i)) s.active (λ i b e. h (InActive i) (Byte b) (ap (option_map Byte) e));

@@ -55,7 +55,6 @@ begins_with_prefix : (prefix : List ℕ) (found : Option ℤ) (value : List ℕ)
 begins_with_prefix prefix None value e = absurd (cc)
 begins_with_prefix prefix (Some n) value e = ap (take (length prefix)) (sym (same_Some (prefix ++ number_text n) value e)) ∙ take_at prefix (number_text n) (length prefix) refl
 
--- the prefix of a text begins it
 front_of_prefix : (text : List ℕ) → take (length (prefix_of text)) text ≡ prefix_of text
 unfolding prefix_of
 front_of_prefix text =

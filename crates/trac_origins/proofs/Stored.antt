@@ -39,7 +39,6 @@ found_of_entries forms base (entry ∷ held) all was q form e =
     (found_of_put base entry.0 r entry.1 found there))
     q form e
 
--- none are found among none
 pub none_found : (q : List ℕ) (form : Form) → finite.get {R = slice_cmp nat_cmp} finite.empty q ≡ Some form → ⊥
 none_found q form e = let none : None ≡ Some form = sym (finite.get-empty (slice_cmp nat_cmp) q) ∙ e in cc
 
@@ -77,7 +76,6 @@ found_of_copies block forms q =
 
 -- ---- blocks
 
--- of blocks with one more
 block_of_more : (blocks : List Block) (block : Block) (k : ℕ) → (k ≡ length blocks → ⊥) → block_at k (blocks ++ block ∷ []) ≡ block_at k blocks
 block_of_more [] block zero other = absurd (other refl)
 block_of_more [] block (suc k) other = refl

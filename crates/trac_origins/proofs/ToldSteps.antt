@@ -26,7 +26,6 @@ of_moves : (environment : Environment) (s t : State) (place : Place) → scan s 
 unfolding origins
 of_moves environment s t place is = ap (λ x. origin_at (scanned_from environment s x) place) is
 
--- what scanning says by the front
 at_front : (s : State) (x : Scanned) → scan s ≡ x → scan_at (front_of s.active) s ≡ x
 unfolding scan
 at_front s x is = is
@@ -123,7 +122,6 @@ loses f s idle = go f idle
     go Closing idle = closing s.frames
     go Plain idle = (1, gathers (take 1 (kept InActive s.active)) (take 1 s.active) 1)
 
--- a byte after n that are lost
 pub lost_told : (n : ℕ) (text : List ℕ) (i : ℕ) → n + i < length text → get_or (drop n (kept InActive text)) i Made ≡ Carried (InActive (n + i))
 lost_told n text i l = get_or-drop n (kept InActive text) i Made ∙ one_each-at (λ j. Carried (InActive j)) text (n + i) l
 

@@ -41,7 +41,6 @@ pub record IsSpread (os : List Origin) (n : ℕ) (o : Origin) : Type 0 where
   pub within : n < length os
   pub told : get_or os n Made ≡ o
 
--- after more of them
 later_spread : (before os : List Origin) (n m k : ℕ) (o : Origin) → length before ≡ k → m ≡ k + n → IsSpread os n o → IsSpread (before ++ os) m o
 later_spread before os n m k o long same is =
     let index : m ≡ length before + n = omega (arith, long, same) in
@@ -50,7 +49,6 @@ later_spread before os n m k o long same is =
       told = ap (λ i. get_or (before ++ os) i Made) index ∙ get_or-append-add before os n Made ∙ is.told;
     }
 
--- before more of them
 sooner_spread : (os more : List Origin) (n : ℕ) (o : Origin) → IsSpread os n o → IsSpread (os ++ more) n o
 sooner_spread os more n o is = record {
   within = omega (arith, is.within, length-append os more);
@@ -58,7 +56,6 @@ sooner_spread os more n o is = record {
 }
 
 module _ (gap : ℕ → List Origin) (give : Item → List ℕ) (bytes : (b : ℕ) → give (Byte b) ≡ b ∷ []) (gaps : (k w : ℕ) → length (gap k) ≡ length (give (Gap k w))) where
-  -- how much more is given by one item more
   one_more : (item : Item) (items : List Item) → length (flat_map give (item ∷ items)) ≡ length (give item) + length (flat_map give items)
   one_more item items = length-append (give item) (flat_map give items)
 
@@ -115,7 +112,6 @@ given_at f g same (d ∷ cs) (suc n) c e j l =
 
 -- ---- a call
 
--- made bytes are made, wherever they are
 made_at : (text : List ℕ) (i : ℕ) → get_or (all_made text) i Made ≡ Made
 made_at text i = always_made text i
 

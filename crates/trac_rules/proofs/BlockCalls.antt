@@ -45,7 +45,6 @@ pub with_all-held : (entries : Held) (es : Named) → with_all entries (held es)
 with_all-held [] es = refl
 with_all-held (entry ∷ entries) es = with_all-held entries (entry ∷ es)
 
--- how many forms there are
 len-held : (es : Named) → finite.len (held es) ≡ length (in_order es)
 len-held es = finite.len-entries (held es) ∙ ap length (entries-held es)
 

@@ -87,7 +87,6 @@ minus_number : (n : ℕ) (text : List ℕ) → IsDecimal n text → whole_number
 unfolding whole_number
 minus_number n text d = ap (λ k. neg_ℤ (pos k)) d.value
 
--- the numbers of the range have less than 64 digits
 narrow_plus : (width : Width) (k : ℕ) → fits width (pos k) ≡ true → k < 10 ^ 64
 narrow_plus W64 k t = omega (arith, ltb-true k (2 ^ 63) t)
 narrow_plus W128 k t = omega (arith, ltb-true k (2 ^ 127) t)

@@ -125,7 +125,6 @@ texts_go_back environment s t kept h k = goes_back_over texts_in texts_before en
 
 -- ---- all but forms and blocks
 
--- a meta character that was set, or not, is the old one again
 meta_goes_back : (old : ℕ) (new : Option ℕ) → unwrap_or (option_map (λ _. old) new) (unwrap_or new old) ≡ old
 meta_goes_back old None = refl
 meta_goes_back old (Some b) = refl
@@ -147,7 +146,6 @@ rest_goes_back call e =
     } in rest)) fits
     ∙ (λ i. Some (record { meta = meta i; trace = s.trace; position = back i; output = output i }))
 
--- a placed value leaves all of it
 rest-placed : (kind : Kind) (forced : Bool) (value : List ℕ) (s : State) → rest_of (placed kind forced value s) ≡ rest_of s
 rest-placed Active forced value s = refl
 rest-placed Neutral true value s = refl
@@ -211,7 +209,6 @@ pub record_leads_back : (environment : Environment) (s t : State) (r : Record) �
     state_before r t ≡ Some s
 record_leads_back environment s t r proper h k = before_of_restored r s t proper (record_restores environment s t r h k)
 
--- an accepted step has a record
 pub record_is_there : (environment : Environment) (s t : State) → step environment s ≡ Ok t → is_some (record_of environment s) ≡ true
 unfolding step
 record_is_there environment s t h = by_scanned (scan s) (limited_Ok texts_fit (carried_out environment (scan s)) t h).0

@@ -13,7 +13,6 @@ use Rattle.trac_rules.proofs.Restored.{elsewhere, restored-elsewhere}
 
 -- ---- records of scanning
 
--- what is restored stands where the state after stands
 pub stands_there : (r : Record) (s t : State) → IsOfScanning r → restored r t ≡ Some s → (s.position ≡ t.position) × (s.output ≡ t.output)
 stands_there r s t of back =
     let there : Some s ≡ Some (elsewhere t.position t.output s) =

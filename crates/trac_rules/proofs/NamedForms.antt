@@ -12,11 +12,9 @@ use Rattle.trac_rules.specs.State.{Forms}
 
 -- ---- names
 
--- names that the order does not tell apart are one
 pub one_name : (q name : List ℕ) → eq_by_cmp (slice_cmp nat_cmp) q name ≡ true → q ≡ name
 one_name q name t = (bytes_eq-Decides q name).0 (sym (is_eq-slice_cmp q name) ∙ t)
 
--- the order does not tell a name from itself
 pub ties_itself : (name : List ℕ) → eq_by_cmp (slice_cmp nat_cmp) name name ≡ true
 ties_itself name = is_eq-slice_cmp name name ∙ nat_list_eq_equiv.refl name
 
@@ -26,7 +24,6 @@ only_equal_tie = finite.slice_cmp-IsAntisymmetric finite.nat_cmp-IsAntisymmetric
 
 -- ---- forms put and taken
 
--- a form that was put is found under its name
 pub get-put : (forms : Forms) (name : List ℕ) (form : Form) → finite.get (finite.insert forms name form) name ≡ Some form
 get-put forms name form =
     finite.get-insert nat_list_cmp_total forms name form name
@@ -62,7 +59,6 @@ pub len-put_again : (forms : Forms) (name : List ℕ) (old new : Form) → finit
 len-put_again forms name old new there =
     finite.len-insert nat_list_cmp_total forms name new ∙ ap (λ (o : Option Form). cond (is_some o) (finite.len forms) (finite.len forms + 1)) there
 
--- a name that was taken leaves no more of them
 pub len-taken : (forms : Forms) (name : List ℕ) → finite.len (finite.remove forms name) ≤ finite.len forms
 len-taken forms name = go (finite.contains_key forms name) (finite.len-remove nat_list_cmp_total forms name)
   where

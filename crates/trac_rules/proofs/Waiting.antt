@@ -85,7 +85,6 @@ step_waits e more s l none h =
 
 -- ---- sessions
 
--- where a step waits there is room in the journal
 room_of_wanted : (p : PlainSession) → answer Step p ≡ refused NeedInput p → length p.earlier < p.limit
 room_of_wanted p h =
     ⊎_elim
