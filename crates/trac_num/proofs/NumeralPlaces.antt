@@ -36,7 +36,6 @@ not_at text k other p m =
     let digit = digit_first (drop k text) t (λ e. p (sym here ∙ e)) (λ e. m (sym here ∙ e)) in
     false≢true (sym other ∙ rw here at digit))
 
--- nor at the last byte, if it is not a digit
 not_last : (text : List ℕ) (k : ℕ) → is_ascii_digit (get_or text k 0) ≡ false → k + 1 ≡ length text → is_numeral (drop k text) ≡ false
 not_last text k other last =
     false_from_ne_true (is_numeral (drop k text)) (λ t.
@@ -44,7 +43,6 @@ not_last text k other last =
     let digit = digit_last (drop k text) 0 t (omega (arith, length-drop k text)) in
     false≢true (sym other ∙ rw here at digit))
 
--- a text of digits is its numeral
 pub all_is_numeral : (text : List ℕ) → all_ascii_digits text ≡ true → drop 0 text ≡ numeral_of text
 unfolding numeral_of
 all_is_numeral [] t = refl
