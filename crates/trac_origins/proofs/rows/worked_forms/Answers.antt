@@ -1,5 +1,5 @@
 -- Each clause is computed from the definitions; those that look into a finite map by its laws.
-use Rattle.std.proofs.Common.{◌++◌, ◌∷◌, [], cond, codes, is_some, map, rules, ap, ◌∙◌}
+use Rattle.std.proofs.Common.{◌++◌, [], cond, codes, is_some, map, rules, ap, ◌∙◌}
 use Rattle.std.specs.Prelude.{Option}
 use Rattle.std.specs.Cmp.Lexicographic.{nat_list_cmp_total}
 use Rattle.std.specs.FinMap as finite
