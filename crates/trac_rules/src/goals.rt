@@ -6,6 +6,7 @@ ghost use Rattle.trac_rules.specs.Goals.{is_same_form, is_shallower, is_unprinte
 ghost use Rattle.trac_rules.specs.Rows.{fed, state_of, texts_of};
 
 /// A form passes for the same as another just where the two are one: the same items, and the pointer at the same place.
+#[tactic(auto, using(crate::proofs::AlikeForms::alike_equal, crate::proofs::AlikeForms::equal_alike))]
 pub fn forms_are_told_apart()
     ensures alike { (a b : Form) → is_same_form a b ≡ true → a ≡ b }
     ensures equal { (a b : Form) → a ≡ b → is_same_form a b ≡ true }

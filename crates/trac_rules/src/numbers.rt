@@ -34,6 +34,7 @@ pub fn quotient_is_cut()
 {}
 
 /// A number of the range that is printed is a numeral, and is read back as the same number.
+#[tactic(auto, using(crate::proofs::Calculated::printed_form, crate::proofs::Calculated::printed_number))]
 pub fn printed_is_read_back()
     ensures form { (width : Width) (n : ℤ) → fits width n ≡ true → is_numeral (number_text n) ≡ true }
     ensures number { (width : Width) (n : ℤ) → fits width n ≡ true → number_of width (number_text n) ≡ Some n }

@@ -63,6 +63,7 @@ pub fn records_name_no_place()
 {}
 
 /// The record of a step weighs no more than the step may lose.
+#[tactic(auto, using(crate::proofs::CallsWeighed::record_within))]
 pub fn records_weigh_no_more()
     ensures { (environment : Environment) (s : State) (r : Record) → record_of environment s ≡ Some r →
         weight r ≤ loss s }
