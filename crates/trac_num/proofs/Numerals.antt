@@ -35,7 +35,6 @@ sign_or_none text =
 
 -- ---- numerals
 
--- a sign and digits
 pub numeral_of_sign : (text : List ℕ) → 1 < length text → without_leading_sign text ≡ drop 1 text → all_ascii_digits (drop 1 text) ≡ true → is_numeral text ≡ true
 numeral_of_sign text l e t = rw e (and_from _ _ (lt-ltb 0 (length (drop 1 text)) (omega (arith, length-drop 1 text))) t)
 
@@ -45,7 +44,6 @@ numeral_of_digits text l t =
     let same : without_leading_sign text ≡ text = without_sign text (λ e. omega (arith, first.0, e)) (λ e. omega (arith, first.0, e)) in
     rw same (and_from _ _ (lt-ltb 0 (length text) l) t)
 
--- a numeral has something after its sign, and digits alone
 pub numeral_parts : (text : List ℕ) → is_numeral text ≡ true → (0 < length (without_leading_sign text)) × (all_ascii_digits (without_leading_sign text) ≡ true)
 numeral_parts text t =
     let both = and_parts _ _ t in
@@ -64,7 +62,6 @@ digit_inside text i t p l =
     digit_at text i (rw s.2 at parts.1) l)
     (sign_or_none text)
 
--- the first byte is a digit too, where it is no sign
 pub digit_first : (text : List ℕ) → is_numeral text ≡ true → (get_or text 0 0 ≡ 43 → ⊥) → (get_or text 0 0 ≡ 45 → ⊥) → is_ascii_digit (get_or text 0 0) ≡ true
 digit_first text t p m =
     let parts = numeral_parts text t in

@@ -39,6 +39,5 @@ or_zeros (x ∷ xs) = rw (or_false x, or_zeros xs) refl
 pub pairwise_next : (f : ℕ → ℕ → ℕ) (xs ys : List ℕ) (i : ℕ) → i < length xs → i < length ys → pairwise f (take (i + 1) xs) (take (i + 1) ys) ≡ pairwise f (take i xs) (take i ys) ++ f (get_or xs i 0) (get_or ys i 0) ∷ []
 pairwise_next f xs ys i p q = pairwise_more f xs ys i 0 0 p q
 
--- all places
 pub pairwise_all : (f : ℕ → ℕ → ℕ) (xs ys : List ℕ) (i : ℕ) → length xs ≡ length ys → length xs ≤ i → pairwise f (take i xs) (take i ys) ≡ pairwise f xs ys
 pairwise_all f xs ys i e l = rw (take_all i xs l, take_all i ys (omega (arith, e, l))) refl

@@ -47,7 +47,6 @@ bits_above_zero W64 (negsuc k) h n = omega (arith, h.sfits)
 bits_above_zero W128 (pos k) h n = omega (arith, λ (e : k ≡ 0). n (ap pos e))
 bits_above_zero W128 (negsuc k) h n = omega (arith, h.sfits)
 
--- the same of a quotient
 quotient_if_fits : (width : Width) (r : Option ℤ) (a b : ℤ) → FitsSigned (held width) b → SomeIff r (CanDivide (held width) a b) (int_div a b) → r ≡ quotient_of width a b
 unfolding quotient_of
 quotient_if_fits width None a b h never =

@@ -24,7 +24,6 @@ take-add (suc m) zero [] = let e : suc m + zero ≡ suc m = omega arith in rw e 
 take-add (suc m) (suc n) [] = let e : suc m + suc n ≡ suc (m + suc n) = omega arith in rw e refl
 take-add (suc m) n (x ∷ xs) = let e : suc m + n ≡ suc (m + n) = omega arith in rw e (ap (λ t. x ∷ t) (take-add m n xs))
 
--- three of the bits of two digits, whatever stands after them
 three_of_two : (x y r : ℕ) (rest : List Bool) → r ≤ 3 → take 3 (drop r (digit_bits x ++ (digit_bits y ++ rest))) ≡ take 3 (drop r (digit_bits x ++ digit_bits y))
 three_of_two x y zero rest l = refl
 three_of_two x y (suc zero) rest l = refl

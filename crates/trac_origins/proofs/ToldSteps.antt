@@ -230,7 +230,6 @@ within_gathered (f ∷ fs) bytes u n item is e =
     byte_within n (f.gathered ++ bytes) item
     (ap (byte_at n) (sym last) ∙ sym (ap (option_and_then (λ (h : Frame). byte_at n (argument (length f.arguments) (arguments_of h)))) there) ∙ e)
 
--- and what stands in the current text is within that
 pub within_current : (fs : List Frame) (u : State) (n : ℕ) (item : Item) → u.frames ≡ fs → found_at u (in_current fs n) ≡ Some item → n < length (current_text fs u)
 within_current [] u n item is e = byte_within n u.base item e
 within_current (f ∷ fs) u n item is e =
@@ -248,7 +247,6 @@ scanning_within s t n item is moving e =
     subst (λ (u : State). n < length (current_text u.frames u)) (sym moved.state)
     (within_gathered s.frames moved.bytes before n item refl (subst (λ (u : State). found_at u (in_current s.frames n) ≡ Some item) moved.state e))
 
--- the state after it
 pub state_idle : (s t : State) → scan s ≡ Moves t → makes_idle (front_of s.active) ≡ true → t ≡ record s { active = idle_program; base = []; frames = [] }
 state_idle s t is idle = go (front_of s.active) idle (at_front s (Moves t) is)
   where

@@ -57,7 +57,6 @@ of_where_any : {A : Type 0} (xs : List A) (found : Option Piece) (piece : Piece)
 of_where_any [] found piece e = absurd (cc)
 of_where_any (x ∷ xs) found piece e = e
 
--- what is made of what was found
 of_option_map : {A : Type 0} (make : A → Piece) (found : Option A) (piece : Piece) → option_map make found ≡ Some piece → (x : A) × (found ≡ Some x) × (make x ≡ piece)
 of_option_map make None piece e = absurd (cc)
 of_option_map make (Some x) piece e = (x, refl, same_Some (make x) piece e)

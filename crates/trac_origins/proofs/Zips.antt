@@ -52,7 +52,6 @@ module _ {A B : Type 0} {R : A → B → Type 0} where
       (later.0, cond-false (n == length xs) (Some x) (numbered n xs) (ap (λ k. n == k) (same_length h) ∙ t) ∙ later.1, later.2))
       (cases_Bool (n == length ys))
 
-  -- what each of a list gives, one after another
   pub all_given : {C : Type 0} (f : C → List A) (g : C → List B) → ((c : C) → Zip R (f c) (g c)) → (cs : List C) → Zip R (flat_map f cs) (flat_map g cs)
   all_given f g h [] = ends
   all_given f g h (c ∷ cs) = appended (h c) (all_given f g h cs)
@@ -75,7 +74,6 @@ of_dropped zero xs i = let same : i ≡ zero + i = omega arith in ap (slice_get 
 of_dropped (suc n) [] i = refl
 of_dropped (suc n) (y ∷ xs) i = let same : suc (n + i) ≡ suc n + i = omega arith in of_dropped n xs i ∙ ap (slice_get (y ∷ xs)) same
 
--- among lists, of which there are more
 pub of_more : {X : Type 0} (xs ys : List (List X)) (k i : ℕ) (x : X) → slice_get (get_or xs k []) i ≡ Some x → slice_get (get_or (xs ++ ys) k []) i ≡ Some x
 of_more [] ys k i x e = absurd (cc)
 of_more (y ∷ xs) ys zero i x e = e

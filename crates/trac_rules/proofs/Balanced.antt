@@ -25,14 +25,12 @@ count_of_same b x xs e = let t : (x == b) ≡ true = eq-eqb x b e in rw t (omega
 pub count_of_other : (b x : ℕ) (xs : List ℕ) → (x ≡ b → ⊥) → count_of b (x ∷ xs) ≡ count_of b xs
 count_of_other b x xs n = let t : (x == b) ≡ false = ne_eqb x b n in rw t refl
 
--- one more byte of a text, which is counted
 pub count_of_more_same : (b : ℕ) (text : List ℕ) (i : ℕ) → i < length text → get_or text i 0 ≡ b → count_of b (take (i + 1) text) ≡ count_of b (take i text) + 1
 count_of_more_same b text i l e =
     let one : count_of b (get_or text i 0 ∷ []) ≡ count_of b [] + 1 = count_of_same b (get_or text i 0) [] e in
     let more : take (i + 1) text ≡ take i text ++ get_or text i 0 ∷ [] = take_more text i 0 l in
     rw more (omega (arith, one, count_of-append b (take i text) (get_or text i 0 ∷ [])))
 
--- one more byte of a text, which is another one
 pub count_of_more_other : (b : ℕ) (text : List ℕ) (i : ℕ) → i < length text → (get_or text i 0 ≡ b → ⊥) → count_of b (take (i + 1) text) ≡ count_of b (take i text)
 count_of_more_other b text i l n =
     let one : count_of b (get_or text i 0 ∷ []) ≡ count_of b [] = count_of_other b (get_or text i 0) [] n in
@@ -104,7 +102,6 @@ closes_at_other text k n = false_from_ne_true (closes_at text k) (λ t. n (close
 pub closes_at_inside : (text : List ℕ) (k : ℕ) → count_of CLOSING (take k text) < count_of OPENING (take k text) → closes_at text k ≡ false
 closes_at_inside text k l = false_from_ne_true (closes_at text k) (λ t. absurd (omega (arith, (closes_at_parts text k t).1)))
 
--- the first closing place is the match
 pub match_at : (text : List ℕ) (k : ℕ) → closes_at text k ≡ true → ((j : ℕ) → j < k → closes_at text j ≡ false) → k < length text → match_of text ≡ Some k
 unfolding match_of
 match_at text k is below l = first_place_some (closes_at text) (length text) k l is below
@@ -132,7 +129,6 @@ fronts_of_open text n l none (suc i) m =
     (λ (ne : get_or text i 0 ≡ CLOSING → ⊥). omega (arith, count_of_more_other CLOSING text i within ne))
     (cases_eq (get_or text i 0) CLOSING))
 
--- the text before the first closing place is balanced
 pub balanced_before : (text : List ℕ) (k : ℕ) → closes_at text k ≡ true → ((j : ℕ) → j < k → closes_at text j ≡ false) → k < length text → IsBalanced (take k text)
 balanced_before text k is below l = record {
   even = (closes_at_parts text k is).1;

@@ -141,7 +141,6 @@ handled-held EraseBlock arguments es blocks =
 abbrev pub sorted : Option (Named × List Block) → Option (Named × List Block)
 sorted o = option_map (λ (b : Named × List Block). let in_its_order : Named × List Block = (in_order b.0, b.1) in in_its_order) o
 
--- lists of the same order and blocks are the same storage
 pub same_stored : (b : Named × List Block) (after : Named) (blocks : List Block) → sorted (Some b) ≡ Some (in_order after, blocks) → stored b.0 b.1 ≡ stored after blocks
 same_stored b after blocks is =
     let same : (let in_its_order : Named × List Block = (in_order b.0, b.1) in in_its_order) ≡ (in_order after, blocks) = cc in

@@ -43,7 +43,6 @@ module _ (texts : List (List ℕ)) where
   was_byte : {b : ℕ} {old new : List Item} → IsCut texts old (Byte b ∷ new) → (rest : List Item) × (old ≡ Byte b ∷ rest) × IsCut texts rest new
   was_byte (kept {old = rest} h) = (rest, refl, h)
 
-  -- what bytes were
   were_bytes : (text : List ℕ) (old new : List Item) → IsCut texts old (as_items text ++ new) → (rest : List Item) × (old ≡ as_items text ++ rest) × IsCut texts rest new
   were_bytes [] old new h = (old, refl, h)
   were_bytes (b ∷ text) old new h =
@@ -136,7 +135,6 @@ gap_more : (item : Item) (xs ys : List Item) (n : ℕ) → gap_count ys ≡ gap_
 gap_more (Byte b) xs ys n h = h
 gap_more (Gap k w) xs ys n h = omega (arith, h)
 
--- the new items have as many gaps more
 pub counted : (texts : List (List ℕ)) (place : ℕ) {old new : List Item} → IsCut texts old new → gap_count new ≡ gap_count old + length (cut_between place old new)
 counted texts place done = omega arith
 counted texts place (kept {item = item} {old = old} {new = new} h) =
@@ -203,7 +201,6 @@ fill_made texts place k text cut items e some =
     (eq-eqb place place refl)
     ∙ ap (option_and_then (λ t. option_map (λ rest. as_items t ++ rest) (joined_from texts (place + 1) cut items))) (fitting_is texts k text e some)
 
--- the gaps that were made, filled again, give the old items
 pub joined_back : (texts : List (List ℕ)) (place : ℕ) {old new : List Item} → IsCut texts old new → joined_from texts place (cut_between place old new) new ≡ Some old
 joined_back texts place done = refl
 joined_back texts place (kept {item = item} {old = old} {new = new} h) =

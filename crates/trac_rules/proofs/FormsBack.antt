@@ -52,7 +52,6 @@ put_differs name form forms = λ q t. get_put_aside forms name q form t
 pub taken_differs : (name : List ℕ) (forms : Forms) → DifferAt name (finite.remove forms name) forms
 taken_differs name forms = λ q t. get_taken_aside forms name q t
 
--- with what stood under it put back they are the same
 pub swapped : (name : List ℕ) (old : Option Form) (m forms : Forms) → finite.get forms name ≡ old → DifferAt name m forms → swapped_back name old m ≡ forms
 swapped name None m forms there apart =
     same_forms (finite.remove m name) forms (λ q. by_tie q name
@@ -233,7 +232,6 @@ same_without (name ∷ names) m n agree =
     there)
     (agree q)))
 
--- copies taken out again, and what they replaced put back
 pub copies_taken_back : (held : Held) (forms : Forms) → with_all (moved_out (names_in held) forms) (without (names_in held) (with_all held forms)) ≡ forms
 copies_taken_back held forms =
     ap (with_all (moved_out (names_in held) forms)) (same_without (names_in held) (with_all held forms) forms (put_or_same held forms))

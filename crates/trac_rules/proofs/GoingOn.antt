@@ -28,7 +28,6 @@ prepended_empty text stop = ap (λ (bytes : List ℕ). record { bytes = bytes; s
 
 -- ---- one step of a run
 
--- where a step goes to a state, the run goes on from there
 pub output_from_Ok : (n : ℕ) (e : Environment) (s t : State) → step e s ≡ Ok t → prepended s.output (output_from (suc n) e s) ≡ prepended t.output (output_from n e t)
 unfolding output_from
 output_from_Ok n e s t h =
@@ -38,7 +37,6 @@ output_from_Ok n e s t h =
     ∙ ap (λ (o : Output). prepended (s.output ++ at.0.output) o) (sym (output_from-output n e at.0 (s.output ++ at.0.output)))
     ∙ ap (λ (u : State). prepended u.output (output_from n e u)) (sym at.2)
 
--- where the silent state's step is refused, the run ends
 pub output_from_Err : (n : ℕ) (e : Environment) (s : State) (refusal : Refusal) → step e (silent s) ≡ Err refusal → prepended s.output (output_from (suc n) e s) ≡ record { bytes = s.output; stop = stop_of refusal }
 unfolding output_from
 output_from_Err n e s r h =
@@ -105,7 +103,6 @@ settled_is s =
     let place : s.position - s.position ≡ 0 = omega arith in
     λ i. record s { output = output i; position = place i }
 
--- what a commit leaves
 pub after_Commit : (p q : PlainSession) → answer (Commit 0) p ≡ done q → (q.last.output ≡ []) × (q.earlier ≡ []) × (q.last.position ≡ 0) × (q.limit ≡ p.limit)
 after_Commit p q h =
     rw (Commit_done 0 p q h) (ap (λ (s : State). s.output) (settled_is p.last), refl, ap (λ (s : State). s.position) (settled_is p.last), refl)
@@ -136,7 +133,6 @@ after_Feed p q d l h =
     let inside : p.last.position ≤ length (p.tape.bytes ++ d) = omega (arith, length-append p.tape.bytes d) in
     rw at.0 (refl, refl, refl, inside, at.1)
 
--- a feed is more of the input
 pub going_on-Feed : (p q : PlainSession) (bytes more : List ℕ) (n : ℕ) → answer (Feed bytes) p ≡ done q → going_on_from p (bytes ++ more) n ≡ going_on_from q more n
 going_on-Feed p q d more n h =
     ap (λ (bytes : List ℕ). prepended p.last.output (output_from n (over p.width (record { bytes = bytes; ended = true })) p.last)) (sym (append_assoc p.tape.bytes d more))

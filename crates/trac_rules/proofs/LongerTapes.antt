@@ -109,13 +109,11 @@ carried_out-more e more ended (Moves t) unended wanted = refl
 carried_out-more e more ended (Calls call) unended wanted =
     ap (seen_as (after_call call)) (performed-more e more ended call unended (λ none. wanted (ap (seen_as (after_call call)) none)))
 
--- so a step does the same, however the input goes on
 step-more : (e : Environment) (more : List ℕ) (ended : Bool) (s : State) → e.tape.ended ≡ false → (step e s ≡ Err NeedInput → ⊥) → step (grown more ended e) s ≡ step e s
 unfolding step
 step-more e more ended s unended wanted =
     ap (limited texts_fit) (carried_out-more e more ended (scan s) unended (λ short. wanted (ap (limited texts_fit) short)))
 
--- the same of a tape that has ended already, and then has nothing more
 pub step-whole : (e : Environment) (more : List ℕ) (s : State) → (e.tape.ended ≡ true → more ≡ []) → (step e s ≡ Err NeedInput → ⊥) → step (lengthened more e) s ≡ step e s
 step-whole e more s none wanted =
     ⊎_elim

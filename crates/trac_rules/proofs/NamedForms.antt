@@ -43,7 +43,6 @@ found_of_put forms name q form found there =
     inr (sym (cond-false (eq_by_cmp (slice_cmp nat_cmp) q name) (Some form) (finite.get forms q) t) ∙ is))
     (cases_Bool (eq_by_cmp (slice_cmp nat_cmp) q name))
 
--- what is found after a name was taken was there before
 pub found_of_taken : (forms : Forms) (name q : List ℕ) (found : Form) → finite.get (finite.remove forms name) q ≡ Some found → finite.get forms q ≡ Some found
 found_of_taken forms name q found there =
     let is : cond (eq_by_cmp (slice_cmp nat_cmp) q name) None (finite.get forms q) ≡ Some found = sym (finite.get-remove nat_list_cmp_total forms name q) ∙ there in
@@ -54,7 +53,6 @@ found_of_taken forms name q found there =
     sym (cond-false (eq_by_cmp (slice_cmp nat_cmp) q name) None (finite.get forms q) t) ∙ is)
     (cases_Bool (eq_by_cmp (slice_cmp nat_cmp) q name))
 
--- a form that takes the place of another leaves their number
 pub len-put_again : (forms : Forms) (name : List ℕ) (old new : Form) → finite.get forms name ≡ Some old → finite.len (finite.insert forms name new) ≡ finite.len forms
 len-put_again forms name old new there =
     finite.len-insert nat_list_cmp_total forms name new ∙ ap (λ (o : Option Form). cond (is_some o) (finite.len forms) (finite.len forms + 1)) there

@@ -29,7 +29,6 @@ longest_tail_passes passes (b ∷ bs) =
     (λ (f : passes (b ∷ bs) ≡ false). rw (longest_tail_rest passes b bs f) (longest_tail_passes passes bs))
     (cases_Bool (passes (b ∷ bs)))
 
--- a tail that passes is no longer
 pub longest_tail_longest : (passes : List ℕ → Bool) (front tail : List ℕ) → passes tail ≡ true → length tail ≤ length (longest_tail passes (front ++ tail))
 longest_tail_longest passes [] [] t = omega arith
 longest_tail_longest passes [] (b ∷ bs) t = rw (longest_tail_whole passes b bs t) (omega arith)

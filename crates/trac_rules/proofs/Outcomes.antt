@@ -27,7 +27,6 @@ limited_Ok fits (Ok u) t h =
     (cases_Bool (fits u))
 limited_Ok fits (Err refusal) t h = absurd (cc)
 
--- a refusal is for a limit, or stands already
 pub limited_Err : {T : Type 0} (fits : T → Bool) (x : Result T Refusal) (refusal : Refusal) → limited fits x ≡ Err refusal → (refusal ≡ TooLong) ⊎ (x ≡ Err refusal)
 limited_Err fits (Ok u) r h =
     ⊎_elim

@@ -8,7 +8,6 @@ use Rattle.std.proofs.Math.Seq.{get_or-append_right}
 use Rattle.std.proofs.lemmas.List.Sums.{position_or_len_is, fails_before_first}
 use Rattle.std.proofs.lemmas.List.Quantifiers.{position-Some}
 
--- a place that passes, none before it passing, is the first
 pub position_at : (p : ℕ → Bool) (xs : List ℕ) (k : ℕ) → k < length xs → p (get_or xs k 0) ≡ true → ((j : ℕ) → j < k → p (get_or xs j 0) ≡ false) → position p xs ≡ Some k
 position_at p xs k l is before =
     let e : position_or_len p xs ≡ k = position_or_len_is p xs k 0 (omega arith) before (λ _. is) in

@@ -51,7 +51,6 @@ not_below name (e ∷ es) below = go (slice_cmp nat_cmp name e.0) below (not_bel
 abbrev IsProperEntry : List ℕ × Form → Type 0
 IsProperEntry e = IsProperForm e.0 e.1
 
--- where each entry is proper, so is what is found
 of_entries : (es : List (List ℕ × Form)) (name : List ℕ) (form : Form) → All IsProperEntry es → find (slice_cmp nat_cmp) name es ≡ Some form → IsProperForm name form
 of_entries [] name form all there = absurd (cc)
 of_entries (e ∷ es) name form all there =
@@ -107,7 +106,6 @@ forms_decided forms =
 
 -- ---- names of a block
 
--- no name of a list is this one
 none_is : (name : List ℕ) (names : List (List ℕ)) → Decides (not (list_any (bytes_eq name) names)) (AllByRecursion (λ n. bytes_eq name n ≡ false) names)
 none_is name names =
     Decides-like (not (list_any (bytes_eq name) names)) (recursion_from_All (λ n. bytes_eq name n ≡ false) names)

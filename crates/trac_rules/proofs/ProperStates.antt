@@ -70,7 +70,6 @@ proper_of_judged name form forms proper wide judged =
     let parts = and_parts (form_fits name form) (nat_le (finite.len (finite.insert forms name form)) FORM_COUNT_LIMIT) judged in
     put_proper forms name form proper (record { fits = parts.0; wide = wide }) (leb-true (finite.len (finite.insert forms name form)) FORM_COUNT_LIMIT parts.1)
 
--- and one that leaves them proper may be put
 pub judged_of_proper : (name : List ℕ) (form : Form) (forms : Forms) → AreProperForms (finite.insert forms name form) → may_be_put name form forms ≡ true
 unfolding may_be_put
 judged_of_proper name form forms proper =
@@ -233,7 +232,6 @@ fetching_of_proper number storage proper = rw (le-leb (finite.len (fetched numbe
 
 -- ---- each primitive
 
--- reading
 read_proper : (at : Option ℕ) (text : List ℕ) (ended : Bool) (storage : Storage) → IsProperStorage storage → LeavesProper (read_up_to at text ended storage)
 read_proper (Some k) text ended storage proper = proper
 read_proper None text ended storage proper = rest text ended

@@ -171,7 +171,6 @@ performed_long e more call h l some =
     (effect_long (primitive_of (argument 0 call.arguments)) e more call.arguments call.state l some
     (seen_as-Err (printed_after line) (effect_of (primitive_of (argument 0 call.arguments)) e call.arguments call.state) NeedInput h))
 
--- a gathered text counts among the text bytes
 pub text_bytes-gathered_in : (frames : List Frame) (text : List ℕ) (s : State) → frames ≡ s.frames → length text ≤ text_bytes (gathered_in frames text s)
 text_bytes-gathered_in [] text s e = omega (arith, length-append s.base text)
 text_bytes-gathered_in (x ∷ xs) text s e = omega (arith, length-append x.gathered text)

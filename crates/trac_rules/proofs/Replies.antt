@@ -19,7 +19,6 @@ done_of_refused r p q h = let e : Refused r ≡ Done = ap (λ a. a.reply) h in c
 pub refused_alike : (r t : Refusal) (p q : PlainSession) → refused r p ≡ refused t q → (r ≡ t) × (q ≡ p)
 refused_alike r t p q h = let e : Refused r ≡ Refused t = ap (λ a. a.reply) h in (cc, sym (ap (λ a. a.session) h))
 
--- an accepted command is done
 pub accepted_by_Some : (reply : Reply) (session q : PlainSession) → accepted_by (record { reply = reply; session = session }) ≡ Some q → (reply ≡ Done) × (session ≡ q)
 accepted_by_Some Done s q h = (refl, cc)
 accepted_by_Some (Refused r) s q h = absurd (cc)
@@ -39,7 +38,6 @@ pub stepped_to_done : (x : Result State Refusal) (p q : PlainSession) → steppe
 stepped_to_done (Ok t) p q h = (t, refl, sym (ap (λ a. a.session) h))
 stepped_to_done (Err r) p q h = absurd (done_of_refused r p q h)
 
--- an outcome that was refused
 pub stepped_to_refused : (x : Result State Refusal) (p q : PlainSession) (refusal : Refusal) → stepped_to x p ≡ refused refusal q → (x ≡ Err refusal) × (q ≡ p)
 stepped_to_refused (Ok t) p q r h = absurd (done_of_refused r q (with_next p t) (sym h))
 stepped_to_refused (Err u) p q r h = let parts = refused_alike u r p q h in (ap Err parts.0, parts.1)
@@ -52,7 +50,6 @@ pub answer_Step_full : (p : PlainSession) → p.limit ≤ length p.earlier → a
 unfolding answer
 answer_Step_full p l = cond-false (ltb (length p.earlier) p.limit) (stepped_to (step (over p.width p.tape) p.last) p) (refused JournalFull p) (le-ltb (length p.earlier) p.limit l)
 
--- a step to a state is done
 pub answer_Step_Ok : (p : PlainSession) (t : State) → length p.earlier < p.limit → step (over p.width p.tape) p.last ≡ Ok t → answer Step p ≡ done (with_next p t)
 answer_Step_Ok p t l e = answer_Step p l ∙ ap (λ x. stepped_to x p) e
 
@@ -193,7 +190,6 @@ pub answer_Back_start : (p : PlainSession) → p.earlier ≡ [] → answer Back 
 unfolding answer
 answer_Back_start p e = ap (λ states. backed_to states p) e
 
--- a step back from any other state takes the last state away
 pub answer_Back_from : (p : PlainSession) (s : State) (earlier : List State) → p.earlier ≡ s ∷ earlier → answer Back p ≡ done (record p { earlier = earlier; last = s })
 unfolding answer
 answer_Back_from p s earlier e = ap (λ states. backed_to states p) e
@@ -209,7 +205,6 @@ Back_refused p q r h = backed_to_refused p.earlier p q r h
 
 -- ---- what no command changes
 
--- where two answers leave this width, the chosen one does
 pub either_width : (b : Bool) (x y : Answer) (width : Width) → x.session.width ≡ width → y.session.width ≡ width → (if b then x else y).session.width ≡ width
 either_width true x y width first second = first
 either_width false x y width first second = second

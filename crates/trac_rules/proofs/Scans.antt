@@ -17,7 +17,6 @@ ScanShows view s (Calls call) = view call.state ≡ view s
 abbrev pub IsAside : {T : Type 0} → (State → T) → Type 0
 IsAside view = (s : State) (active base : List ℕ) (frames : List Frame) → view (record s { active = active; base = base; frames = frames }) ≡ view s
 
--- a text is gathered unseen
 pub gathered_in_shows : {T : Type 0} (view : State → T) → IsAside view → (frames : List Frame) (text : List ℕ) (s : State) → view (gathered_in frames text s) ≡ view s
 gathered_in_shows view aside [] text s = aside s s.active (s.base ++ text) s.frames
 gathered_in_shows view aside (f ∷ fs) text s = aside s s.active s.base (record f { gathered = f.gathered ++ text } ∷ fs)

@@ -169,7 +169,6 @@ effect_within (HandleBlock action) e arguments s =
     looks_within (length (unread e.tape s)) (block_handled action arguments (storage_of s)) (block_handled_looks action arguments (storage_of s))
 effect_within Unknown e arguments s = omega arith
 
--- and so does a call
 traced_within : (n : ℕ) (line : List ℕ) (outcome : Result Effect Refusal) → ReadsWithin n outcome → ReadsWithin n (seen_as (printed_after line) outcome)
 traced_within n line (Ok e) within = within
 traced_within n line (Err refusal) within = tt
@@ -224,7 +223,6 @@ step_onward e s t h = (step_further e s t h).onward
 
 -- ---- the output
 
--- a change of the output alone is not noticed
 pub output_unnoticed : (texts : List ℕ → List ℕ) (e : Environment) (s : State) → ((x y : List ℕ) → texts (x ++ y) ≡ texts x ++ y) → GoesUnnoticed (λ p. p) texts e e s
 output_unnoticed texts e s printed = record { unread = refl; ended = refl; width = refl; moved = λ n. refl; printed = printed }
 
@@ -234,13 +232,11 @@ silent-changed s = ap (λ (o : List ℕ). record s { output = o }) (append-nil s
 pub silent_of_none : (s : State) → s.output ≡ [] → silent s ≡ s
 silent_of_none s none = ap (λ (o : List ℕ). record s { output = o }) (sym none)
 
--- what is carried out from a silent state, and then with its output
 pub carried_out-silent : (e : Environment) (s : State) → carried_out e (scan s) ≡ seen_as (changed (λ p. p) (λ o. s.output ++ o)) (carried_out e (scan (silent s)))
 carried_out-silent e s =
     ap (λ u. carried_out e (scan u)) (sym (silent-changed s))
     ∙ scanned_out-changed (λ p. p) (λ o. s.output ++ o) e e (silent s) (output_unnoticed (λ o. s.output ++ o) e (silent s) (λ x y. sym (append_assoc s.output x y)))
 
--- a step adds to the output what the step of the silent state prints
 pub step-silent_Ok : (e : Environment) (s t : State) → step e s ≡ Ok t → (u : State) × (step e (silent s) ≡ Ok u) × (t ≡ record u { output = s.output ++ u.output })
 unfolding step
 step-silent_Ok e s t h =
@@ -249,7 +245,6 @@ step-silent_Ok e s t h =
     let fits : texts_fit (changed (λ p. p) (λ o. s.output ++ o) at.0) ≡ true = rw (← at.2) out.1 in
     (at.0, ap (limited texts_fit) at.1 ∙ limited_within texts_fit at.0 (texts_fit_of_more s.output at.0 fits), at.2)
 
--- a refusal for anything but a limit is the silent state's too
 pub step-silent_Err : (e : Environment) (s : State) (refusal : Refusal) → step e s ≡ Err refusal → (refusal ≡ TooLong → ⊥) → step e (silent s) ≡ Err refusal
 unfolding step
 step-silent_Err e s r h other =

@@ -260,7 +260,6 @@ erased_back number name address storage live there =
       blocks = held_again storage.blocks number live i;
     } in Some before)
 
--- the block of an address is not erased
 addressed_is_live : (form : Form) (blocks : List Block) (number : ℕ) → number_addressed form blocks ≡ Some number → is_some (block_at number blocks) ≡ true
 addressed_is_live form blocks number found =
     let is = first_place_passes (is_address form blocks) (length blocks) number found in

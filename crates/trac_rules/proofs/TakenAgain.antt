@@ -20,7 +20,6 @@ use Rattle.trac_rules.proofs.Steps.{cut, step_onward}
 
 -- ---- steps over another tape
 
--- where each of these steps is the same over another tape
 same_steps : (e f : Environment) (earlier : List State) (t : State) → ((s u : State) → step e s ≡ Ok u → step f s ≡ Ok u) → AreSteps e earlier t → AreSteps f earlier t
 same_steps e f [] t same all = tt
 same_steps e f (s ∷ earlier) t same all = (same s t all.0, same_steps e f earlier s same all.1)
@@ -157,7 +156,6 @@ step_again p q trail h =
     subst (λ (r : PlainSession). answer Step r ≡ done p) (sym at.3)
     (answer_Step_Ok back p.last (omega (arith, ap length at.2, trail.within)) taken ∙ ap (λ (earlier : List State). done (record p { earlier = earlier })) (sym at.2))
 
--- one command, and then so many more
 pub repeated_after_one : (command : Command) (n : ℕ) (p q : PlainSession) → answer command p ≡ done q → repeated command (suc n) p ≡ repeated command n q
 repeated_after_one command zero p q h = ap accepted_by h
 repeated_after_one command (suc n) p q h = ap (option_and_then (λ (m : PlainSession). accepted_by (answer command m))) (repeated_after_one command n p q h)

@@ -101,7 +101,6 @@ Feed_waits p q bytes some none h fed =
     let still : answer Step (with_more p bytes) ≡ refused NeedInput (with_more p bytes) = answer_Step_Err (with_more p bytes) NeedInput (room_of_wanted p h) fed_step in
     rw (Feed_done bytes p q fed).0 still
 
--- a step of a session that waits goes on waiting after a commit
 pub Commit_waits : (p q : PlainSession) → 1 ≤ p.limit → answer Step p ≡ refused NeedInput p → answer (Commit 0) p ≡ done q → answer Step q ≡ refused NeedInput q
 Commit_waits p q some h committing =
     let k = p.last.position in
