@@ -41,12 +41,14 @@ code_of_two first second is_first told = code_by Bool coded_bool is_first (λ b.
 abbrev pub width_code : Coded Width
 width_code =
     code_of_two W64 W128 (λ width. elim width [ W64 ↦ true | W128 ↦ false ])
-    (λ width. elim width as (λ w. (if elim w [ W64 ↦ true | W128 ↦ false ] then W64 else W128) ≡ w) [ W64 ↦ refl | W128 ↦ refl ])
+    (λ width. elim width as (λ w. (if elim w [ W64 ↦ true | W128 ↦ false ] then W64 else W128) ≡ w)
+    [ W64 ↦ refl | W128 ↦ refl ])
 
 abbrev pub kind_code : Coded Kind
 kind_code =
     code_of_two Active Neutral (λ kind. elim kind [ Active ↦ true | Neutral ↦ false ])
-    (λ kind. elim kind as (λ k. (if elim k [ Active ↦ true | Neutral ↦ false ] then Active else Neutral) ≡ k) [ Active ↦ refl | Neutral ↦ refl ])
+    (λ kind. elim kind as (λ k. (if elim k [ Active ↦ true | Neutral ↦ false ] then Active else Neutral) ≡ k)
+    [ Active ↦ refl | Neutral ↦ refl ])
 
 abbrev pub text_code : Coded (List ℕ)
 text_code = coded_list coded_ℕ

@@ -14,8 +14,8 @@ use Rattle.trac_rules.specs.declared.width.Width.{Width}
 use Rattle.trac_rules.specs.declared.width.Width.TheVariants.{W64, W128}
 use Rattle.trac_rules.specs.Effect.{argument, forces, leaves}
 use Rattle.trac_rules.specs.Form.{Form, as_items, defined, pointed_at}
-use Rattle.trac_rules.specs.Number.{calculated, difference_of, number_of, numeral_of, prefix_of, product_of, quotient_of}
-use Rattle.trac_rules.specs.Number.{sum_of}
+use Rattle.trac_rules.specs.Number.{calculated, difference_of, number_of, numeral_of, prefix_of, product_of}
+use Rattle.trac_rules.specs.Number.{quotient_of, sum_of}
 use Rattle.trac_rules.specs.Octal.{bits_of, octal_tail, text_of}
 use Rattle.trac_rules.specs.Performing.{effect_of, primitive_of}
 use Rattle.trac_rules.specs.Running.{BudgetSpent, InputEnded, output_of}
@@ -58,8 +58,8 @@ Calculates operation width first second result =
 abbrev pub Refuses : (Width → ℤ → ℤ → Option ℤ) → Width → String → String → Type 0
 Refuses operation width first second = calculated operation width (codes first) (codes second) ≡ None
 
--- sums and differences at the ends of a range: from one below the greatest number to one past it, and from one above the
--- least number to one beyond it
+-- sums and differences at the ends of a range: from one below the greatest number to one past it, and from one above
+-- the least number to one beyond it
 abbrev pub SumsEnd : Width → String → String → String → String → String → String → Type 0
 SumsEnd width below greatest past above least beyond =
     Calculates sum_of width below "1" greatest × Refuses sum_of width greatest "1"
