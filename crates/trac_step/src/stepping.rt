@@ -11,7 +11,7 @@ ghost use Rattle.trac_rules.specs.Undone.{storage_before};
 ghost use Rattle.trac_rules.specs.Weights.{loss, weight};
 ghost use Rattle.trac_prims.specs.Tape.{environment_of};
 ghost use Rattle.trac_step.specs.Calling.{IsMove};
-ghost use Rattle.trac_step.specs.Kept.{IsAdded, IsKept};
+ghost use Rattle.trac_step.specs.Kept.{IsKept, IsStepped};
 ghost use Rattle.trac_step.specs.Record.{before, recorded_by};
 ghost use Rattle.trac_step.specs.Room.{HasRoom, IsNoLess, LacksRoomAhead};
 
@@ -108,21 +108,16 @@ impl<E: TwoEnds<u8, A>, M: TwoEnds<Mark, A>, A: Allocator + Copy> Core<E, M, A> 
         requires short { length tape.bytes.now < 2 ^ 32 }
         requires proper { IsProper self.old.state }
         requires not_full { length journal.old.records < JOURNAL_LIMIT }
-        ensures taken { OnOk result
-            (step (environment_of self.old.width tape.entry) self.old.state ≡ Ok self.new.state) }
-        ensures kept { OnOk result (IsAdded (record_of (environment_of self.old.width tape.entry) self.old.state)
-            journal.old.records journal.new.records) }
-        ensures refused { IfErr result (MayRefuse (step (environment_of self.old.width tape.entry) self.old.state)) }
-        ensures unchanged { OnErr result
-            ((self.new.state ≡ self.old.state) × (journal.new.records ≡ journal.old.records)) }
-        ensures lacking { IfErr result (λ e. e ≡ Refusal.Memory → 1 ≤ journal.old.places → LacksRoomAhead self.old) }
-        ensures room { IsNoLess self.old self.new }
+        ensures { IsStepped (environment_of self.old.width tape.entry) result self.old self.new journal.old journal.new }
     {
         let front = front_at(self.text.right());
         if self.performs(front) {
             return self.call_step_into(journal, tape, made);
         }
-        self.move_step_into(journal, front)
+        if !self.move_fits(front) {
+            return Err(Refusal::TooLong);
+        }
+        self.carry_out(journal, front)
     }
 
     // A machine shows a proper state, for which it has room. It does nothing: it is called for what it says.
