@@ -96,7 +96,8 @@ impl<E: TwoEnds<u8, A>, M: TwoEnds<Mark, A>, A: Allocator + Copy> Core<E, M, A> 
         self.next_step_into(journal, tape, made)
     }
 
-    // The next step, by whether it performs a function, with its record kept.
+    // Takes the next step and keeps its record, or changes nothing but rooms. A `)` inside a function performs that one.
+    // Whatever else the active text begins with has a rule of scanning, which only one mark too many can refuse.
     #[inline(always)]
     fn next_step_into(
         &mut self,
@@ -129,7 +130,7 @@ impl<E: TwoEnds<u8, A>, M: TwoEnds<Mark, A>, A: Allocator + Copy> Core<E, M, A> 
         self.store.knows_its_forms();
     }
 
-    // Whether the next step performs a function, where the active text has this front.
+    // Whether the next step performs a function, where the active text has this front: a `)` inside a function.
     fn performs(&self, front: Front) -> bool
         requires { front ≡ front_of self.now.state.active }
         ensures closing { IsTrue result → front_of self.now.state.active ≡ Front.Closing }
@@ -142,7 +143,7 @@ impl<E: TwoEnds<u8, A>, M: TwoEnds<Mark, A>, A: Allocator + Copy> Core<E, M, A> 
         !self.neutral().is_outside()
     }
 
-    // The next step, by whether it performs a function.
+    // The same, with the record returned.
     fn next_step(&mut self, tape: Tape<'_>) -> Result<Record<A>, Refusal>
         requires { self.old.state.position ≤ length tape.bytes.now }
         ensures taken { OnOk result
