@@ -9,10 +9,9 @@ use Rattle.trac_rules.specs.declared.scan.Front.{Front}
 use Rattle.trac_rules.specs.declared.scan.Front.TheVariants.{Comma, Sharp, Plain}
 use Rattle.trac_rules.specs.Limits.{marks, texts_fit}
 use Rattle.trac_rules.specs.Records as told
-use Rattle.trac_rules.specs.Records.{Deleted, Moved, Record, comma_recorded, record_of, recorded, recorded_at}
+use Rattle.trac_rules.specs.Records.{Deleted, Moved, Record, comma_recorded, recorded, recorded_at}
 use Rattle.trac_rules.specs.Scanning.{Moves, comma_in, deleted, front_of, gather_first, scan, scan_at}
 use Rattle.trac_rules.specs.State.{Environment, Frame, State}
-use Rattle.trac_rules.specs.Stepping.{step}
 use Rattle.trac_journal.specs.Journaled.{Journaled}
 use Rattle.trac_storage.proofs.Judged.{limits_kept}
 use Rattle.trac_storage.proofs.Outcomes.{refuses_memory}
@@ -21,7 +20,7 @@ use Rattle.trac_step.specs.Kept.{IsAdded, IsCarriedOut, IsStepped}
 use Rattle.trac_step.specs.Layout.{Shown}
 use Rattle.trac_step.specs.Room.{IsNoLess, LacksRoomAhead}
 use Rattle.trac_step.proofs.Moving.{of_moves}
-use Rattle.trac_step.proofs.Outcomes.{move_beyond, move_lacks, move_taken, taken_lacks}
+use Rattle.trac_step.proofs.Outcomes.{move_beyond, move_lacks, move_taken}
 use Rattle.trac_step.proofs.Recorded.{argument_marks, move_recorded, recorded_front}
 use Rattle.trac_step.proofs.Rooms.{no_less, no_less_state}
 use Rattle.trac_step.proofs.Scans.{scan_front}
@@ -135,29 +134,3 @@ not_stepped e m j moves beyond = record {
   lacking = λ is. absurd (cc);
   room = no_less m;
 }
-
--- ---- a call that is planned
-
--- it leads to this state, and its record is added
-pub called : {R : Type 0} (x : R) (e : Environment) (m n : Shown) (old new : Journaled) (t : State) (r : Record) → step e m.state ≡ Ok t → record_of e m.state ≡ Some r → n.state ≡ t →
-    new.records ≡ r ∷ old.records → IsNoLess m n → IsStepped e (Ok x) m n old new
-called x e m n old new t r taken recorded same added room = record {
-  taken = taken ∙ ap Ok (sym same);
-  kept = subst (λ (o : Option Record). IsAdded o old.records new.records) (sym recorded) added;
-  refused = tt;
-  unchanged = tt;
-  lacking = tt;
-  room = room;
-}
-
--- or memory is refused
-pub not_called : {R : Type 0} (r : Result R Refusal) (e : Environment) (m n : Shown) (old new : Journaled) (t : State) → r ≡ Err Memory → step e m.state ≡ Ok t → LacksRoomAhead m → n.state ≡ m.state →
-    new.records ≡ old.records → IsNoLess m n → IsStepped e r m n old new
-not_called r e m n old new t is taken lacks same records room = subst (λ r. IsStepped e r m n old new) (sym is) (record {
-  taken = tt;
-  kept = tt;
-  refused = taken_lacks (step e m.state) t taken;
-  unchanged = (same, records);
-  lacking = λ memory place. lacks;
-  room = room;
-})

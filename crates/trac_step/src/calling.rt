@@ -346,8 +346,36 @@ impl<E: TwoEnds<u8, A>, M: TwoEnds<Mark, A>, A: Allocator + Copy> Core<E, M, A> 
         Ok(())
     }
 
-    // The next step, where it performs a function, and its record is kept: it is judged, takes its memory, changes and
-    // records. Its texts are made in these buffers. The loop of a walk calls it, and has the steps of scanning in itself.
+    // Performs the call that is planned, and keeps its record. It is refused memory alone, and then
+    // the state and the records stay.
+    fn perform_into(
+        &mut self,
+        journal: &mut Journal<A>,
+        plan: &Plan,
+        made: &Made<A>,
+        change: &mut Change<A>,
+    ) -> Result<(), Refusal>
+        requires ready { IsReady self.old.state made.now plan.now change.old }
+        requires not_full { length journal.old.records < JOURNAL_LIMIT }
+        requires fits { FitsJournal plan.now.called (arguments_in (scan self.old.state))
+            (undone_of change.old (storage_of self.old.state)) }
+        ensures done { OnOk result (self.new.state ≡ state_after plan.now made.now change.old (scan self.old.state)) }
+        ensures kept { OnOk result
+            (journal.new.records ≡ recorded_after plan.now change.old self.old.state ∷ journal.old.records) }
+        ensures unchanged { OnErr result
+            ((self.new.state ≡ self.old.state) × (journal.new.records ≡ journal.old.records)) }
+        ensures err { IsOkUnless result Refusal.Memory }
+        ensures room { IsNoLess self.old self.new }
+    {
+        journal.reserve_call(plan.bytes, plan.commas)?;
+        self.make_room(made)?;
+        self.change_into(journal, plan, change)?;
+        self.end_call(plan, made);
+        Ok(())
+    }
+
+    // The next step, where it performs a function, and its record is kept. Its texts are made in these buffers. The
+    // loop of a walk calls it, and has the steps of scanning in itself.
     #[inline(never)]
     pub(crate) fn call_step_into(
         &mut self,
@@ -365,10 +393,6 @@ impl<E: TwoEnds<u8, A>, M: TwoEnds<Mark, A>, A: Allocator + Copy> Core<E, M, A> 
     {
         let mut change = Change::Keep;
         let plan = self.planned(tape, made, &mut change)?;
-        journal.reserve_call(plan.bytes, plan.commas)?;
-        self.make_room(made)?;
-        self.change_into(journal, &plan, &mut change)?;
-        self.end_call(&plan, made);
-        Ok(())
+        self.perform_into(journal, &plan, made, &mut change)
     }
 }
