@@ -5,15 +5,15 @@ use Rattle.std.specs.Ordering.{is_lt, nat_cmp}
 use Rattle.std.proofs.lemmas.Bool.{ltb-true}
 use Rattle.std.proofs.Common.{ltb-false}
 use Rattle.trac_forms.specs.Listed.{lesser_len}
-use Rattle.trac_forms.specs.Table.{full_keys, named}
+use Rattle.trac_forms.specs.Table.{full_keys}
 use Rattle.trac_forms.proofs.InOrder.{past_less}
 use Rattle.trac_forms.proofs.store.past_lesser.Goals as goal
 
 pub loop-other-preserved : goal.loop-other-preserved
 loop-other-preserved g c =
-    let passed = past_less (λ k. k) c.args.text c.args.name.now (c.in-Some.other.now, c.in-Some.held.now) c.next.new.self c.is_none.result c.is_none.ensures c.if-is_none.false
+    let passed = past_less c.args.text c.args.name.now (c.in-Some.other.now, c.in-Some.held.now) c.next.new.self c.is_none.result c.is_none.ensures c.if-is_none.false
     (ap (λ q. is_lt (slice_cmp nat_cmp q c.args.name.now)) (sym c.as_slice.ensures) ∙ sym c.is_less.ensures ∙ c.if-not-is_less.false) in
-    let steps = ap (λ es. lesser_len c.args.text c.args.name.now (full_keys (named (λ k. k) es))) c.in-Some.ensures.steps in
+    let steps = ap (λ es. lesser_len c.args.text c.args.name.now (full_keys es)) c.in-Some.ensures.steps in
     let len : c.len.result ≡ length c.in-Some.other.now = c.len.ensures in
     let again : c.len-in-loop-other.result ≡ c.len.result = c.len-in-loop-other.ensures ∙ sym c.len.ensures in
     let past = ltb-false c.loop-other.left (c.args.text + c.len.result) (sym c.is_within.ensures ∙ c.if-is_within.false) in
@@ -21,9 +21,9 @@ loop-other-preserved g c =
 
 pub returns-then-is_within : goal.returns-then-is_within
 returns-then-is_within g c =
-    let passed = past_less (λ k. k) c.args.text c.args.name.now (c.in-Some.other.now, c.in-Some.held.now) c.next.new.self c.is_none.result c.is_none.ensures c.if-is_none.false
+    let passed = past_less c.args.text c.args.name.now (c.in-Some.other.now, c.in-Some.held.now) c.next.new.self c.is_none.result c.is_none.ensures c.if-is_none.false
     (ap (λ q. is_lt (slice_cmp nat_cmp q c.args.name.now)) (sym c.as_slice.ensures) ∙ sym c.is_less.ensures ∙ c.if-not-is_less.false) in
-    let steps = ap (λ es. lesser_len c.args.text c.args.name.now (full_keys (named (λ k. k) es))) c.in-Some.ensures.steps in
+    let steps = ap (λ es. lesser_len c.args.text c.args.name.now (full_keys es)) c.in-Some.ensures.steps in
     let len : c.len.result ≡ length c.in-Some.other.now = c.len.ensures in
     let within = ltb-true c.loop-other.left (c.args.text + c.len.result) (sym c.is_within.ensures ∙ c.if-is_within.true) in
     omega (arith, c.loop-other.invariant, steps, passed, len, within)
