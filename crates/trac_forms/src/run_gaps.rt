@@ -38,33 +38,13 @@ pub(crate) fn cut_run<T: Texts, A: Allocator + Copy>(
         (segmented_from 1 (T.texts texts.now) (gapped run.now old.items))) }
     ensures err { IsOkUnless result FormError.Memory }
 {
-    let gaps = gaps_in_run(alloc, texts, run, old)?;
-    places_of(alloc, gaps.as_slice())
-}
-
-// The gaps with those that these texts make in turn.
-fn gaps_in_run<T: Texts, A: Allocator + Copy>(
-    alloc: A,
-    texts: &T,
-    run: &[u8],
-    old: Vec<RunGap, A>,
-) -> Result<Vec<RunGap, A>, FormError>
-    requires count { length (T.texts texts.now) ≤ MARK_LIMIT }
-    requires fits { length run.now ≤ FORM_LIMIT }
-    requires within { AreWithin (length run.now) old.items }
-    ensures cut { IfOk result (λ gaps.
-        gapped run.now gaps.items ≡ segmented_from 1 (T.texts texts.now) (gapped run.now old.items)) }
-    ensures old { IfOk result (λ gaps. earlier 0 gaps.items ≡ earlier 0 old.items) }
-    ensures within { IfOk result (λ gaps. AreWithin (length run.now) gaps.items) }
-    ensures err { IsOkUnless result FormError.Memory }
-{
     let mut gaps = old;
     let mut number = 0;
     for i in 0..texts.count() {
         number += 1;
         gaps = with_text(alloc, number, texts.get(i), run, gaps)?;
     }
-    Ok(gaps)
+    places_of(alloc, gaps.as_slice())
 }
 
 // The gaps with those of the text of this number; an empty text makes none.

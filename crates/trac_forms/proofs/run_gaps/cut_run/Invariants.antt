@@ -1,7 +1,7 @@
 use Rattle.std.proofs.Common.{◌≡◌, ◌+◌, drop, length}
 use Rattle.trac_rules.specs.Segmenting.{segmented_from}
 use Rattle.trac_forms.specs.RunGaps.{AreWithin, earlier, gapped}
-use Rattle.trac_forms.proofs.run_gaps.gaps_in_run.Given as goal
+use Rattle.trac_forms.proofs.run_gaps.cut_run.Given as goal
 
 abbrev pub invariant-loop-i : goal.invariant-loop-i
 invariant-loop-i g l = record {
