@@ -104,9 +104,6 @@ module _ (s : State) (call : Call) (is : scan s ≡ Calls call) where
       ∙ ap (λ (gs : List Frame). look (numbered n gs)) (sym at.2.frames) ∙ e
   found_without place x text e outside = absurd (cc)
 
-  pub form_without : (name : List ℕ) (i : ℕ) (x : Item) → found_at s (InForm name i) ≡ Some x → found_at call.state (InForm name i) ≡ Some x
-  form_without name i x e = ap (λ (u : State). found_at u (InForm name i)) (ended s call is).2.state ∙ e
-
   -- a place past the current text
   current_is : (fs : List Frame) → current_text fs call.state ≡ current_text fs s
   current_is [] = base_is
@@ -226,7 +223,3 @@ module _ (environment : Environment) (s t : State) (call : Call) (item : Item) (
 
   pub output_carried : (i : ℕ) → i < length s.output → origin environment s (InOutput i) ≡ Carried (InOutput i)
   output_carried i l = let byte = byte_there i s.output l in text_carried (InOutput i) byte.0 refl byte.1 tt
-
-  pub form_carried : (name : List ℕ) (i : ℕ) (x : Item) → may_put (primitive_of (argument 0 call.arguments)) (argument 1 call.arguments) name ≡ false →
-      found_at s (InForm name i) ≡ Some x → origin environment s (InForm name i) ≡ Carried (InForm name i)
-  form_carried name i x other stands = call_forms environment s t call name i x h is other (form_without s call is name i x stands)

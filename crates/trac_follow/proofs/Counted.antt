@@ -89,17 +89,6 @@ next_text texts i =
     let same : i + 1 ≡ suc i = omega arith in
     ap (λ n. total_length (take n texts)) same ∙ next_one texts i
 
--- past the last there are no more
-pub taken_within : (texts : List (List ℕ)) (k : ℕ) → total_length (take (min k (length texts)) texts) ≡ total_length (take k texts)
-taken_within texts k =
-    ⊎_elim
-    (λ (t : nat_lt (length texts) k ≡ true).
-    let past : length texts < k = ltb-true (length texts) k t in
-    ap (λ (few : List (List ℕ)). total_length few) (take_all (min k (length texts)) texts (omega (arith, past)) ∙ sym (take_all k texts (omega (arith, past)))))
-    (λ (t : nat_lt (length texts) k ≡ false).
-    ap (λ n. total_length (take n texts)) (omega (arith, ltb-false (length texts) k t)))
-    (cases_Bool (nat_lt (length texts) k))
-
 -- ---- a byte
 
 at_function : (fs : List Frame) (m n k i : ℕ) (base : List ℕ) (f : Frame) (rest : List Frame) → drop m fs ≡ f ∷ rest → length rest ≡ n →

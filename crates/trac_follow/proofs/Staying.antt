@@ -184,17 +184,6 @@ call_leaves s kind arguments is =
 
 -- ---- before a run
 
--- a byte of the active text stood so many further on
-pub active_before : (n : ℕ) (s : State) (i : ℕ) (item : Item) → n ≤ length s.active → found_at (moved_on n s) (InActive i) ≡ Some item → n + i < length s.active
-active_before n s i item within e =
-    omega (
-      arith,
-      within,
-      byte_within i (moved_on n s).active item e,
-      length-drop n s.active,
-      ap (λ (text : List ℕ). length text) (active-gathered s.frames (take n s.active) (deleted n s)),
-    )
-
 -- what is measured stays
 measured_or : (bytes : ℕ) (gap : Bool) (s : State) (past : Option ℕ) (p : Place) → IsMeasured bytes gap s p → IsMeasured bytes gap s (in_active past p)
 measured_or bytes gap s None p m = m

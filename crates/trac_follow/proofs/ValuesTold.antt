@@ -192,41 +192,20 @@ is_none_by found none e = absurd (cc)
 
 -- ---- what is printed
 
--- what may put a form
-pub record IsPutBy (p : Primitive) (put : code_put.Put) : Type 0 where
-  pub text : put ≡ code_put.TheVariants.Text → p ≡ Handle Define
-  pub cut : put ≡ code_put.TheVariants.Cut → p ≡ Handle Segment
-  pub fetched : put ≡ code_put.TheVariants.Fetched → p ≡ HandleBlock FetchBlock
-  pub address : put ≡ code_put.TheVariants.Address → p ≡ HandleBlock StoreBlock
-  pub nothing : put ≡ code_put.TheVariants.Nothing → (given name : List ℕ) → may_put p given name ≡ false
+-- what a primitive that may put this is
+abbrev pub IsFor : code_put.Put → Primitive → Type 0
+IsFor code_put.TheVariants.Text p = p ≡ Handle Define
+IsFor code_put.TheVariants.Cut p = p ≡ Handle Segment
+IsFor code_put.TheVariants.Fetched p = p ≡ HandleBlock FetchBlock
+IsFor code_put.TheVariants.Address p = p ≡ HandleBlock StoreBlock
+IsFor code_put.TheVariants.Nothing p = (given name : List ℕ) → may_put p given name ≡ false
 
-puts_none : (p : Primitive) → ((given name : List ℕ) → may_put p given name ≡ false) → IsPutBy p code_put.TheVariants.Nothing
-puts_none p none = record { text = λ e. absurd (cc); cut = λ e. absurd (cc); fetched = λ e. absurd (cc); address = λ e. absurd (cc); nothing = λ e. none }
-
-action_puts : (a : FormAction) → IsPutBy (Handle a) (put_by (Handle a))
-action_puts Define = record { text = λ e. refl; cut = λ e. absurd (cc); fetched = λ e. absurd (cc); address = λ e. absurd (cc); nothing = λ e. absurd (cc) }
-action_puts Segment = record { text = λ e. absurd (cc); cut = λ e. refl; fetched = λ e. absurd (cc); address = λ e. absurd (cc); nothing = λ e. absurd (cc) }
-action_puts Delete = puts_none (Handle Delete) (λ given name. refl)
-action_puts DeleteAll = puts_none (Handle DeleteAll) (λ given name. refl)
-action_puts Restore = puts_none (Handle Restore) (λ given name. refl)
-action_puts Calling = puts_none (Handle Calling) (λ given name. refl)
-action_puts (Reads reading) = puts_none (Handle (Reads reading)) (λ given name. refl)
-action_puts ListNames = puts_none (Handle ListNames) (λ given name. refl)
-action_puts PrintForm = puts_none (Handle PrintForm) (λ given name. refl)
-
-pub is_put_by : (p : Primitive) → IsPutBy p (put_by p)
-is_put_by PrintString = puts_none PrintString (λ given name. refl)
-is_put_by ReadString = puts_none ReadString (λ given name. refl)
-is_put_by ReadByte = puts_none ReadByte (λ given name. refl)
-is_put_by Halt = puts_none Halt (λ given name. refl)
-is_put_by SetMeta = puts_none SetMeta (λ given name. refl)
-is_put_by (SetTrace trace) = puts_none (SetTrace trace) (λ given name. refl)
-is_put_by (Compute computation) = puts_none (Compute computation) (λ given name. refl)
-is_put_by (Handle a) = action_puts a
-is_put_by (HandleBlock StoreBlock) = record { text = λ e. absurd (cc); cut = λ e. absurd (cc); fetched = λ e. absurd (cc); address = λ e. refl; nothing = λ e. absurd (cc) }
-is_put_by (HandleBlock FetchBlock) = record { text = λ e. absurd (cc); cut = λ e. absurd (cc); fetched = λ e. refl; address = λ e. absurd (cc); nothing = λ e. absurd (cc) }
-is_put_by (HandleBlock EraseBlock) = puts_none (HandleBlock EraseBlock) (λ given name. refl)
-is_put_by Unknown = puts_none Unknown (λ given name. refl)
+pub is_put_by : (p : Primitive) → IsFor (put_by p) p
+is_put_by (Handle Define) = refl
+is_put_by (Handle Segment) = refl
+is_put_by (HandleBlock FetchBlock) = refl
+is_put_by (HandleBlock StoreBlock) = refl
+is_put_by other = λ given name. refl
 
 -- what prints and is not `ps` is `pf`
 pub prints_form : (p : Primitive) → is_silent p ≡ false → (p ≡ PrintString → ⊥) → p ≡ Handle PrintForm

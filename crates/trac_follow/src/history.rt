@@ -3,15 +3,15 @@ ghost use Rattle.std.specs.Prelude.{◌≡◌, ◌+◌, ◌^◌, ◌<◌, ◌≤
 ghost use Rattle.trac_follow.specs.Following.{IsFollowed, IsKnown};
 ghost use Rattle.trac_follow.specs.Items.{IsMeasured};
 ghost use Rattle.trac_follow.specs.Offsets.{IsPlaced};
-ghost use Rattle.trac_follow.specs.Places.{Stands, calls, is_in_form, is_passed, place_of};
-ghost use Rattle.trac_follow.specs.Running.{HasTurned};
+ghost use Rattle.trac_follow.specs.Places.{IsTakenOut, Stands, calls, is_in_form, is_passed, place_of};
+ghost use Rattle.trac_follow.specs.Running.{HasTurned, IsTurn};
 ghost use Rattle.trac_origins.specs.Places.{InForm};
 ghost use Rattle.trac_rules.specs.Scanning.{scan};
 ghost use Rattle.trac_rules.specs.Session.{Back, repeated};
 
 use crate::items::item_measured;
 use crate::offset::{argument_offset, is_innermost};
-use crate::origin::told_of;
+use crate::origin::origin_of;
 use crate::place::{After, Origin, Place};
 use crate::running::{before_in_active, before_run, stays};
 use crate::standing::stands;
@@ -158,7 +158,19 @@ fn turned<'a, E: TwoEnds<u8, A>, M: TwoEnds<Mark, A>, A: Allocator + Copy>(
 ) -> Turn<'a>
     ensures { HasTurned before.now.state width after here.entry result }
 {
-    match told_of(before, width, after, here) {
+    turn_of(before, here, origin_of(before, width, after, here))
+}
+
+// The same, by where it comes from.
+fn turn_of<'a, E: TwoEnds<u8, A>, M: TwoEnds<Mark, A>, A: Allocator + Copy>(
+    before: &Core<E, M, A>,
+    here: Place<'a>,
+    origin: Origin<'a>,
+) -> Turn<'a>
+    requires { IsTakenOut (place_of here) origin }
+    ensures { IsTurn before.now.state here.entry origin.entry result }
+{
+    match origin {
         Origin::Carried(there) => {
             if is_passed(before, here, there) {
                 return Turn::Found(Source::Passed(there));

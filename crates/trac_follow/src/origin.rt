@@ -7,7 +7,6 @@ use crate::place::{After, Origin, Place};
 use std::alloc::Allocator;
 use trac_gap::TwoEnds;
 use trac_rules::width::Width;
-use trac_session::Machine;
 use trac_step::{Core, Mark};
 
 /// Where what stands at a place comes from after the next step of a machine, whose numbers are of this width, if
@@ -16,20 +15,7 @@ use trac_step::{Core, Mark};
 /// counts so many. It takes no memory; and time for the begun functions, for the arguments of the call, for the
 /// form that is named, where the call fetches a block for each block and the forms of that one, and where it lists
 /// names for each of them with each.
-pub fn origin_of<'a, A: Allocator + Copy>(
-    before: &Machine<A>,
-    width: Width,
-    after: After,
-    place: Place<'a>,
-) -> Origin<'a>
-    ensures tells { TellsOf before.now.state width after (place_of place.entry) result }
-    ensures taken { IsTakenOut (place_of place.entry) result }
-{
-    told_of(before, width, after, place)
-}
-
-// The same, of a machine that keeps its texts in any way.
-pub(crate) fn told_of<'a, E: TwoEnds<u8, A>, M: TwoEnds<Mark, A>, A: Allocator + Copy>(
+pub fn origin_of<'a, E: TwoEnds<u8, A>, M: TwoEnds<Mark, A>, A: Allocator + Copy>(
     before: &Core<E, M, A>,
     width: Width,
     after: After,

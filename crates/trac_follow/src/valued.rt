@@ -71,30 +71,9 @@ fn handled_byte<'a, E: TwoEnds<u8, A>, M: TwoEnds<Mark, A>, A: Allocator + Copy>
     ensures tells { TellsValue before.now.state width seen i result }
     ensures taken { is_from_form result ≡ false }
 {
-    match action {
-        FormAction::ListNames => listed_byte(before, arguments.get(1).len(), function, i),
-        _ => formed_byte(before, action, kind, arguments, function, width, seen, i),
+    if let FormAction::ListNames = action {
+        return listed_byte(before, arguments.get(1).len(), function, i);
     }
-}
-
-// Of a call on the form that argument 1 names.
-fn formed_byte<'a, E: TwoEnds<u8, A>, M: TwoEnds<Mark, A>, A: Allocator + Copy>(
-    before: &Core<E, M, A>,
-    action: FormAction,
-    kind: Kind,
-    arguments: &Args<'_>,
-    function: usize,
-    width: Width,
-    seen: Option<usize>,
-    i: usize,
-) -> Origin<'a>
-    requires call { IsCall (next_call before.now.state) kind arguments.now }
-    requires named { primitive_of (argument 0 arguments.now) ≡ Handle action }
-    requires other { action ≡ ListNames → ⊥ }
-    requires number { function + 1 ≡ length before.now.state.frames }
-    ensures tells { TellsValue before.now.state width seen i result }
-    ensures taken { is_from_form result ≡ false }
-{
     let Some(form) = before.store().get(arguments.get(1)) else {
         return Origin::Nothing;
     };

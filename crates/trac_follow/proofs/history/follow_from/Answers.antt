@@ -6,9 +6,10 @@ use Rattle.trac_follow.specs.Following.{IsKnown}
 use Rattle.trac_follow.specs.Offsets.{IsPlaced}
 use Rattle.trac_follow.specs.Places.{Stands, place_of}
 use Rattle.trac_follow.proofs.RunsBack.{before_by, run_on, run_placed, same_session}
-use Rattle.trac_follow.proofs.StepsBack.{begins, GoesBack, has_told, no_way_back, none_by_test, seen_lengths, some_by_test, step_to, stops, turned_end, turned_on, walked_on, went_back}
+use Rattle.trac_follow.proofs.StepsBack.{begins, GoesBack, HasTold, has_told, no_way_back, none_by_test, seen_lengths, some_by_test, step_to, stops, turned_end, turned_on, walked_on, went_back}
+use Rattle.trac_follow.proofs.history.follow_from.Given.{Over}
 use Rattle.trac_follow.proofs.history.follow_from.Goals as goal
-use Rattle.trac_follow.proofs.history.follow_from.Goals.{else-loop-steps-test, then-loop-steps-test+else-count-gt0+then-is_some}
+use Rattle.trac_follow.proofs.history.follow_from.Goals.{After-back, After-turned, else-loop-steps-test, then-loop-steps-test+else-count-gt0+then-is_some}
 
 pub loop-steps-init : goal.loop-steps-init
 loop-steps-init g c = (
@@ -37,13 +38,33 @@ loop-steps-preserved-then-count-gt0 g c =
           c.loop-steps.invariant.2 at,
     )
 
+-- what is known before the step back
+came : (g : Over) (c : After-back g) → GoesBack c.args.width c.args.session.now c.pass_back-count.new.self (place_of c.args.place) (place_of c.loop-steps.here) c.loop-steps.steps
+    × (IsKnown c.args.width c.args.session.now (place_of c.args.place) → IsPlaced c.loop-steps.measure.0 c.loop-steps.measure.1 c.pass_back-count.new.self.last (place_of c.loop-steps.here))
+came g c =
+    let same = same_session c.pass_back-count.result c.loop-steps.session c.pass_back-count.new.self c.pass_back-count.ensures.passed c.if-count-gt0.false in (
+      subst (λ (p : PlainSession). GoesBack c.args.width c.args.session.now p (place_of c.args.place) (place_of c.loop-steps.here) c.loop-steps.steps) same c.loop-steps.invariant.1,
+      subst (λ (p : PlainSession). IsKnown c.args.width c.args.session.now (place_of c.args.place) → IsPlaced c.loop-steps.measure.0 c.loop-steps.measure.1 p.last (place_of c.loop-steps.here)) same c.loop-steps.invariant.2,
+    )
+
+-- and what is told of it
+told : (g : Over) (c : After-turned g) → HasTold c.args.width c.args.session.now c.pass_back-count.new.self c.back.new.self (place_of c.args.place) (place_of c.loop-steps.here) c.loop-steps.steps c.turned.ensures.0
+told g c =
+    let known = came g (goal.at.After-turned g c).After-back in
+    has_told c.args.session.now c.pass_back-count.new.self c.back.new.self (place_of c.args.place) (place_of c.loop-steps.here) c.loop-steps.steps c.back.result.done c.back.result.why
+    c.is_some.result c.args.width c.seen_after-after.result c.machine-in-loop-steps.result.now.state c.machine-in-loop-steps-4.result.now.state c.turned.ensures.0
+    known.0 c.back.ensures c.is_some.ensures c.if-is_some.false c.machine-in-loop-steps.ensures.last
+    (λ trail.
+    seen_lengths c.seen_after-after.result c.machine-in-loop-steps.result.now.state c.pass_back-count.new.self (place_of c.loop-steps.here) c.loop-steps.measure.0 c.loop-steps.measure.1
+    c.seen_after-after.ensures.active c.seen_after-after.ensures.output c.seen_after-after.ensures.extent c.seen_after-after.ensures.gap c.seen_after-after.ensures.read c.machine-in-loop-steps.ensures.last (known.1 trail))
+    c.machine-in-loop-steps-4.ensures.last c.turned.ensures.1
+
 pub loop-steps-preserved-in-Some : goal.loop-steps-preserved-in-Some
 loop-steps-preserved-in-Some g c =
-    let same = same_session c.pass_back-count.result c.loop-steps.session c.pass_back-count.new.self c.pass_back-count.ensures.passed c.if-count-gt0.false in
-    let goes = subst (λ (p : PlainSession). GoesBack c.args.width c.args.session.now p (place_of c.args.place) (place_of c.loop-steps.here) c.loop-steps.steps) same c.loop-steps.invariant.1 in
+    let known = came g (goal.at.loop-steps-preserved-in-Some g c).After-back in
     let left = c.seen_after-after.ensures.active ∙ ap (λ (s : State). length s.active) c.machine-in-loop-steps.ensures.last in
     let on = step_to c.args.width c.args.session.now c.pass_back-count.new.self c.back.new.self (place_of c.args.place) (place_of c.loop-steps.here) (place_of c.in-Some.there) c.loop-steps.steps
-    c.back.result.done c.back.result.why c.is_some.result c.machine-in-loop-steps-2.result.now.state c.loop-steps.measure.0 c.loop-steps.measure.1 goes
+    c.back.result.done c.back.result.why c.is_some.result c.machine-in-loop-steps-2.result.now.state c.loop-steps.measure.0 c.loop-steps.measure.1 known.0
     c.back.ensures c.is_some.ensures c.if-is_some.false c.machine-in-loop-steps-2.ensures.last
     (λ trail item h stands.
     let came = c.in-Some.ensures (over c.args.session.now.width c.args.session.now.tape) c.pass_back-count.new.self.last item h left stands in
@@ -52,27 +73,16 @@ loop-steps-preserved-in-Some g c =
 
 pub loop-steps-preserved-then-stays : goal.loop-steps-preserved-then-stays
 loop-steps-preserved-then-stays g c =
-    let same = same_session c.pass_back-count.result c.loop-steps.session c.pass_back-count.new.self c.pass_back-count.ensures.passed c.if-count-gt0.false in
-    let goes = subst (λ (p : PlainSession). GoesBack c.args.width c.args.session.now p (place_of c.args.place) (place_of c.loop-steps.here) c.loop-steps.steps) same c.loop-steps.invariant.1 in
-    let placed = subst (λ (p : PlainSession). IsKnown c.args.width c.args.session.now (place_of c.args.place) → IsPlaced c.loop-steps.measure.0 c.loop-steps.measure.1 p.last (place_of c.loop-steps.here)) same c.loop-steps.invariant.2 in
+    let known = came g (goal.at.loop-steps-preserved-then-stays g c).After-back in
     let on = step_to c.args.width c.args.session.now c.pass_back-count.new.self c.back.new.self (place_of c.args.place) (place_of c.loop-steps.here) (place_of c.loop-steps.here) c.loop-steps.steps
-    c.back.result.done c.back.result.why c.is_some.result c.machine-in-loop-steps-3.result.now.state c.loop-steps.measure.0 c.loop-steps.measure.1 goes
+    c.back.result.done c.back.result.why c.is_some.result c.machine-in-loop-steps-3.result.now.state c.loop-steps.measure.0 c.loop-steps.measure.1 known.0
     c.back.ensures c.is_some.ensures c.if-is_some.false c.machine-in-loop-steps-3.ensures.last
-    (λ trail item h stands. c.stays.ensures c.if-stays.true (over c.args.session.now.width c.args.session.now.tape) c.pass_back-count.new.self.last item h stands (placed trail)) in
+    (λ trail item h stands. c.stays.ensures c.if-stays.true (over c.args.session.now.width c.args.session.now.tape) c.pass_back-count.new.self.last item h stands (known.1 trail)) in
     (omega (arith, c.loop-steps-test.true), on.0, on.1)
 
 pub loop-steps-preserved : goal.loop-steps-preserved
 loop-steps-preserved g c =
-    let same = same_session c.pass_back-count.result c.loop-steps.session c.pass_back-count.new.self c.pass_back-count.ensures.passed c.if-count-gt0.false in
-    let goes = subst (λ (p : PlainSession). GoesBack c.args.width c.args.session.now p (place_of c.args.place) (place_of c.loop-steps.here) c.loop-steps.steps) same c.loop-steps.invariant.1 in
-    let placed = subst (λ (p : PlainSession). IsKnown c.args.width c.args.session.now (place_of c.args.place) → IsPlaced c.loop-steps.measure.0 c.loop-steps.measure.1 p.last (place_of c.loop-steps.here)) same c.loop-steps.invariant.2 in
-    let has = (has_told c.args.session.now c.pass_back-count.new.self c.back.new.self (place_of c.args.place) (place_of c.loop-steps.here) c.loop-steps.steps c.back.result.done c.back.result.why
-    c.is_some.result c.args.width c.seen_after-after.result c.machine-in-loop-steps.result.now.state c.machine-in-loop-steps-4.result.now.state c.turned.ensures.0
-    goes c.back.ensures c.is_some.ensures c.if-is_some.false c.machine-in-loop-steps.ensures.last
-    (λ trail.
-    seen_lengths c.seen_after-after.result c.machine-in-loop-steps.result.now.state c.pass_back-count.new.self (place_of c.loop-steps.here) c.loop-steps.measure.0 c.loop-steps.measure.1
-    c.seen_after-after.ensures.active c.seen_after-after.ensures.output c.seen_after-after.ensures.extent c.seen_after-after.ensures.gap c.seen_after-after.ensures.read c.machine-in-loop-steps.ensures.last (placed trail))
-    c.machine-in-loop-steps-4.ensures.last c.turned.ensures.1) in
+    let has = told g (goal.at.loop-steps-preserved g c).After-turned in
     let on = turned_on c.args.session.now c.pass_back-count.new.self c.back.new.self (place_of c.args.place) (place_of c.loop-steps.here) c.loop-steps.steps c.turned.ensures.0 c.args.width has
     c.machine-in-loop-steps-4.result.now.state c.loop-steps.here c.turned.result c.in-On.there c.machine-in-loop-steps-4.ensures.last refl c.turned.ensures.2 c.in-On.is in (
       omega (arith, c.loop-steps-test.true),
@@ -84,16 +94,7 @@ loop-steps-preserved g c =
 
 pub returns-in-Found-clause-followed : goal.returns-in-Found-clause-followed
 returns-in-Found-clause-followed g c = λ known.
-    let same = same_session c.pass_back-count.result c.loop-steps.session c.pass_back-count.new.self c.pass_back-count.ensures.passed c.if-count-gt0.false in
-    let goes = subst (λ (p : PlainSession). GoesBack c.args.width c.args.session.now p (place_of c.args.place) (place_of c.loop-steps.here) c.loop-steps.steps) same c.loop-steps.invariant.1 in
-    let placed = subst (λ (p : PlainSession). IsKnown c.args.width c.args.session.now (place_of c.args.place) → IsPlaced c.loop-steps.measure.0 c.loop-steps.measure.1 p.last (place_of c.loop-steps.here)) same c.loop-steps.invariant.2 in
-    let has = (has_told c.args.session.now c.pass_back-count.new.self c.back.new.self (place_of c.args.place) (place_of c.loop-steps.here) c.loop-steps.steps c.back.result.done c.back.result.why
-    c.is_some.result c.args.width c.seen_after-after.result c.machine-in-loop-steps.result.now.state c.machine-in-loop-steps-4.result.now.state c.turned.ensures.0
-    goes c.back.ensures c.is_some.ensures c.if-is_some.false c.machine-in-loop-steps.ensures.last
-    (λ trail.
-    seen_lengths c.seen_after-after.result c.machine-in-loop-steps.result.now.state c.pass_back-count.new.self (place_of c.loop-steps.here) c.loop-steps.measure.0 c.loop-steps.measure.1
-    c.seen_after-after.ensures.active c.seen_after-after.ensures.output c.seen_after-after.ensures.extent c.seen_after-after.ensures.gap c.seen_after-after.ensures.read c.machine-in-loop-steps.ensures.last (placed trail))
-    c.machine-in-loop-steps-4.ensures.last c.turned.ensures.1) in
+    let has = told g (goal.at.returns-in-Found-clause-followed g c).After-turned in
     turned_end c.args.session.now c.pass_back-count.new.self c.back.new.self (place_of c.args.place) (place_of c.loop-steps.here) c.loop-steps.steps c.turned.ensures.0 c.args.width has
     c.machine-in-loop-steps-4.result.now.state c.args.most c.loop-steps.here c.turned.result c.in-Found.source c.found.result c.machine-in-loop-steps-4.ensures.last refl c.turned.ensures.2 c.in-Found.is
     c.found.ensures.steps c.found.ensures.source known
@@ -115,8 +116,7 @@ returns-clause-followed g c = λ known.
 
 pub returns-in-Found-clause-back : goal.returns-in-Found-clause-back
 returns-in-Found-clause-back g c =
-    let same = same_session c.pass_back-count.result c.loop-steps.session c.pass_back-count.new.self c.pass_back-count.ensures.passed c.if-count-gt0.false in
-    let goes = subst (λ (p : PlainSession). GoesBack c.args.width c.args.session.now p (place_of c.args.place) (place_of c.loop-steps.here) c.loop-steps.steps) same c.loop-steps.invariant.1 in
+    let known = came g (goal.at.returns-in-Found-clause-back g c).After-back in
     let went = went_back c.pass_back-count.new.self c.back.new.self c.back.result.done c.back.result.why c.back.ensures (none_by_test c.back.result.why c.is_some.result c.is_some.ensures c.if-is_some.false) in
     ap (λ n. repeated Back n c.args.session.now) c.found.ensures.steps
-    ∙ walked_on c.args.width c.args.session.now c.pass_back-count.new.self c.back.new.self (place_of c.args.place) (place_of c.loop-steps.here) c.loop-steps.steps goes went
+    ∙ walked_on c.args.width c.args.session.now c.pass_back-count.new.self c.back.new.self (place_of c.args.place) (place_of c.loop-steps.here) c.loop-steps.steps known.0 went

@@ -4,21 +4,13 @@ use Rattle.trac_follow.proofs.running.bytes_left.Goals as goal
 
 pub overflow_sub-result : goal.overflow_sub-result
 overflow_sub-result g c =
-    omega (
-      arith,
-      call_leaves c.args.before.now.state c.in-Some.field-0-0 c.in-Some.arguments c.in-Some.ensures,
-      c.neutral_len.ensures,
-      ap (λ text. length text) c.joined.ensures,
-    )
+    let left = call_leaves c.args.before.now.state c.in-Some.field-0-0 c.in-Some.arguments c.in-Some.ensures in
+    omega (arith, left, c.neutral_len.ensures, ap (λ text. length text) c.joined.ensures)
 
 pub returns-in-Some : goal.returns-in-Some
 returns-in-Some g c =
-    omega (
-      arith,
-      call_leaves c.args.before.now.state c.in-Some.field-0-0 c.in-Some.arguments c.in-Some.ensures,
-      c.neutral_len.ensures,
-      ap (λ text. length text) c.joined.ensures,
-    )
+    let left = call_leaves c.args.before.now.state c.in-Some.field-0-0 c.in-Some.arguments c.in-Some.ensures in
+    omega (arith, left, c.neutral_len.ensures, ap (λ text. length text) c.joined.ensures)
 
 pub returns-in-None : goal.returns-in-None
 returns-in-None g c = c.neutral_len-in-None.ensures ∙ sym (all_left c.args.before.now.state c.in-None.ensures)

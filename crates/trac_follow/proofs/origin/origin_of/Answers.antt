@@ -1,5 +1,5 @@
 use Rattle.trac_follow.proofs.CallsTold.{moves_done}
-use Rattle.trac_follow.proofs.origin.told_of.Goals as goal
+use Rattle.trac_follow.proofs.origin.origin_of.Goals as goal
 
 pub returns-in-None-clause-tells : goal.returns-in-None-clause-tells
 returns-in-None-clause-tells g c = λ environment t item wide h lengths stands.
