@@ -10,17 +10,16 @@ use Rattle.trac_rules.specs.declared.width.Width.{Width}
 use Rattle.trac_rules.specs.Effect.{Effect, argument}
 use Rattle.trac_rules.specs.Goals.{IsCall, call_asked, next_call}
 use Rattle.trac_rules.specs.Limits.{texts_fit}
-use Rattle.trac_rules.specs.Performing.{after_call, changed_by, performed, placed, primitive_of}
+use Rattle.trac_rules.specs.Performing.{after_call, changed_by, performed, placed}
 use Rattle.trac_rules.specs.Scanning.{Call, Scanned, Moves, Calls, scan}
 use Rattle.trac_rules.specs.State.{Environment, Frame, State}
 use Rattle.trac_rules.specs.Stepping.{carried_out, step}
 use Rattle.trac_rules.proofs.Outcomes.{limited_Ok, seen_as-Ok}
 use Rattle.trac_rules.proofs.Scans.{gathered_in_shows}
-use Rattle.trac_origins.specs.Lengths.{current_text, in_current, is_of_text, may_put, value_at}
-use Rattle.trac_origins.specs.Places.{Place, InActive, InBase, InArgument, InForm, InOutput, Carried, arguments_of, byte_at, found_at, numbered}
+use Rattle.trac_origins.specs.Lengths.{current_text, in_current, is_of_text, value_at}
+use Rattle.trac_origins.specs.Places.{Place, InActive, InBase, InArgument, InOutput, Carried, arguments_of, byte_at, found_at, numbered}
 use Rattle.trac_origins.specs.Stepping.{origin}
 use Rattle.trac_origins.proofs.ToldCalls.{call_rest, call_stays, ended}
-use Rattle.trac_origins.proofs.ToldForms.{call_forms}
 use Rattle.trac_rules.proofs.MovedOn.{active-gathered}
 use Rattle.trac_origins.proofs.ToldSteps.{length-current, within_current, within_gathered}
 use Rattle.trac_follow.specs.declared.place.Origin as code_origin

@@ -1,10 +1,9 @@
 -- What a step leaves as it is, and where what stands after a run of bytes stood before it, as the code tells them.
-use Rattle.std.proofs.Common.{◌≡◌, ◌⊎◌, ℕ, ◌+◌, ◌-◌, ◌<◌, ◌≤◌, Bool, true, false, not, List, length, take, drop, inl, inr, refl, sym, ap, subst, ◌∙◌, ⊎_elim, arith}
+use Rattle.std.proofs.Common.{◌≡◌, ◌⊎◌, ℕ, ◌+◌, ◌-◌, ◌<◌, Bool, true, false, not, List, length, take, drop, inl, inr, refl, sym, ap, subst, ◌∙◌, ⊎_elim, arith}
 use Rattle.std.specs.Prelude.{Option, None, Some, Ok, if◌then◌else◌, nat_lt, slice_get}
 use Rattle.std.specs.FinMap as finite
 use Rattle.std.specs.List.{concat}
 use Rattle.std.proofs.lemmas.Bool.{cond-true, cond-false, lt-ltb}
-use Rattle.std.proofs.lemmas.List.{length-drop}
 use Rattle.trac_rules.specs.declared.item.Item.{Item}
 use Rattle.trac_rules.specs.declared.kind.Kind.{Kind}
 use Rattle.trac_rules.specs.Effect.{argument}
@@ -25,7 +24,6 @@ use Rattle.trac_origins.specs.Stepping.{origin}
 use Rattle.trac_origins.proofs.Moved.{not_less, past_place, stood}
 use Rattle.trac_origins.proofs.Told.{byte_within}
 use Rattle.trac_origins.proofs.ToldCalls.{ended}
-use Rattle.trac_rules.proofs.MovedOn.{active-gathered}
 use Rattle.trac_origins.proofs.Unchanged.{Unchanged, calls_held, calls_unchanged, moves_held, moves_unchanged}
 use Rattle.trac_text.proofs.NeutralAgain.{function_bytes}
 use Rattle.trac_follow.specs.Items.{IsMeasured}

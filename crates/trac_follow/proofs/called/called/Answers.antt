@@ -10,9 +10,5 @@ pub returns-in-Held-clause-tells : goal.returns-in-Held-clause-tells
 returns-in-Held-clause-tells g c =
     subst (λ p. TellsOf c.args.before.now.state c.args.width c.args.after (place_of p) c.of_block.result) (sym c.in-Held.is) (c.of_block.ensures.tells c.args.width c.args.after)
 
-pub returns-in-Output-clause-tells : goal.returns-in-Output-clause-tells
-returns-in-Output-clause-tells g c =
-    subst (λ p. TellsOf c.args.before.now.state c.args.width c.args.after (place_of p) c.of_output.result) (sym c.in-Output.is) (c.of_output.ensures.tells c.args.width)
-
 pub returns-in-Base-clause-tells : goal.returns-in-Base-clause-tells
 returns-in-Base-clause-tells g c = c.of_text.ensures.tells c.args.after

@@ -24,8 +24,3 @@ returns-in-ReadCount-clause-tells g c =
     subst (λ (r : FormReading). TellsOfForm (Handle (Read r)) c.args.form.now c.args.arguments.now c.args.function c.args.width c.args.seen c.args.i c.piece_byte-in-ReadCount.result) (sym c.in-ReadCount.is)
     (reading_tells ReadCount c.args.form.now c.args.arguments.now c.args.function c.args.width c.args.seen c.args.i c.counted.result 3 c.piece_byte-in-ReadCount.result
     c.counted.ensures.read c.counted.ensures.there refl c.piece_byte-in-ReadCount.ensures.tells)
-
-pub returns-in-ReadUntil-clause-tells : goal.returns-in-ReadUntil-clause-tells
-returns-in-ReadUntil-clause-tells g c =
-    subst (λ (r : FormReading). TellsOfForm (Handle (Read r)) c.args.form.now c.args.arguments.now c.args.function c.args.width c.args.seen c.args.i c.until_byte.result) (sym c.in-ReadUntil.is)
-    (c.until_byte.ensures.tells c.args.arguments.now c.args.width (sym c.get.ensures))

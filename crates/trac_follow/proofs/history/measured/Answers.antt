@@ -12,10 +12,6 @@ returns-in-Form g c = λ stands.
     subst (λ p. IsPlaced c.measured_in.result.0 c.measured_in.result.1 s (place_of p)) (sym c.in-Form.is)
     (aside c.measured_in.result.0 c.measured_in.result.1 s (place_of (code_place.TheVariants.Form c.in-Form.name c.in-Form.i)) refl c.measured_in.ensures)
 
-pub returns-in-Base : goal.returns-in-Base
-returns-in-Base g c = λ stands.
-    subst (λ p. IsPlaced c.in-Base.i false c.args.machine.now.state (place_of p)) (sym c.in-Base.is) (record { measured = tt; before = λ text. refl })
-
 pub returns-in-Argument : goal.returns-in-Argument
 returns-in-Argument g c = λ stands.
     let s = c.args.machine.now.state in
@@ -30,6 +26,3 @@ others s (code_place.TheVariants.Base i) base argument form = absurd (base i ref
 others s (code_place.TheVariants.Argument f k i) base argument form = absurd (argument f k i refl)
 others s (code_place.TheVariants.Form name i) base argument form = absurd (form name i refl)
 others s p base argument form = aside 0 false s (place_of p) refl tt
-
-pub returns-in_default : goal.returns-in_default
-returns-in_default g c = λ stands. others c.args.machine.now.state c.args.place c.in_default.not-Base c.in_default.not-Argument c.in_default.not-Form

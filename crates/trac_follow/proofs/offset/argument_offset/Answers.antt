@@ -10,6 +10,3 @@ returns-in-Some g c =
 
 pub returns-in-None : goal.returns-in-None
 returns-in-None g c = λ stands. absurd (function_bare c.args.machine.now.state c.args.function c.args.argument c.args.byte c.in-None.ensures stands.0 stands.1)
-
-pub bytes_from-from_function-requires : goal.bytes_from-from_function-requires
-bytes_from-from_function-requires g c = (c.in-Some.field-0-0, c.in-Some.ensures)

@@ -14,9 +14,6 @@ returns-in-Base g c = λ n at.
     past_in_base c.args.machine.now.state c.in-Base.i c.args.depth n c.saturating_sub.result
     (c.saturating_sub.ensures ∙ ap (λ text. c.in-Base.i - length text) c.base.ensures) (sym (ap place_of c.in-Base.is) ∙ at)
 
-pub returns-in-Argument : goal.returns-in-Argument
-returns-in-Argument g c = λ n at. c.past_argument.ensures c.args.depth n (sym (ap place_of c.in-Argument.is) ∙ at)
-
 pub returns-in_default : goal.returns-in_default
 returns-in_default g c = λ n at.
     past_elsewhere c.args.machine.now.state (place_of c.args.place) c.args.depth n (elsewhere c.args.place c.in_default.not-Base c.in_default.not-Argument) at

@@ -2,18 +2,9 @@ use Rattle.std.proofs.Common.{◌≡◌, sym, ap, ◌∙◌}
 use Rattle.std.specs.Prelude.{None, Some, slice_get}
 use Rattle.trac_forms.specs.Stored.{Stored}
 use Rattle.trac_rules.specs.Blocks.{block_at}
-use Rattle.trac_rules.specs.State.{Block}
 use Rattle.trac_origins.specs.Places.{held_form, items_of}
 use Rattle.trac_follow.proofs.Fetching.{none_held}
 use Rattle.trac_follow.proofs.standing.stands_in_block.Goals as goal
-
-pub returns-in-Some-clause-there : goal.returns-in-Some-clause-there
-returns-in-Some-clause-there g c = λ test.
-    let at = c.holds_item.ensures.there test in (
-      at.0,
-      ap (λ (b : Block). slice_get (items_of (held_form c.args.name.now b)) c.args.i) (ap (λ (stored : Stored). block_at c.args.number stored.blocks) (sym c.store.ensures) ∙ c.in-Some.ensures)
-          ∙ at.1,
-    )
 
 pub returns-in-None-clause-bare : goal.returns-in-None-clause-bare
 returns-in-None-clause-bare g c = λ test item stands.

@@ -15,9 +15,6 @@ returns-in-Compute-clause-tells g c =
     computed_told c.args.before.now.state c.args.width c.args.seen c.args.i c.args.function c.computed_byte.result c.args.arguments.now c.args.kind c.in-Compute.computation c.requires.call
     (ap primitive_of (sym c.get.ensures) ∙ sym c.primitive_named-primitive.ensures ∙ c.in-Compute.is) c.requires.number c.computed_byte.ensures.tells
 
-pub handled_byte-requires-clause-named : goal.handled_byte-requires-clause-named
-handled_byte-requires-clause-named g c = ap primitive_of (sym c.get.ensures) ∙ sym c.primitive_named-primitive.ensures ∙ c.in-Handle.is
-
 pub returns-in_default-clause-tells : goal.returns-in_default-clause-tells
 returns-in_default-clause-tells g c =
     nothing_told c.args.before.now.state c.args.width c.args.seen c.args.i c.args.arguments.now c.args.kind c.primitive_named-primitive.result c.requires.call
