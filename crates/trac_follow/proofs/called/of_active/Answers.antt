@@ -9,11 +9,6 @@ returns-then-after-rest-clause-tells g c = λ environment t item wide h lengths 
     let same : c.saturating_sub-rest.result ≡ length c.args.before.now.state.active - 1 = c.saturating_sub-rest.ensures ∙ ap (λ text. length text - 1) c.active.ensures in
     absurd (omega (arith, same, lengths.active, c.if-after-rest.true, active_kept environment c.args.before.now.state t call.0 item h call.1 c.args.width wide))
 
-pub value_byte-requires-clause-number : goal.value_byte-requires-clause-number
-value_byte-requires-clause-number g c =
-    let call = given_call c.args.before.now.state c.args.kind c.args.arguments.now c.requires.call in
-    c.innermost.ensures call.0 call.1
-
 pub returns-then-i-value-clause-tells : goal.returns-then-i-value-clause-tells
 returns-then-i-value-clause-tells g c = λ environment t item wide h lengths stands.
     let call = given_call c.args.before.now.state c.args.kind c.args.arguments.now c.requires.call in

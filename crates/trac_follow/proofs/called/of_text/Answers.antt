@@ -20,8 +20,3 @@ returns-clause-tells g c = λ after environment t item wide h lengths stands.
     (c.stands_around.ensures.bare c.if-stands_around.false c.requires.text) stands in
     tells_current environment s t call.0 item h call.1 c.args.width wide c.value_byte.result p c.past_current-n.result c.value_byte.ensures.tells lengths.read
     (text_past environment s t call.0 item h call.1 c.args.width wide p c.innermost-function.result c.past_current-n.result (c.innermost-function.ensures call.0 call.1) new c.past_current-n.ensures) stands
-
-pub value_byte-requires-clause-number : goal.value_byte-requires-clause-number
-value_byte-requires-clause-number g c =
-    let call = given_call c.args.before.now.state c.args.kind c.args.arguments.now c.requires.call in
-    c.innermost-function.ensures call.0 call.1

@@ -2,12 +2,7 @@ use Rattle.std.proofs.Common.{length, sym, ◌∙◌, arith}
 use Rattle.trac_rules.specs.Blocks.{is_address}
 use Rattle.trac_rules.proofs.Addresses.{addressed_alone}
 use Rattle.trac_rules.proofs.Balanced.{first_place_none}
-use Rattle.trac_follow.proofs.Fetching.{none_below}
 use Rattle.trac_follow.proofs.fetched.addressed.Goals as goal
-
-pub loop-number-preserved : goal.loop-number-preserved
-loop-number-preserved g c =
-    none_below c.args.form.now c.args.store.now.blocks c.loop-number.number c.loop-number.invariant (sym c.is_address.ensures ∙ c.if-is_address.false)
 
 pub returns-then-is_address : goal.returns-then-is_address
 returns-then-is_address g c =

@@ -1,10 +1,10 @@
 -- One item more, and all of them.
-use Rattle.std.proofs.Common.{◌≡◌, List, ◌++◌, ap, subst, ◌∙◌, arith}
+use Rattle.std.proofs.Common.{◌≡◌, List, ◌++◌, ap, subst, ◌∙◌}
 use Rattle.std.specs.Prelude.{Option, bytes_eq, false, option_to_list}
 use Rattle.trac_rules.specs.declared.item.Item.{Item}
 use Rattle.trac_rules.specs.Form.{all_items}
 use Rattle.trac_rules.specs.Pieces.{bytes_in}
-use Rattle.trac_follow.proofs.Fetching.{read_all, read_off, read_on}
+use Rattle.trac_follow.proofs.Fetching.{read_off, read_on}
 use Rattle.trac_follow.proofs.fetched.reads_as.Goals as goal
 
 pub loop-place-preserved : goal.loop-place-preserved
@@ -20,9 +20,3 @@ returns-in_default g c =
     read_off items c.loop-place.place (bytes_eq c.args.text.now (bytes_in items)) c.loop-place.rest.now
     (subst (λ (found : Option Item). (others : List Item) → bytes_eq c.loop-place.rest.now (bytes_in (option_to_list found ++ others)) ≡ false) c.item.ensures c.in_default.ensures)
     c.loop-place.invariant
-
-pub returns : goal.returns
-returns g c =
-    let items = all_items c.args.form.now in
-    c.is_empty.ensures
-    ∙ read_all items c.loop-place.place (bytes_eq c.args.text.now (bytes_in items)) c.loop-place.rest.now (omega (arith, c.loop-place-test.false, c.len-place-end.ensures.len)) c.loop-place.invariant

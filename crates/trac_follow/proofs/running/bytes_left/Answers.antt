@@ -1,5 +1,5 @@
-use Rattle.std.proofs.Common.{length, ap, sym, ◌∙◌, arith}
-use Rattle.trac_follow.proofs.Staying.{all_left, call_leaves}
+use Rattle.std.proofs.Common.{length, ap, arith}
+use Rattle.trac_follow.proofs.Staying.{call_leaves}
 use Rattle.trac_follow.proofs.running.bytes_left.Goals as goal
 
 pub overflow_sub-result : goal.overflow_sub-result
@@ -11,6 +11,3 @@ pub returns-in-Some : goal.returns-in-Some
 returns-in-Some g c =
     let left = call_leaves c.args.before.now.state c.in-Some.field-0-0 c.in-Some.arguments c.in-Some.ensures in
     omega (arith, left, c.neutral_len.ensures, ap (λ text. length text) c.joined.ensures)
-
-pub returns-in-None : goal.returns-in-None
-returns-in-None g c = c.neutral_len-in-None.ensures ∙ sym (all_left c.args.before.now.state c.in-None.ensures)
