@@ -1,35 +1,26 @@
 -- Blocks and the forms that they hold, as the code looks for them.
 use Rattle.std.proofs.Common.{◌≡◌, ℕ, zero, suc, ◌+◌, ◌<◌, ◌≤◌, Bool, true, false, cond, ◌&&◌, ◌||◌, List, [], ◌∷◌, ◌++◌, length, drop, map, refl, sym, ap, ap₂, ◌∙◌, ⊎_elim, arith}
-use Rattle.std.specs.Prelude.{Option, None, Some, ◌==◌, bytes_eq, is_some, option_to_list, slice_get}
+use Rattle.std.specs.Prelude.{Option, None, Some, bytes_eq, is_some, option_to_list, slice_get}
 use Rattle.std.specs.Cmp.Lexicographic.{slice_cmp}
 use Rattle.std.specs.FinMap as finite
 use Rattle.std.specs.List.{AllByRecursion, IsDistinct, list_any}
 use Rattle.std.specs.Ordering.{nat_cmp}
-use Rattle.std.proofs.lemmas.Bool.{cases_lt, cond-true, eq-eqb, ne_eqb}
+use Rattle.std.proofs.lemmas.Bool.{cases_lt, cond-true, eq-eqb}
 use Rattle.std.proofs.lemmas.List.{drop_all, drop_more}
 use Rattle.std.proofs.lemmas.Option.{get_or_from_slice_get, same_Some, slice_get-get_or, slice_get_past, slice_get_within}
 use Rattle.std.proofs.lemmas.Slice.Eq.{bytes_eq-Decides}
 use Rattle.trac_rules.specs.declared.item.Item.{Item}
 use Rattle.trac_rules.specs.declared.item.Item.TheVariants.{Byte}
-use Rattle.trac_rules.specs.Blocks.{is_address, with_all}
+use Rattle.trac_rules.specs.Blocks.{with_all}
 use Rattle.trac_rules.specs.Form.{Form}
 use Rattle.trac_rules.specs.Pieces.{bytes_in}
-use Rattle.trac_rules.specs.State.{Block, Forms, Held}
+use Rattle.trac_rules.specs.State.{Forms, Held}
 use Rattle.trac_rules.proofs.Found.{put_get}
 use Rattle.trac_forms.specs.Stored.{AreApart}
 use Rattle.trac_origins.specs.Places.{held_form}
 use Rattle.trac_follow.specs.Fetched.{is_entry}
 
 -- ---- blocks by their numbers
-
--- one number more
-pub none_below : (form : Form) (blocks : List Block) (n : ℕ) → ((k : ℕ) → k < n → is_address form blocks k ≡ false) → is_address form blocks n ≡ false →
-    (k : ℕ) → k < n + 1 → is_address form blocks k ≡ false
-none_below form blocks n before this k l =
-    ⊎_elim
-    (λ (below : k < n). before k below)
-    (λ (past : n ≤ k). let same : k ≡ n = omega (arith, l, past) in ap (is_address form blocks) same ∙ this)
-    (cases_lt k n)
 
 -- ---- the bytes of a form
 
@@ -63,24 +54,6 @@ pub read_off : (items : List Item) (place : ℕ) (whole : Bool) (rest : List ℕ
     whole ≡ bytes_eq rest (bytes_in (drop place items)) → false ≡ whole
 read_off items place whole rest other so =
     sym (so ∙ ap (λ (xs : List Item). bytes_eq rest (bytes_in xs)) (items_on items place) ∙ other (drop (place + 1) items))
-
--- at the end
-pub read_all : (items : List Item) (place : ℕ) (whole : Bool) (rest : List ℕ) → length items ≤ place → whole ≡ bytes_eq rest (bytes_in (drop place items)) →
-    (length rest == 0) ≡ whole
-read_all items place whole rest past so = sym (so ∙ ap (λ (xs : List Item). bytes_eq rest (bytes_in xs)) (drop_all place items past) ∙ none_left rest)
-  where
-    none_left : (text : List ℕ) → bytes_eq text [] ≡ (length text == 0)
-    none_left [] = refl
-    none_left (b ∷ text) = sym (ne_eqb (length (b ∷ text)) 0 (λ e. absurd (omega (arith, e))))
-
--- a text that begins with another byte
-pub other_first : (b first : ℕ) (text rest others : List ℕ) → text ≡ first ∷ rest → (first ≡ b → ⊥) → bytes_eq text (b ∷ others) ≡ false
-other_first b first text rest others is other =
-    ap (λ (bytes : List ℕ). bytes_eq bytes (b ∷ others)) is ∙ ap (λ t. t && bytes_eq rest others) (ne_eqb first b other)
-
-pub nothing_first : (b : ℕ) (text others : List ℕ) → length text ≡ 0 → bytes_eq text (b ∷ others) ≡ false
-nothing_first b [] others none = refl
-nothing_first b (x ∷ text) others none = absurd (omega (arith, none))
 
 -- ---- the forms of a block
 

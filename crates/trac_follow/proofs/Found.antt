@@ -10,10 +10,10 @@ use Rattle.trac_rules.specs.declared.kind.Kind.{Kind}
 use Rattle.trac_rules.specs.Effect.{argument}
 use Rattle.trac_rules.specs.State.{Frame, State}
 use Rattle.trac_origins.specs.Lengths.{current_text, in_current}
-use Rattle.trac_origins.specs.Places.{Place, InBase, InArgument, arguments_of, byte_at, found_at, numbered}
+use Rattle.trac_origins.specs.Places.{InArgument, arguments_of, byte_at, found_at, numbered}
 use Rattle.trac_origins.proofs.Told.{byte_within}
 use Rattle.trac_origins.proofs.Zips.{number_within}
-use Rattle.trac_follow.specs.Places.{IsBare, Stands, is_in_text}
+use Rattle.trac_follow.specs.Places.{IsBare, Stands}
 use Rattle.trac_text.specs.Frames.{IsFrame, all_arguments}
 
 pub byte_there : (i : ℕ) (text : List ℕ) → i < length text → (item : Item) × (byte_at i text ≡ Some item)
@@ -150,21 +150,3 @@ past_some s function argument byte depth n past kind arguments is far at =
     let text : get_or arguments argument [] ≡ f.gathered =
     ap (λ (texts : List (List ℕ)). get_or texts argument []) (sym given.2) ∙ get_or_at f.arguments f.gathered [] [] argument (sym number) in
     omega (arith, far, frame.5, ap (λ (bytes : List ℕ). length bytes) text, ap (λ (g : Frame). length g.gathered) same)
-
-pub past_in_base : (s : State) (i depth n past : ℕ) → past ≡ i - length s.base →
-    let fs = drop (length s.frames - depth) s.frames in
-    InBase i ≡ in_current fs (length (current_text fs s) + n) → past ≡ n
-past_in_base s i depth n past far at = go (drop (length s.frames - depth) s.frames) at
-  where
-    go : (fs : List Frame) → InBase i ≡ in_current fs (length (current_text fs s) + n) → past ≡ n
-    go [] at = let place : i ≡ length s.base + n = cc in omega (arith, far, place)
-    go (f ∷ fs) at = absurd (cc)
-
-pub past_elsewhere : (s : State) (p : Place) (depth n : ℕ) → is_in_text p ≡ false →
-    let fs = drop (length s.frames - depth) s.frames in
-    p ≡ in_current fs (length (current_text fs s) + n) → 0 ≡ n
-past_elsewhere s p depth n other at = go (drop (length s.frames - depth) s.frames) at
-  where
-    go : (fs : List Frame) → p ≡ in_current fs (length (current_text fs s) + n) → 0 ≡ n
-    go [] at = absurd (let text : false ≡ true = sym other ∙ ap is_in_text at in cc)
-    go (f ∷ fs) at = absurd (let text : false ≡ true = sym other ∙ ap is_in_text at in cc)

@@ -158,14 +158,6 @@ text_stays s bytes gap p text less environment t item h stands placed =
     (step_scans environment s t h) in
     (all.0, record { measured = measured_aside bytes gap s p text; before = λ text. all.1 }, all.2)
 
--- so much a step leaves
-pub all_left : (s : State) → next_call s ≡ None → bytes_left s ≡ neutral_bytes s
-all_left s none = go (scan s) none
-  where
-    go : (x : Scanned) → call_asked x ≡ None → left_by x s ≡ neutral_bytes s
-    go (Moves t) none = refl
-    go (Calls call) none = absurd (cc)
-
 pub call_leaves : (s : State) (kind : Kind) (arguments : List (List ℕ)) → IsCall (next_call s) kind arguments → neutral_bytes s ≡ bytes_left s + length (concat arguments)
 call_leaves s kind arguments is =
     let call = given_call s kind arguments is in

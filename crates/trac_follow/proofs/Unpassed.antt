@@ -1,12 +1,11 @@
 -- A byte that no step passes on.
-use Rattle.std.proofs.Common.{◌≡◌, ℕ, zero, suc, ◌+◌, ◌-◌, ◌<◌, ◌≤◌, eqb, Bool, true, false, List, [], ◌∷◌, ◌++◌, length, take, refl, sym, ap, subst, ◌∙◌, arith}
-use Rattle.std.specs.Prelude.{Option, None, Some, MatchBool}
+use Rattle.std.proofs.Common.{◌≡◌, ℕ, zero, suc, ◌+◌, ◌-◌, ◌<◌, ◌≤◌, eqb, true, false, List, [], ◌∷◌, ◌++◌, length, take, sym, ap, subst, ◌∙◌, arith}
+use Rattle.std.specs.Prelude.{Option, None, Some}
 use Rattle.std.proofs.lemmas.Bool.Decides.{nat_tests}
 use Rattle.std.proofs.lemmas.List.{length-drop}
 use Rattle.trac_rules.specs.declared.item.Item.{Item}
-use Rattle.trac_rules.specs.Goals.{call_asked, next_call}
 use Rattle.trac_rules.specs.PlainRuns.{moved_on, on_the_way}
-use Rattle.trac_rules.specs.Scanning.{Call, Calls, Moves, Scanned, deleted, scan}
+use Rattle.trac_rules.specs.Scanning.{Call, Calls, Moves, deleted, scan}
 use Rattle.trac_rules.specs.State.{Environment, State}
 use Rattle.trac_rules.specs.Trails.{AreSteps}
 use Rattle.trac_rules.proofs.MovedOn.{active-gathered, moved_on-suc}
@@ -18,7 +17,7 @@ use Rattle.trac_origins.specs.Stepping.{origin}
 use Rattle.trac_origins.proofs.Accounted.{accounted}
 use Rattle.trac_origins.proofs.Moved.{one_before, plain}
 use Rattle.trac_follow.specs.Passing.{IsUnpassed, UnpassedBy}
-use Rattle.trac_follow.specs.Places.{IsOutside, IsPassed, calls, is_passed, place_of}
+use Rattle.trac_follow.specs.Places.{IsOutside, IsPassed, calls}
 use Rattle.trac_follow.specs.declared.place.Place as code_place
 use Rattle.trac_follow.proofs.CallsTold.{functions_left}
 
@@ -81,33 +80,3 @@ run_unpassed environment s (suc n) place item all within e =
     let stands : found_at u q ≡ Some item = subst (λ o. Accounts environment u t o item) from (accounted environment u t all.0 place item e) in
     subst (λ o. UnpassedBy u place o (λ r. IsUnpassed environment (on_the_way n s) r)) (sym from)
     (moves_quietly u t place (plain environment u t all.0 (moved_on-suc n s) some).0, run_unpassed environment s n q item all.1 (omega (arith, within)) stands)
-
--- ---- as the code finds it
-
--- the function of this number is called where a call comes next and it is the last of all
-pub called_if : (b : Bool) (s : State) (function depth : ℕ) (call : Call) → scan s ≡ Calls call → depth ≡ length s.frames → MatchBool b (function + 1 ≡ depth) (function + 1 ≡ depth → ⊥) →
-    b ≡ calls function (length s.frames) (scan s)
-called_if b s function depth call is all last = of b last ∙ sym (ap (calls function (length s.frames)) is)
-  where
-    of : (c : Bool) → MatchBool c (function + 1 ≡ depth) (function + 1 ≡ depth → ⊥) → c ≡ eqb (function + 1) (length s.frames)
-    of true last = grind (arith, nat_tests, last, all)
-    of false last =
-        elim (eqb (function + 1) (length s.frames)) as (λ b. eqb (function + 1) (length s.frames) ≡ b → false ≡ b) [
-          | true ↦ λ e. absurd (last (grind (arith, nat_tests, e, all)))
-          | false ↦ λ e. refl
-        ] refl
-
-pub none_called : (s : State) (function : ℕ) → next_call s ≡ None → false ≡ calls function (length s.frames) (scan s)
-none_called s function none = of (scan s) none
-  where
-    of : (r : Scanned) → call_asked r ≡ None → false ≡ calls function (length s.frames) r
-    of (Moves t) none = refl
-    of (Calls call) none = absurd (cc)
-
-pub elsewhere : (s : State) (here : Place) (there : code_place.Place) → ((f k i : ℕ) → there ≡ code_place.TheVariants.Argument f k i → ⊥) →
-    ((number : ℕ) (name : _) (i : ℕ) → there ≡ code_place.TheVariants.Held number name i → ⊥) → ((name : _) (i : ℕ) → there ≡ code_place.TheVariants.Form name i → ⊥) →
-    false ≡ is_passed s here (place_of there)
-elsewhere s here (code_place.TheVariants.Argument f k i) argument held form = absurd (argument f k i refl)
-elsewhere s here (code_place.TheVariants.Form name i) argument held form = absurd (form name i refl)
-elsewhere s here (code_place.TheVariants.Held number name i) argument held form = absurd (held number name i refl)
-elsewhere s here p argument held form = refl
