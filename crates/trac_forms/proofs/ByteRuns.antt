@@ -1,18 +1,32 @@
 -- Runs of bytes among items.
-use Rattle.std.proofs.Common.{◌≡◌, ℕ, zero, suc, ◌+◌, ◌<◌, ◌≤◌, Bool, true, List, [], ◌∷◌, ◌++◌, length, take, get_or, false, refl, sym, ap, ◌∙◌, arith}
-use Rattle.std.specs.Prelude.{◌||◌}
+use Rattle.std.proofs.Common.{◌≡◌, ℕ, zero, suc, ◌+◌, ◌<◌, ◌≤◌, Bool, true, List, [], ◌∷◌, ◌++◌, length, take, drop, get_or, false, refl, sym, ap, ◌∙◌, arith}
+use Rattle.std.specs.Prelude.{◌||◌, Some, slice_get}
 use Rattle.std.proofs.lemmas.Grind.{flat_map-append}
-use Rattle.std.proofs.lemmas.List.{append_assoc, length-append}
+use Rattle.std.proofs.lemmas.List.{append_assoc, length-append, take_more}
+use Rattle.std.proofs.lemmas.Option.{same_Some}
 use Rattle.trac_rules.specs.declared.item.Item.{Item}
 use Rattle.trac_rules.specs.declared.item.Item.TheVariants.{Byte, Gap}
+use Rattle.trac_rules.specs.Cuts.{begins_with_gap}
 use Rattle.trac_rules.specs.Filling.{all_filled, filled}
-use Rattle.trac_rules.specs.Form.{as_items, extent}
+use Rattle.trac_rules.specs.Form.{as_items}
 use Rattle.trac_rules.specs.Fronts.{IsFrontOf}
 use Rattle.trac_rules.specs.Pieces.{byte_of, bytes_in, is_gap}
 use Rattle.trac_rules.specs.Weights.{gap_count}
-use Rattle.trac_rules.proofs.Cutting.{extent-append, filled-as_items}
+use Rattle.trac_rules.proofs.Cutting.{filled-as_items}
 use Rattle.trac_rules.proofs.Items.{length-as_items}
-use Rattle.trac_forms.proofs.Segments.{gap_count-append, gaps_more}
+
+-- ---- gaps among items
+
+pub gap_there : (items : List Item) (place : ℕ) (item : Item) → slice_get items place ≡ Some item → begins_with_gap (drop place items) ≡ is_gap item
+gap_there [] place item h = absurd cc
+gap_there (Byte b ∷ items) zero item h = ap is_gap (same_Some (Byte b) item h)
+gap_there (Gap k w ∷ items) zero item h = ap is_gap (same_Some (Gap k w) item h)
+gap_there (x ∷ items) (suc place) item h = gap_there items place item h
+
+gap_count-append : (xs ys : List Item) → gap_count (xs ++ ys) ≡ gap_count xs + gap_count ys
+gap_count-append [] ys = omega arith
+gap_count-append (Byte b ∷ xs) ys = gap_count-append xs ys
+gap_count-append (Gap k w ∷ xs) ys = omega (arith, gap_count-append xs ys)
 
 -- a byte is no gap
 no_gap : (item : Item) → is_gap item ≡ false → gap_count (item ∷ []) ≡ 0
@@ -26,7 +40,7 @@ one_gap (Gap k w) h = refl
 -- an item more
 module _ (items : List Item) (n m : ℕ) (item : Item) (e : m ≡ n + 1) (l : n < length items) (is : item ≡ get_or items n item) where
   one_more : gap_count (take m items) ≡ gap_count (take n items) + gap_count (item ∷ [])
-  one_more = omega (arith, ap (λ k. gap_count (take k items)) e, gaps_more items n item l, ap (λ (x : Item). gap_count (x ∷ [])) is)
+  one_more = ap (λ k. gap_count (take k items)) e ∙ ap gap_count (take_more items n item l) ∙ gap_count-append (take n items) (get_or items n item ∷ []) ∙ ap (λ (x : Item). gap_count (take n items) + gap_count (x ∷ [])) (sym is)
 
   pub byte_passed : gap_count (take n items) ≡ 0 → is_gap item ≡ false → gap_count (take m items) ≡ 0
   byte_passed before h = omega (arith, one_more, before, no_gap item h)
@@ -50,6 +64,12 @@ module _ (run front left : List Item) (seam : run ≡ front ++ left) where
       ap (λ (xs : List ℕ). xs ++ bytes_in left) put ∙ append_assoc old (bytes_in front) (bytes_in left)
       ∙ ap (λ (xs : List ℕ). old ++ xs) (sym (ap bytes_in seam ∙ flat_map-append byte_of front left))
 
+-- what is left of a run comes after the bytes so far, and there is room for it
+pub record IsLeft (run rest : List Item) (old new : List ℕ) (len capacity : ℕ) : Type 0 where
+  pub put : new ++ bytes_in rest ≡ old ++ bytes_in run
+  pub bytes : gap_count rest ≡ 0
+  pub room : len + length rest ≤ capacity
+
 -- neither of two
 pub neither : (a b : Bool) → (a || b) ≡ false → (a ≡ false) × (b ≡ false)
 neither false b h = (refl, h)
@@ -71,15 +91,6 @@ run_items (Gap k w ∷ run) h = let none : ⊥ = omega (arith, h) in absurd none
 -- and there are as many
 pub plain_count : (run : List Item) → gap_count run ≡ 0 → length (bytes_in run) ≡ length run
 plain_count run h = sym (length-as_items (bytes_in run)) ∙ ap length (run_items run h)
-
--- items have no more bytes than they stand for
-bytes_within : (items : List Item) → length (bytes_in items) ≤ extent items
-bytes_within [] = omega arith
-bytes_within (Byte b ∷ items) = omega (arith, bytes_within items)
-bytes_within (Gap k w ∷ items) = omega (arith, bytes_within items)
-
-pub run_within : (items run after : List Item) → items ≡ run ++ after → length (bytes_in run) + extent after ≤ extent items
-run_within items run after seam = omega (arith, bytes_within run, extent-append run after, ap extent seam)
 
 -- what a run gives in a call are its bytes, whatever the texts are
 pub run_filled : (texts : List (List ℕ)) (run : List Item) → gap_count run ≡ 0 → all_filled texts run ≡ bytes_in run

@@ -57,14 +57,6 @@ module _ (old new : Ends Item) (place n : ℕ) (count : place ≡ length old.lef
   right_on : new.right ≡ drop n old.right
   right_on = ap (λ (e : Ends Item). e.right) moved
 
-  pub all_on : new.left ++ new.right ≡ old.left ++ old.right
-  all_on =
-      (λ i. left_on i ++ right_on i) ∙ append_assoc old.left (take n old.right) (drop n old.right)
-      ∙ ap (λ (xs : List Item). old.left ++ xs) (take-append-drop n old.right)
-
-  pub kept_on : IsKept old → IsKept new
-  kept_on kept = kept_again old new all_on (omega (arith, ap (λ (e : Ends Item). e.capacity) moved)) kept
-
   pub pointed_on : divided new ≡ pointed_at place (all_items (divided old))
   pointed_on =
       let both = old.left ++ old.right in

@@ -20,7 +20,7 @@ use Rattle.trac_rules.specs.Form.{Form}
 use Rattle.trac_rules.specs.Listing.{names_of}
 use Rattle.trac_rules.specs.State.{Forms}
 use Rattle.trac_forms.specs.Listed.{AreMissed, IsHit, IsListed, lesser_len, listed_len}
-use Rattle.trac_forms.specs.Table.{forms_of, full_keys, named, with_entry}
+use Rattle.trac_forms.specs.Table.{forms_of, full_keys, with_entry}
 use Rattle.trac_forms.proofs.Tables.{Entries, forms_not_taken, list_any_alike, lookup_none, lookup_swept, get-forms_of}
 
 abbrev order : List ℕ → List ℕ → Ordering
@@ -230,20 +230,15 @@ tried_one text i names left name tried not = record {
 
 -- ---- the entries of a table, one after another
 
-module _ {K V : Type 0} (name : K → List ℕ) where
-  pub full-none : (e : K × Option V) (es : List (K × Option V)) (none : Bool) → is_some e.1 ≡ not none → none ≡ true →
-      keys_of (filter (λ x. is_some x.1) (named name (e ∷ es))) ≡ keys_of (filter (λ x. is_some x.1) (named name es))
-  full-none e es none is set =
-      ap (λ b. keys_of (cond b ((name e.0, e.1) ∷ filter (λ x. is_some x.1) (named name es)) (filter (λ x. is_some x.1) (named name es)))) (is ∙ ap not set)
+abbrev Entry : Type 0
+Entry = List ℕ × Option Form
 
-  pub full-some : (e : K × Option V) (es : List (K × Option V)) (none : Bool) → is_some e.1 ≡ not none → none ≡ false →
-      keys_of (filter (λ x. is_some x.1) (named name (e ∷ es))) ≡ name e.0 ∷ keys_of (filter (λ x. is_some x.1) (named name es))
-  full-some e es none is unset =
-      ap (λ b. keys_of (cond b ((name e.0, e.1) ∷ filter (λ x. is_some x.1) (named name es)) (filter (λ x. is_some x.1) (named name es)))) (is ∙ ap not unset)
+-- an entry that has a form
+pub full-some : (e : Entry) (es : Entries) (none : Bool) → is_some e.1 ≡ not none → none ≡ false → full_keys (e ∷ es) ≡ e.0 ∷ full_keys es
+full-some e es none is set = ap (λ c. keys_of (cond c (e ∷ filter (λ x. is_some x.1) es) (filter (λ x. is_some x.1) es))) (is ∙ ap not set)
 
-  -- past a name that is less
-  pub past_less : (text : ℕ) (than : List ℕ) (e : K × Option V) (es : List (K × Option V)) (none : Bool) → is_some e.1 ≡ not none → none ≡ false → is_lt (order (name e.0) than) ≡ true →
-      lesser_len text than (keys_of (filter (λ x. is_some x.1) (named name (e ∷ es)))) ≡ text + length (name e.0) + lesser_len text than (keys_of (filter (λ x. is_some x.1) (named name es)))
-  past_less text than e es none is unset less =
-      ap (lesser_len text than) (full-some e es none is unset)
-      ∙ ap (λ b. (if b then text + length (name e.0) else 0) + lesser_len text than (keys_of (filter (λ x. is_some x.1) (named name es)))) less
+-- past a name that is less
+pub past_less : (text : ℕ) (than : List ℕ) (e : Entry) (es : Entries) (none : Bool) → is_some e.1 ≡ not none → none ≡ false → is_lt (order e.0 than) ≡ true →
+    lesser_len text than (full_keys (e ∷ es)) ≡ text + length e.0 + lesser_len text than (full_keys es)
+past_less text than e es none is unset less =
+    ap (lesser_len text than) (full-some e es none is unset) ∙ ap (λ b. (if b then text + length e.0 else 0) + lesser_len text than (full_keys es)) less

@@ -1,6 +1,5 @@
 pub mod BlockLists
 pub mod Cuts
-pub mod Segments
 pub mod RunGaps
 pub mod CutWalks
 pub mod Divided

@@ -3,7 +3,7 @@ use Rattle.std.proofs.Common.{◌≡◌, ℕ, zero, suc, ◌+◌, ◌-◌, ◌<�
 use Rattle.std.specs.Prelude.{Option, None, Some, option_map, nat_lt}
 use Rattle.std.specs.List.{position, position_or_len}
 use Rattle.std.proofs.lemmas.Bool.{cases_lt, eq-eqb, false_from_ne_true, cond-true, cond-false, eqb-true, lt-ltb, ltb-true}
-use Rattle.std.proofs.lemmas.List.{append_assoc, append-nil, drop_more, take_more, take_all, nil_from_length, take-append-drop, take-append-le, drop-append-le, length-append}
+use Rattle.std.proofs.lemmas.List.{append_assoc, append-nil, drop_more, take_more, take_all, take-append-drop, take-append-le, drop-append-le, length-append}
 use Rattle.std.proofs.lemmas.List.Sums.{position_or_len_is}
 use Rattle.std.proofs.Math.Seq.{take-append_seam, drop-append_seam, take-append-add}
 use Rattle.trac_rules.specs.declared.item.Item.{Item}
@@ -75,28 +75,6 @@ module _ (form : Form) (piece : Measured) where
       bytes = omega (arith, ap count from_ahead, count-split k form.after);
     }
 
-  -- back: the bytes among the items before the pointer, from the place k on
-  module _ (k : ℕ) (within : k ≤ length form.before) (goes : piece.pointer ≡ k) (long : piece.len ≡ count (drop k form.before)) where
-    from_back : items_from piece form ≡ drop k form.before ++ form.after
-    from_back =
-        let least : min piece.pointer (length form.before) ≡ k = omega arith in
-        ap (λ i. drop i (form.before ++ form.after)) least ∙ drop-append-le k form.before form.after within
-
-    bytes_back : bytes_in (items_from piece form) ≡ bytes_in (drop k form.before) ++ bytes_in form.after
-    bytes_back = ap bytes_in from_back ∙ bytes_in-append (drop k form.before) form.after
-
-    pub taken_back : taken piece form ≡ read_back k form
-    taken_back =
-        let value : take piece.len (bytes_in (items_from piece form)) ≡ bytes_in (drop k form.before) =
-        (λ i. take (long i) (bytes_back i)) ∙ take-append_seam (bytes_in (drop k form.before)) (bytes_in form.after) in
-        λ i. record { value = value i; place = goes i }
-
-    pub there_back : IsThere form piece
-    there_back = record {
-      pointer = omega (arith, length-append form.before form.after);
-      bytes = omega (arith, ap length bytes_back, length-append (bytes_in (drop k form.before)) (bytes_in form.after));
-    }
-
 -- ---- one item more
 
 pub count_next : (items : List Item) (i : ℕ) (d : Item) → i < length items → count (take (i + 1) items) ≡ count (take i items) + count (get_or items i d ∷ [])
@@ -159,17 +137,6 @@ any_there [] piece some = absurd (some refl)
 any_there (x ∷ xs) piece some = refl
 
 module _ (n : ℕ) (form : Form) (some : 0 < n) where
-  -- no byte on that side
-  pub nothing_next : at_most_all n form.after ≡ 0 → None ≡ next_bytes n form
-  nothing_next e =
-      let none : bytes_in form.after ≡ [] = nil_from_length (bytes_in form.after) (omega arith) in
-      ap (λ (bytes : List ℕ). where_any bytes (option_map (λ k. read_on k form) (place_after (at_most_all n form.after) form.after))) (sym none)
-
-  pub nothing_last : at_most_all n form.before ≡ 0 → None ≡ last_bytes n form
-  nothing_last e =
-      let none : bytes_in form.before ≡ [] = nil_from_length (bytes_in form.before) (omega arith) in
-      ap (λ (bytes : List ℕ). where_any bytes (option_map (λ k. read_back k form) (place_before (at_most_all n form.before) form.before))) (sym none)
-
   -- a byte at least
   pub something_next : (k : ℕ) (piece : Piece) → (at_most_all n form.after ≡ 0 → ⊥) → Some k ≡ place_after (at_most_all n form.after) form.after → piece ≡ read_on k form →
       Some piece ≡ next_bytes n form
@@ -177,13 +144,6 @@ module _ (n : ℕ) (form : Form) (some : 0 < n) where
       ap Some e
       ∙ ap (option_map (λ j. read_on j form)) reached
       ∙ sym (any_there (bytes_in form.after) (option_map (λ j. read_on j form) (place_after (at_most_all n form.after) form.after)) (λ none. bytes (omega arith)))
-
-  pub something_last : (k : ℕ) (piece : Piece) → (at_most_all n form.before ≡ 0 → ⊥) → Some k ≡ place_before (at_most_all n form.before) form.before → piece ≡ read_back k form →
-      Some piece ≡ last_bytes n form
-  something_last k piece bytes reached e =
-      ap Some e
-      ∙ ap (option_map (λ j. read_back j form)) reached
-      ∙ sym (any_there (bytes_in form.before) (option_map (λ j. read_back j form) (place_before (at_most_all n form.before) form.before)) (λ none. bytes (omega arith)))
 
 -- ---- the first segment
 
@@ -203,8 +163,6 @@ segment_whole items d before =
     let found : position is_gap items ≡ None =
     ap (λ p. cond (nat_lt p (length items)) (Some p) None) first ∙ cond-false (nat_lt (length items) (length items)) (Some (length items)) None (false_from_ne_true _ (λ e. absurd (let less = ltb-true (length items) (length items) e in omega arith))) in
     ap (λ (p : Option ℕ). segment_items p items) (sym found)
-
--- ---- numbers of bytes
 
 -- ---- two lists of items, one after the other
 
@@ -283,23 +241,6 @@ module _ (form : Form) (piece : Measured) (items : List Item) (same : items ≡ 
   reads_next n some any e reached =
       let here : at_most_all n items ≡ at_most_all n form.after = ap (at_most_all n) same in
       something_next n form some k (taken piece form) (λ none. any (omega (arith, here))) (reached ∙ ap (λ xs. place_after (at_most_all n xs) xs) same) taken_on
-
--- so many items back
-module _ (form : Form) (piece : Measured) (items : List Item) (same : items ≡ form.before) (k bytes : ℕ) (within : k ≤ length items) (passed : bytes ≡ count (drop k items)) (long : piece.len ≡ bytes)
-    (goes : piece.pointer ≡ k) where
-  within_before : k ≤ length form.before
-  within_before = omega (arith, ap length same)
-
-  long_before : piece.len ≡ count (drop k form.before)
-  long_before = long ∙ passed ∙ ap (λ xs. count (drop k xs)) same
-
-  pub there_last : IsThere form piece
-  there_last = there_back form piece k within_before goes long_before
-
-  pub reads_last : (n : ℕ) → 0 < n → (bytes ≡ 0 → ⊥) → bytes ≡ at_most_all n items → Some k ≡ place_before (at_most_all n items) items → Some (taken piece form) ≡ last_bytes n form
-  reads_last n some any e reached =
-      let here : at_most_all n items ≡ at_most_all n form.before = ap (at_most_all n) same in
-      something_last n form some k (taken piece form) (λ none. any (omega (arith, here))) (reached ∙ ap (λ xs. place_before (at_most_all n xs) xs) same) (taken_back form piece k within_before goes long_before)
 
 -- up to a text
 module _ (form : Form) (piece : Measured) (items : List Item) (same : items ≡ form.after) (k : ℕ) (text : List ℕ) (within : k + length text ≤ length items) (long : piece.len ≡ count (take k items))

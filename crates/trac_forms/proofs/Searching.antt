@@ -137,10 +137,6 @@ module _ (text : List ℕ) (items : List Item) (start : ℕ) (run : List ℕ) (t
       let same : at.items ≡ start + (at.items - start) = omega arith in
       omega (arith, count_at text items start run tail within rest (at.items - start) (omega (arith, finds.1.fits)), ap (λ k. count (take k items)) same)
 
-  -- there is room for it
-  pub fits_in_run : (at : Reached) → FindsNeedle run text 0 (Some (at.items - start)) → start ≤ at.items → at.items + length text ≤ length items
-  fits_in_run at finds after = omega (arith, finds.1.fits, as_long text items start run tail within rest)
-
   -- the last run
   pub in_last_run : (found : Option Reached) → FindsNeedle run text 0 (option_map (λ at. at.items - start) found) → IfSome found (λ at. start ≤ at.items) → tail ≡ [] →
       option_map (λ at. at.items) found ≡ place_of_text text items

@@ -12,7 +12,7 @@ use Rattle.std.specs.Option.{option_flatten}
 use Rattle.std.specs.Ordering.{nat_cmp, eq_by_cmp}
 use Rattle.std.specs.Str.{bytes_eq}
 use Rattle.std.proofs.lemmas.Bool.{cases_Bool, cond-true, cond-false}
-use Rattle.std.proofs.lemmas.List.Sorted.{IsPermutation-map, IsPermutation-refl, IsPermutation-sym}
+use Rattle.std.proofs.lemmas.List.Sorted.{IsPermutation-refl, IsPermutation-sym}
 use Rattle.std.proofs.lemmas.Map.{lookup-set_value, keys-set_value}
 use Rattle.std.proofs.lemmas.Map.Entries.{lookup-filter-values, option_filter}
 use Rattle.std.proofs.lemmas.Map.Keys.{IsDistinct-head, IsDistinct-tail}
@@ -26,9 +26,9 @@ use Rattle.trac_rules.proofs.NamedForms.{only_equal_tie, ties_itself}
 use Rattle.trac_rules.specs.Listing.{names_of}
 use Rattle.trac_rules.specs.State.{Forms}
 use Rattle.trac_forms.specs.Stored.{KnowsAll, Names, Stored, changed_at, changing, swept}
-use Rattle.trac_forms.specs.Table.{IsParted, Kept, named, with_entry, forms_of, known_of, stored}
+use Rattle.trac_forms.specs.Table.{IsParted, Kept, with_entry, forms_of, known_of, stored}
 use Rattle.trac_forms.proofs.Parted.{parted_kept, written_first}
-use Rattle.std.proofs.lemmas.List.{length-map, map_push}
+use Rattle.std.proofs.lemmas.List.{map_push}
 
 -- entries of a table of forms
 abbrev pub Entries : Type 0
@@ -36,45 +36,15 @@ Entries = List (List ℕ × Option Form)
 
 -- ---- look-ups
 
+-- what is not there is none
+pub none_of_false : {X : Type 0} (o : Option X) → is_some o ≡ false → o ≡ None
+none_of_false None h = refl
+none_of_false (Some x) h = absurd (cc)
+
 -- tests that answer alike pass alike
 pub list_any_alike : {K : Type 0} (p q : K → Bool) → ((k : K) → p k ≡ q k) → (ks : List K) → list_any p ks ≡ list_any q ks
 list_any_alike p q same [] = refl
 list_any_alike p q same (k ∷ ks) = ap (λ b. b || list_any p ks) (same k) ∙ ap (λ b. q k || b) (list_any_alike p q same ks)
-
--- the keys read as texts
-pub lookup-named : {K V : Type 0} (name : K → List ℕ) (test : List ℕ → Bool) (es : List (K × V)) → lookup test (named name es) ≡ lookup (λ k. test (name k)) es
-lookup-named name test [] = refl
-lookup-named name test (e ∷ es) = ap (cond (test (name e.0)) (Some e.1)) (lookup-named name test es)
-
-pub set_value-named : {K V : Type 0} (name : K → List ℕ) (test : List ℕ → Bool) (es : List (K × V)) (w : V) →
-    named name (set_value (λ k. test (name k)) es w) ≡ set_value test (named name es) w
-set_value-named name test [] w = refl
-set_value-named name test (e ∷ es) w =
-    ⊎_elim
-    (λ (t : test (name e.0) ≡ true). rw (cond-true (test (name e.0)) ((e.0, w) ∷ es) (e ∷ set_value (λ k. test (name k)) es w) t, cond-true (test (name e.0)) ((name e.0, w) ∷ named name es) ((name e.0, e.1) ∷ set_value test (named name es) w) t) refl)
-    (λ (t : test (name e.0) ≡ false).
-    rw (cond-false (test (name e.0)) ((e.0, w) ∷ es) (e ∷ set_value (λ k. test (name k)) es w) t, cond-false (test (name e.0)) ((name e.0, w) ∷ named name es) ((name e.0, e.1) ∷ set_value test (named name es) w) t)
-    (ap (λ r. (name e.0, e.1) ∷ r) (set_value-named name test es w)))
-    (cases_Bool (test (name e.0)))
-
-pub filter-named : {K V : Type 0} (name : K → List ℕ) (p : V → Bool) (es : List (K × V)) → named name (filter (λ e. p e.1) es) ≡ filter (λ e. p e.1) (named name es)
-filter-named name p [] = refl
-filter-named name p (e ∷ es) =
-    elim (p e.1) as (λ b. named name (cond b (e ∷ filter (λ x. p x.1) es) (filter (λ x. p x.1) es)) ≡ cond b ((name e.0, e.1) ∷ filter (λ x. p x.1) (named name es)) (filter (λ x. p x.1) (named name es))) [
-      | true ↦ ap (λ r. (name e.0, e.1) ∷ r) (filter-named name p es)
-      | false ↦ filter-named name p es
-    ]
-
--- keys that differ differ as texts
-none-named : {K V : Type 0} (name : K → List ℕ) (k : K) (es : List (K × V)) → AllByRecursion (λ y. bytes_eq (name k) (name y) ≡ false) (keys_of es) →
-    AllByRecursion (λ y. bytes_eq (name k) y ≡ false) (keys_of (named name es))
-none-named name k [] h = tt
-none-named name k (e ∷ es) h = (h.0, none-named name k es h.1)
-
-pub IsDistinct-named : {K V : Type 0} (name : K → List ℕ) (es : List (K × V)) → IsDistinct (λ x y. bytes_eq (name x) (name y)) (keys_of es) → IsDistinct bytes_eq (keys_of (named name es))
-unfolding IsDistinct
-IsDistinct-named name [] h = tt
-IsDistinct-named name (e ∷ es) h = (none-named name e.0 es h.0, IsDistinct-named name es h.1)
 
 -- ---- forms and names of entries
 
@@ -177,7 +147,7 @@ with_changed name change forms = found (finite.get forms name) refl
     found (Some form) e = refl
 
 -- a change of an entry's form, if it has one, leaves the entries with forms first
-pub kept_parted : {K : Type 0} (es : List (K × Option Form)) (live : ℕ) → IsParted es live → (i : ℕ) (change : Form → Form) (new : List (K × Option Form)) → i < length es →
+pub kept_parted : (es : Entries) (live : ℕ) → IsParted es live → (i : ℕ) (change : Form → Form) (new : Entries) → i < length es →
     new ≡ set_value_at es i (option_map change (option_flatten (slice_get (values_of es) i))) → IsParted new live
 kept_parted es live parted i change new within written_there =
     subst (λ entries. IsParted entries live) (sym written_there) (parted_kept es live parted i (option_map change (option_flatten (slice_get (values_of es) i))) within (full_still (values_of es) i))
@@ -290,127 +260,104 @@ module _ {K X F : Type 0} (T : F → K → Option X → Bool → Option X → F 
       h.6 ∙ (λ j. cond (s.0 j) ((e.0, s.1 j) ∷ rest j) (rest j))
 
 -- entries whose forms are taken away
-abbrev taken : {K : Type 0} → List (K × Option Form) → List (K × Option Form)
+abbrev taken : Entries → Entries
 taken es = map (λ e. (e.0, None)) es
 
 -- give no form
-no_forms : {K : Type 0} (name : K → List ℕ) (es : List (K × Option Form)) → forms_of (named name (taken es)) ≡ finite.empty
-no_forms {K} name es = forms_alike (named name (taken es)) [] (λ q. none_found q es)
+no_forms : (es : Entries) → forms_of (taken es) ≡ finite.empty
+no_forms es = forms_alike (taken es) [] (λ q. none_found q es)
   where
-    none_found : (q : List ℕ) (xs : List (K × Option Form)) → option_flatten (lookup (bytes_eq q) (named name (taken xs))) ≡ None
+    none_found : (q : List ℕ) (xs : Entries) → option_flatten (lookup (bytes_eq q) (taken xs)) ≡ None
     none_found q [] = refl
     none_found q (x ∷ xs) =
-        elim (bytes_eq q (name x.0)) as (λ b. option_flatten {T = Form} (cond b (Some None) (lookup (bytes_eq q) (named name (taken xs)))) ≡ None) [
+        elim (bytes_eq q x.0) as (λ b. option_flatten {T = Form} (cond b (Some None) (lookup (bytes_eq q) (taken xs))) ≡ None) [
           | true ↦ refl
           | false ↦ none_found q xs
         ]
 
 -- and have the same names
-keys-taken : {K : Type 0} (name : K → List ℕ) (es : List (K × Option Form)) → keys_of (named name (taken es)) ≡ keys_of (named name es)
-keys-taken name [] = refl
-keys-taken name (e ∷ es) = ap (λ r. name e.0 ∷ r) (keys-taken name es)
+keys-taken : (es : Entries) → keys_of (taken es) ≡ keys_of es
+keys-taken [] = refl
+keys-taken (e ∷ es) = ap (λ r. e.0 ∷ r) (keys-taken es)
 
--- ---- a store, of which the table's entries and the names of its keys are given
+-- ---- a store, of which the table's entries are given
 
-module _ {K : Type 0} (name : K → List ℕ) (es : List (K × Option Form)) (bs : Kept) (s : Stored) (is : stored (named name es) bs ≡ s) where
+module _ (es : Entries) (bs : Kept) (s : Stored) (is : stored es bs ≡ s) where
   -- the form of a name
-  pub form_found : (q : List ℕ) (r : Option (Option Form)) → r ≡ lookup (λ k. bytes_eq q (name k)) es → finite.get s.forms q ≡ option_flatten r
-  form_found q r e =
-      ap (λ (t : Stored). finite.get t.forms q) (sym is)
-      ∙ get-forms_of (named name es) q
-      ∙ ap option_flatten (lookup-named name (bytes_eq q) es ∙ sym e)
+  pub form_found : (q : List ℕ) (r : Option (Option Form)) → r ≡ lookup (bytes_eq q) es → finite.get s.forms q ≡ option_flatten r
+  form_found q r e = ap (λ (t : Stored). finite.get t.forms q) (sym is) ∙ get-forms_of es q ∙ ap option_flatten (sym e)
 
   -- whether a name is known
-  pub name_found : (q : List ℕ) → set.contains s.known q ≡ is_some (lookup (λ k. bytes_eq q (name k)) es)
-  name_found q =
-      ap (λ (t : Stored). set.contains t.known q) (sym is)
-      ∙ contains-known_of (named name es) q
-      ∙ ap is_some (lookup-named name (bytes_eq q) es)
+  pub name_found : (q : List ℕ) → set.contains s.known q ≡ is_some (lookup (bytes_eq q) es)
+  name_found q = ap (λ (t : Stored). set.contains t.known q) (sym is) ∙ contains-known_of es q
 
   -- what is written at a name that has an entry
-  pub written : (q : List ℕ) (w : Option Form) (new : List (K × Option Form)) → new ≡ set_value (λ k. bytes_eq q (name k)) es w → IsSome (lookup (λ k. bytes_eq q (name k)) es) →
-      stored (named name new) bs ≡ record s { forms = with_entry q w s.forms }
+  written : (q : List ℕ) (w : Option Form) (new : Entries) → new ≡ set_value (bytes_eq q) es w → IsSome (lookup (bytes_eq q) es) →
+      stored new bs ≡ record s { forms = with_entry q w s.forms }
   written q w new e some =
-      let same : named name new ≡ set_value (bytes_eq q) (named name es) w = ap (named name) e ∙ set_value-named name (bytes_eq q) es w in
-      let there : IsSome (lookup (bytes_eq q) (named name es)) = ap is_some (lookup-named name (bytes_eq q) es) ∙ some in
-      ap (λ xs. stored xs bs) same
-      ∙ ap (λ (f : Forms). let t : Stored = record { forms = f; blocks = bs.blocks; spare = bs.spare; known = known_of (set_value (bytes_eq q) (named name es) w) } in t) (forms_written (named name es) q w there)
-      ∙ ap (λ (n : Names). let t : Stored = record { forms = with_entry q w (forms_of (named name es)); blocks = bs.blocks; spare = bs.spare; known = n } in t) (known_written (named name es) q w)
+      ap (λ xs. stored xs bs) e
+      ∙ ap (λ (f : Forms). let t : Stored = record { forms = f; blocks = bs.blocks; spare = bs.spare; known = known_of (set_value (bytes_eq q) es w) } in t) (forms_written es q w some)
+      ∙ ap (λ (n : Names). let t : Stored = record { forms = with_entry q w (forms_of es); blocks = bs.blocks; spare = bs.spare; known = n } in t) (known_written es q w)
       ∙ ap (λ (t : Stored). let u : Stored = record t { forms = with_entry q w t.forms } in u) is
 
   -- what is written at a name's place, wherever the entries stand then
-  pub written_at : (q : List ℕ) (i : ℕ) (w : Option Form) (new : List (K × Option Form)) → position (λ k. bytes_eq q (name k)) (keys_of es) ≡ Some i →
-      IsDistinct (λ x y. bytes_eq (name x) (name y)) (keys_of es) → IsPermutation (set_value_at es i w) new → stored (named name new) bs ≡ record s { forms = with_entry q w s.forms }
+  pub written_at : (q : List ℕ) (i : ℕ) (w : Option Form) (new : Entries) → position (bytes_eq q) (keys_of es) ≡ Some i →
+      IsDistinct bytes_eq (keys_of es) → IsPermutation (set_value_at es i w) new → stored new bs ≡ record s { forms = with_entry q w s.forms }
   written_at q i w new found apart moves =
-      let test : K → Bool = λ k. bytes_eq q (name k) in
-      let there : set_value_at es i w ≡ set_value test es w = written_first test es i w found in
-      let distinct : IsDistinct (λ x y. bytes_eq (name x) (name y)) (keys_of (set_value_at es i w)) =
-      subst (λ (ks : List K). IsDistinct (λ x y. bytes_eq (name x) (name y)) ks) (sym (ap keys_of there ∙ keys-set_value test es w)) apart in
-      stored_moved (named name (set_value_at es i w)) (named name new) bs (IsDistinct-named name (set_value_at es i w) distinct)
-      (IsPermutation-map (λ e. (name e.0, e.1)) (set_value_at es i w) new moves)
-      ∙ written q w (set_value_at es i w) there (sym (some_index test es) ∙ ap is_some found)
+      let there : set_value_at es i w ≡ set_value (bytes_eq q) es w = written_first (bytes_eq q) es i w found in
+      let distinct : IsDistinct bytes_eq (keys_of (set_value_at es i w)) =
+      subst (λ (ks : List (List ℕ)). IsDistinct bytes_eq ks) (sym (ap keys_of there ∙ keys-set_value (bytes_eq q) es w)) apart in
+      stored_moved (set_value_at es i w) new bs distinct moves
+      ∙ written q w (set_value_at es i w) there (sym (some_index (bytes_eq q) es) ∙ ap is_some found)
 
-  -- where a name has no entry, no form is taken
-  pub not_taken : (q : List ℕ) → lookup (λ k. bytes_eq q (name k)) es ≡ None → s ≡ record s { forms = finite.remove s.forms q }
-  not_taken q none =
-      let gone : finite.remove (forms_of (named name es)) q ≡ forms_of (named name es) =
-      forms_not_taken (named name es) q (lookup-named name (bytes_eq q) es ∙ none) in
-      sym is
-      ∙ ap (λ (f : Forms). let t : Stored = record { forms = f; blocks = bs.blocks; spare = bs.spare; known = known_of (named name es) } in t) (sym gone)
-      ∙ ap (λ (t : Stored). let u : Stored = record t { forms = finite.remove t.forms q } in u) is
+  -- where a name has no entry, it has no form, none is taken and none is changed
+  module _ (q : List ℕ) (none : is_some (lookup (bytes_eq q) es) ≡ false) where
+    pub no_form : finite.get s.forms q ≡ None
+    no_form = form_found q None (sym (none_of_false (lookup (bytes_eq q) es) none))
 
-  -- where a name has no form, none is changed
-  pub none_changed : (q : List ℕ) (change : Form → Form) → finite.get s.forms q ≡ None → s ≡ record s { forms = changed_at q change s.forms }
-  none_changed q change none =
-      ap (λ (found : Option Form). let t : Stored = record s { forms = changing q change found s.forms } in t) (sym none)
+    pub not_taken : s ≡ record s { forms = finite.remove s.forms q }
+    not_taken = ap (λ (f : Forms). let t : Stored = record s { forms = f } in t) (sym (nothing_taken s.forms q no_form))
+
+    pub none_changed : (change : Form → Form) → s ≡ record s { forms = changed_at q change s.forms }
+    none_changed change = ap (λ (found : Option Form). let t : Stored = record s { forms = changing q change found s.forms } in t) (sym no_form)
 
   -- a form is changed in its entry
-  pub changed_in_place : (q : List ℕ) (i : ℕ) (change : Form → Form) (found : Option Form) (new : List (K × Option Form)) →
-      position (λ k. bytes_eq q (name k)) (keys_of es) ≡ Some i → IsDistinct (λ x y. bytes_eq (name x) (name y)) (keys_of es) →
-      finite.get s.forms q ≡ found → new ≡ set_value_at es i (option_map change found) → stored (named name new) bs ≡ record s { forms = changed_at q change s.forms }
-  changed_in_place q i change found new at apart is written_there =
-      written_at q i (option_map change found) new at apart (subst (IsPermutation (set_value_at es i (option_map change found))) (sym written_there) (IsPermutation-refl (set_value_at es i (option_map change found))))
-      ∙ ap (λ (o : Option Form). let t : Stored = record s { forms = with_entry q (option_map change o) s.forms } in t) (sym is)
+  pub changed_in_place : (q : List ℕ) (i : ℕ) (change : Form → Form) (r : Option (Option Form)) (new : Entries) →
+      position (bytes_eq q) (keys_of es) ≡ Some i → IsDistinct bytes_eq (keys_of es) → r ≡ lookup (bytes_eq q) es →
+      new ≡ set_value_at es i (option_map change (option_flatten r)) → stored new bs ≡ record s { forms = changed_at q change s.forms }
+  changed_in_place q i change r new at apart found written_there =
+      let w = option_map change (option_flatten r) in
+      written_at q i w new at apart (subst (IsPermutation (set_value_at es i w)) (sym written_there) (IsPermutation-refl (set_value_at es i w)))
+      ∙ ap (λ (o : Option Form). let t : Stored = record s { forms = with_entry q (option_map change o) s.forms } in t) (sym (form_found q r found))
       ∙ ap (λ (forms : Forms). let t : Stored = record s { forms = forms } in t) (with_changed q change s.forms)
 
   -- a new name, which has no form
-  pub made_known : (k : K) (new : List (K × Option Form)) → new ≡ es ++ (k, None) ∷ [] → stored (named name new) bs ≡ record s { known = set.insert s.known (name k) }
-  made_known k new e =
-      let q = name k in
-      ap (λ xs. stored xs bs) (ap (named name) e ∙ map_push (λ x. (name x.0, x.1)) es (k, None))
-      ∙ ap (λ (f : Forms). let t : Stored = record { forms = f; blocks = bs.blocks; spare = bs.spare; known = known_of (named name es ++ (q, None) ∷ []) } in t) (forms_known (named name es) q)
-      ∙ ap (λ (n : Names). let t : Stored = record { forms = forms_of (named name es); blocks = bs.blocks; spare = bs.spare; known = n } in t) (known_more (named name es) q)
+  pub made_known : (q : List ℕ) (new : Entries) → new ≡ es ++ (q, None) ∷ [] → stored new bs ≡ record s { known = set.insert s.known q }
+  made_known q new e =
+      ap (λ xs. stored xs bs) e
+      ∙ ap (λ (f : Forms). let t : Stored = record { forms = f; blocks = bs.blocks; spare = bs.spare; known = known_of (es ++ (q, None) ∷ []) } in t) (forms_known es q)
+      ∙ ap (λ (n : Names). let t : Stored = record { forms = forms_of es; blocks = bs.blocks; spare = bs.spare; known = n } in t) (known_more es q)
       ∙ ap (λ (t : Stored). let u : Stored = record t { known = set.insert t.known q } in u) is
 
   -- entries without a form dropped
-  pub emptied : (new : List (K × Option Form)) → new ≡ filter (λ e. is_some e.1) es → IsDistinct (λ x y. bytes_eq (name x) (name y)) (keys_of es) → stored (named name new) bs ≡ swept s
+  pub emptied : (new : Entries) → new ≡ filter (λ e. is_some e.1) es → IsDistinct bytes_eq (keys_of es) → stored new bs ≡ swept s
   emptied new e apart =
-      let distinct = IsDistinct-named name es apart in
-      ap (λ xs. stored xs bs) (ap (named name) e ∙ filter-named name is_some es)
-      ∙ ap (λ (f : Forms). let t : Stored = record { forms = f; blocks = bs.blocks; spare = bs.spare; known = known_of (filter (λ x. is_some x.1) (named name es)) } in t) (forms_swept (named name es) distinct)
-      ∙ ap (λ (n : Names). let t : Stored = record { forms = forms_of (named name es); blocks = bs.blocks; spare = bs.spare; known = n } in t) (known_swept (named name es) distinct)
+      ap (λ xs. stored xs bs) e
+      ∙ ap (λ (f : Forms). let t : Stored = record { forms = f; blocks = bs.blocks; spare = bs.spare; known = known_of (filter (λ x. is_some x.1) es) } in t) (forms_swept es apart)
+      ∙ ap (λ (n : Names). let t : Stored = record { forms = forms_of es; blocks = bs.blocks; spare = bs.spare; known = n } in t) (known_swept es apart)
       ∙ ap swept is
 
   -- all forms taken away
-  pub cleared : (new : List (K × Option Form)) → new ≡ taken es → stored (named name new) bs ≡ record s { forms = finite.empty }
+  pub cleared : (new : Entries) → new ≡ taken es → stored new bs ≡ record s { forms = finite.empty }
   cleared new e =
-      ap (λ xs. stored (named name xs) bs) e
-      ∙ ap (λ (f : Forms). let t : Stored = record { forms = f; blocks = bs.blocks; spare = bs.spare; known = known_of (named name (taken es)) } in t) (no_forms name es)
-      ∙ ap (λ (ks : List (List ℕ)). let t : Stored = record { forms = finite.empty; blocks = bs.blocks; spare = bs.spare; known = set.from_list ks } in t) (keys-taken name es)
+      ap (λ xs. stored xs bs) e
+      ∙ ap (λ (f : Forms). let t : Stored = record { forms = f; blocks = bs.blocks; spare = bs.spare; known = known_of (taken es) } in t) (no_forms es)
+      ∙ ap (λ (ks : List (List ℕ)). let t : Stored = record { forms = finite.empty; blocks = bs.blocks; spare = bs.spare; known = set.from_list ks } in t) (keys-taken es)
       ∙ ap (λ (t : Stored). let u : Stored = record t { forms = finite.empty } in u) is
 
   -- how many forms there are
-  pub counted : IsDistinct (λ x y. bytes_eq (name x) (name y)) (keys_of es) → finite.len s.forms ≡ length (filter (λ e. is_some e.1) es)
-  counted apart =
-      ap (λ (t : Stored). finite.len t.forms) (sym is)
-      ∙ len-forms_of (named name es) (IsDistinct-named name es apart)
-      ∙ ap length (sym (filter-named name is_some es))
-      ∙ length-map (filter (λ e. is_some e.1) es) (λ e. (name e.0, e.1))
-
--- what is not there is none
-pub none_of_false : {X : Type 0} (o : Option X) → is_some o ≡ false → o ≡ None
-none_of_false None h = refl
-none_of_false (Some x) h = absurd (cc)
+  pub counted : IsDistinct bytes_eq (keys_of es) → finite.len s.forms ≡ length (filter (λ e. is_some e.1) es)
+  counted apart = ap (λ (t : Stored). finite.len t.forms) (sym is) ∙ len-forms_of es apart
 
 -- what follows holds where nothing is there, and what holds anyway holds where something is
 pub if_none : {R : Type 0} (P Q : Type 0) (o : Option R) → (P → Q) → IfNone o P → IfNone o Q

@@ -1,22 +1,21 @@
 //! What segmenting cuts: the gaps that it makes, kept so that they can be filled again.
 ghost use Rattle.std.specs.Prelude.{◌≡◌, ◌+◌, ◌++◌, ◌<◌, ◌≤◌, ◌∷◌, [], length, take, drop, is_some, option_map, Some};
-ghost use Rattle.std.specs.Prelude.{IfOk, IfSome, IsOkUnless, IsTrue};
+ghost use Rattle.std.specs.Prelude.{IfOk, IfSome, IsOkUnless, IsTrue, OnOk};
 ghost use Rattle.std.specs.List.{All};
 ghost use Rattle.trac_gap.specs.Ends.{item_count};
-ghost use Rattle.trac_rules.specs.Cuts.{begins_with_gap, cut_between, cut_of, joined};
-ghost use Rattle.trac_rules.specs.Form.{IsWide, all_items, as_items, at_start, defined, extent};
+ghost use Rattle.trac_rules.specs.Cuts.{cut_of, joined};
+ghost use Rattle.trac_rules.specs.Form.{all_items, as_items, at_start, defined};
 ghost use Rattle.trac_rules.specs.Segmenting.{segmented};
-ghost use Rattle.trac_rules.specs.Weights.{gap_count};
 ghost use Rattle.trac_rules.specs.declared.item.Item.TheVariants.{Gap};
 ghost use Rattle.trac_forms.specs.Layout.{IsKept, divided};
+ghost use Rattle.trac_forms.specs.RunGaps.{AreWithin, IsOld, gapped};
 
 use crate::byte_runs::put_text;
-use crate::cutting::push_item;
 use crate::error::FormError;
 use crate::filling::text;
 use crate::form::{Form, Items, pack};
 use crate::packed::PackedItem;
-use crate::run_gaps::cut_run;
+use crate::run_gaps::{RunGap, cut_run, push_item};
 use crate::text_lists::Texts;
 use std::alloc::{Allocator, Global};
 use std::marker::Model;
@@ -61,9 +60,9 @@ impl<A: Allocator + Copy> Form<A> {
         ensures err { IsOkUnless result FormError.Memory }
     {
         let Some(run) = self.whole_text() else {
-            return self.cut_among_items(texts);
+            return self.cut_apart(texts);
         };
-        let gaps = cut_run(self.alloc, texts, run)?;
+        let gaps = cut_run(self.alloc, texts, run, Vec::new(self.alloc))?;
         Ok(Cut { gaps })
     }
 
@@ -91,7 +90,7 @@ impl<A: Allocator + Copy> Form<A> {
         fill_gaps(&mut self.items, cut.gaps(), texts);
     }
 
-    // The text of the whole form, where it is kept as one. None is always allowed: then the items are gone over.
+    // The text of the whole form, where it is kept as one. None is always allowed: then its bytes are copied.
     fn whole_text(&self) -> Option<&[u8]>
         ensures whole { IfSome result (λ run. self.now ≡ defined run.now) }
         ensures fits { IfSome result (λ run. length run.now ≤ FORM_LIMIT) }
@@ -102,75 +101,53 @@ impl<A: Allocator + Copy> Form<A> {
         None
     }
 
-    // What segmenting with these texts would cut: by the form's items, and by what these are once
-    // the texts are cut out.
-    fn cut_among_items<T: Texts>(&self, texts: &T) -> Result<Cut<A>, FormError>
+    // What segmenting with these texts would cut, by a copy of the bytes and the gaps between them.
+    fn cut_apart<T: Texts>(&self, texts: &T) -> Result<Cut<A>, FormError>
         requires { length (T.texts texts.now) ≤ MARK_LIMIT }
         ensures cut { IfOk result (λ c. c ≡ cut_of (T.texts texts.now) self.now) }
         ensures err { IsOkUnless result FormError.Memory }
     {
-        let items = self.items_without(texts)?;
-        let gaps = self.gaps_made(items.as_slice())?;
+        let mut run = Vec::with_capacity(self.alloc, self.len())?;
+        let mut gaps = Vec::new(self.alloc);
+        self.take_apart(&mut run, &mut gaps)?;
+        let gaps = cut_run(self.alloc, texts, run.as_slice(), gaps)?;
         Ok(Cut { gaps })
     }
 
-    // The gaps that these items have where the form has bytes.
-    fn gaps_made(&self, items: &[PackedItem]) -> Result<Vec<CutGap, A>, FormError>
-        requires within { extent items.now ≤ FORM_LIMIT }
-        requires wide { All IsWide items.now }
-        ensures made { IfOk result (λ gaps. gaps.items ≡ cut_between 0 (all_items self.now) items.now) }
+    // Puts the bytes of the form into `run` and its gaps into `gaps`; both are empty before.
+    fn take_apart(&self, run: &mut Vec<u8, A>, gaps: &mut Vec<RunGap, A>) -> Result<(), FormError>
+        requires run { run.old.items ≡ [] }
+        requires gaps { gaps.old.items ≡ [] }
+        ensures items { OnOk result (gapped run.new.items gaps.new.items ≡ all_items self.now) }
+        ensures fits { OnOk result (length run.new.items ≤ FORM_LIMIT) }
+        ensures within { OnOk result (AreWithin (length run.new.items) gaps.new.items) }
+        ensures old { OnOk result (All IsOld gaps.new.items) }
         ensures err { IsOkUnless result FormError.Memory }
     {
-        let count = gaps_among(items)
-            .saturating_sub(gaps_among(self.before()))
-            .saturating_sub(gaps_among(self.after().items));
-        let mut gaps = Vec::with_capacity(self.alloc, count)?;
-        // how many items of the form the items so far stand for
-        let mut old = 0;
-        for place in 0..items.len() {
-            let Item::Gap { ordinal, width } = items[place].item() else {
-                old += 1;
-                continue;
+        // how many bytes stand before the last gap
+        let mut before = 0;
+        for i in 0..self.len() {
+            let Some(item) = self.item(i) else {
+                unreachable!();
             };
-            if self.has_gap(old) {
-                old += 1;
-                continue;
+            match item {
+                Item::Byte(b) => {
+                    push_item(b, run)?;
+                    continue;
+                }
+                Item::Gap { ordinal, width } => {
+                    let gap = RunGap {
+                        passed: (run.len() - before) as u32,
+                        taken: 0,
+                        width,
+                        ordinal,
+                    };
+                    push_item(gap, gaps)?;
+                }
             }
-            push_item(CutGap { place, ordinal }, &mut gaps)?;
-            old += width as usize;
+            before = run.len();
         }
-        Ok(gaps)
-    }
-
-    // Whether the item at this place is a gap.
-    fn has_gap(&self, place: usize) -> bool
-        ensures { result ≡ begins_with_gap (drop place (all_items self.now)) }
-    {
-        match self.packed(place) {
-            Some(item) => item.is_gap(),
-            None => false,
-        }
-    }
-}
-
-// How many of these items are gaps.
-fn gaps_among(items: &[PackedItem]) -> usize
-    ensures { result ≡ gap_count items.now }
-{
-    let mut count = 0;
-    for item in items {
-        count += gaps_in(*item);
-    }
-    count
-}
-
-// One for a gap.
-fn gaps_in(item: PackedItem) -> usize
-    ensures { result ≡ gap_count (item ∷ []) }
-{
-    match item.item() {
-        Item::Byte(_) => 0,
-        Item::Gap { .. } => 1,
+        Ok(())
     }
 }
 

@@ -7,7 +7,6 @@ mod after;
 pub mod block;
 mod byte_runs;
 pub mod cut;
-mod cutting;
 pub mod error;
 mod filling;
 pub mod form;

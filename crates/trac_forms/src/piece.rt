@@ -12,7 +12,6 @@ ghost use Rattle.trac_forms.specs.Taken.{IsThere, taken};
 
 use crate::after::After;
 use crate::byte_runs::run_len;
-use crate::cutting::end_run;
 use crate::error::FormError;
 use crate::form::Form;
 use crate::packed::PackedItem;
@@ -374,6 +373,13 @@ fn search<A: Allocator>(
         end_run(run);
     }
     Ok(place_in_run(finder, run.as_slice(), start))
+}
+
+// Ends a run of bytes at a gap: what comes after it is searched by itself.
+fn end_run<A: Allocator>(run: &mut Vec<u8, A>)
+    ensures { run.new.items ≡ [] }
+{
+    run.clear();
 }
 
 // The first place of a text in a run of bytes that begins at `start`, if it occurs there.

@@ -1,11 +1,10 @@
-//! Segmenting a form that is one run of bytes: the gaps are found in the run itself, and no byte is moved.
-ghost use Rattle.std.specs.Prelude.{◌≡◌, ◌<◌, ◌≤◌, [], length, IfOk, IsOkUnless, OnOk};
-ghost use Rattle.trac_rules.specs.Cuts.{cut_of};
-ghost use Rattle.trac_rules.specs.Form.{as_items, defined};
+//! Segmenting a form, as the run of its bytes and gaps in it: gaps are found in the run itself, and no byte is moved.
+ghost use Rattle.std.specs.Prelude.{◌≡◌, ◌++◌, ◌<◌, ◌≤◌, ◌∷◌, [], length, IfOk, IsOkUnless, OnOk};
+ghost use Rattle.std.specs.List.{All};
+ghost use Rattle.trac_rules.specs.Cuts.{cut_between};
 ghost use Rattle.trac_rules.specs.Segmenting.{cut_out, segmented_from};
-ghost use Rattle.trac_forms.specs.RunGaps.{AreWithin, IsCutOut, gapped, gaps_from};
+ghost use Rattle.trac_forms.specs.RunGaps.{AreWithin, IsCutOut, IsOld, earlier, gapped, gaps_from, placed};
 
-use crate::cutting::push_item;
 use crate::error::FormError;
 use crate::text_lists::Texts;
 use memchr::memmem::Finder;
@@ -13,51 +12,39 @@ use std::alloc::Allocator;
 use trac_rules::item::CutGap;
 use trac_rules::limit::{FORM_LIMIT, MARK_LIMIT};
 
-/// A gap that is made in a run of bytes.
+/// A gap in a run of bytes.
 #[derive(Clone, Copy)]
 pub(crate) struct RunGap {
     /// How many bytes stand before it, after the gap before it.
     pub(crate) passed: u32,
-    /// How many bytes it takes.
+    /// How many bytes of the run it takes: none if it was there before, else as many as it is wide.
+    pub(crate) taken: u32,
     pub(crate) width: u32,
     pub(crate) ordinal: u32,
 }
 
-/// The gaps that segmenting a form of this run with these texts would make.
+/// The gaps that segmenting a form of this run and these gaps with these texts would make.
 pub(crate) fn cut_run<T: Texts, A: Allocator + Copy>(
     alloc: A,
     texts: &T,
     run: &[u8],
+    old: Vec<RunGap, A>,
 ) -> Result<Vec<CutGap, A>, FormError>
     requires count { length (T.texts texts.now) ≤ MARK_LIMIT }
     requires fits { length run.now ≤ FORM_LIMIT }
-    ensures cut { IfOk result (λ gaps. gaps.items ≡ cut_of (T.texts texts.now) (defined run.now)) }
+    requires within { AreWithin (length run.now) old.items }
+    requires old { All IsOld old.items }
+    ensures cut { IfOk result (λ gaps. gaps.items ≡ cut_between 0 (gapped run.now old.items)
+        (segmented_from 1 (T.texts texts.now) (gapped run.now old.items))) }
     ensures err { IsOkUnless result FormError.Memory }
 {
-    let gaps = gaps_in_run(alloc, texts, run)?;
-    places_of(alloc, gaps.as_slice())
-}
-
-// The gaps that these texts make in turn.
-fn gaps_in_run<T: Texts, A: Allocator + Copy>(
-    alloc: A,
-    texts: &T,
-    run: &[u8],
-) -> Result<Vec<RunGap, A>, FormError>
-    requires count { length (T.texts texts.now) ≤ MARK_LIMIT }
-    requires fits { length run.now ≤ FORM_LIMIT }
-    ensures cut { IfOk result (λ gaps.
-        gapped run.now gaps.items ≡ segmented_from 1 (T.texts texts.now) (as_items run.now)) }
-    ensures within { IfOk result (λ gaps. AreWithin (length run.now) gaps.items) }
-    ensures err { IsOkUnless result FormError.Memory }
-{
-    let mut gaps = Vec::new(alloc);
+    let mut gaps = old;
     let mut number = 0;
     for i in 0..texts.count() {
         number += 1;
         gaps = with_text(alloc, number, texts.get(i), run, gaps)?;
     }
-    Ok(gaps)
+    places_of(alloc, gaps.as_slice())
 }
 
 // The gaps with those of the text of this number; an empty text makes none.
@@ -71,6 +58,7 @@ fn with_text<A: Allocator + Copy>(
     requires fits { length run.now ≤ FORM_LIMIT }
     requires within { AreWithin (length run.now) gaps.items }
     ensures cut { IfOk result (λ out. gapped run.now out.items ≡ cut_out number text.now (gapped run.now gaps.items)) }
+    ensures old { IfOk result (λ out. earlier 0 out.items ≡ earlier 0 gaps.items) }
     ensures within { IfOk result (λ out. AreWithin (length run.now) out.items) }
     ensures err { IsOkUnless result FormError.Memory }
 {
@@ -92,6 +80,7 @@ fn with_more<A: Allocator + Copy>(
     requires fits { length run.now ≤ FORM_LIMIT }
     requires within { AreWithin (length run.now) gaps.now }
     ensures cut { IfOk result (λ out. gapped run.now out.items ≡ cut_out number text.now (gapped run.now gaps.now)) }
+    ensures old { IfOk result (λ out. earlier 0 out.items ≡ earlier 0 gaps.now) }
     ensures within { IfOk result (λ out. AreWithin (length run.now) out.items) }
     ensures err { IsOkUnless result FormError.Memory }
 {
@@ -113,6 +102,7 @@ fn gaps_into<A: Allocator>(
     requires within { AreWithin (length run.now) gaps.now }
     requires empty { out.old.items ≡ [] }
     ensures cut { OnOk result (gapped run.now out.new.items ≡ cut_out number text.now (gapped run.now gaps.now)) }
+    ensures old { OnOk result (earlier 0 out.new.items ≡ earlier 0 gaps.now) }
     ensures within { OnOk result (AreWithin (length run.now) out.new.items) }
     ensures err { IsOkUnless result FormError.Memory }
 {
@@ -126,7 +116,7 @@ fn gaps_into<A: Allocator>(
             ..*gap
         };
         push_item(moved, out)?;
-        rest = after.split_at(gap.width as usize).1;
+        rest = after.split_at(gap.taken as usize).1;
     }
     new_gaps_into(number, text, &finder, rest, out)?;
     Ok(())
@@ -151,6 +141,7 @@ fn new_gaps_into<A: Allocator>(
     'occurrences: while let Some(passed) = finder.find(rest) {
         let gap = RunGap {
             passed: passed as u32,
+            taken: text.len() as u32,
             width: text.len() as u32,
             ordinal: number,
         };
@@ -160,7 +151,7 @@ fn new_gaps_into<A: Allocator>(
     Ok(rest.len())
 }
 
-// The places of these gaps, among the items that the run is with them.
+// The places of those of these gaps that are made, among the items that the run is with all of them.
 fn places_of<A: Allocator + Copy>(alloc: A, gaps: &[RunGap]) -> Result<Vec<CutGap, A>, FormError>
     requires { AreWithin FORM_LIMIT gaps.now }
     ensures places { IfOk result (λ places. places.items ≡ gaps_from 0 gaps.now) }
@@ -170,12 +161,38 @@ fn places_of<A: Allocator + Copy>(alloc: A, gaps: &[RunGap]) -> Result<Vec<CutGa
     let mut place = 0;
     for gap in gaps {
         place += gap.passed as usize;
-        let made = CutGap {
-            place,
-            ordinal: gap.ordinal,
-        };
-        push_item(made, &mut places)?;
+        push_place(place, *gap, &mut places)?;
         place += 1;
     }
     Ok(places)
+}
+
+// Puts a gap with its place at the end of `places`, if it is made.
+fn push_place<A: Allocator>(
+    place: usize,
+    gap: RunGap,
+    places: &mut Vec<CutGap, A>,
+) -> Result<(), FormError>
+    ensures ok { OnOk result (places.new.items ≡ places.old.items ++ placed place gap) }
+    ensures err { IsOkUnless result FormError.Memory }
+{
+    if gap.taken == 0 {
+        return Ok(());
+    }
+    let made = CutGap {
+        place,
+        ordinal: gap.ordinal,
+    };
+    push_item(made, places)
+}
+
+// Puts an item at the end of `out`.
+pub(crate) fn push_item<T: Copy, A: Allocator>(
+    item: T,
+    out: &mut Vec<T, A>,
+) -> Result<(), FormError>
+    ensures ok { OnOk result (out.new.items ≡ out.old.items ++ item ∷ []) }
+    ensures err { IsOkUnless result FormError.Memory }
+{
+    out.push(item).map_err(|_| FormError::Memory)
 }

@@ -19,7 +19,7 @@ ghost use Rattle.trac_rules.specs.Segmenting.{segmented};
 ghost use Rattle.trac_forms.specs.Layout.{IsSound};
 ghost use Rattle.trac_forms.specs.Listed.{AreMissed, IsHit, IsListed, lesser_len, listed_len};
 ghost use Rattle.trac_forms.specs.Stored.{KnowsAll, changed_at, nothing_stored, swept, unsegmented};
-ghost use Rattle.trac_forms.specs.Table.{IsParted, full_keys, named};
+ghost use Rattle.trac_forms.specs.Table.{IsParted, full_keys};
 
 use crate::block::Block;
 use crate::cut::Cut;
@@ -53,13 +53,13 @@ pub struct Store<A: Allocator + Copy = Global> {
 
 impl<A: Allocator + Copy> Model for Store<A> {
     ghost use Rattle.trac_forms.specs.Stored.{Stored, stored_code};
-    ghost use Rattle.trac_forms.specs.Table.{kept_in, named, stored, IsParted};
+    ghost use Rattle.trac_forms.specs.Table.{kept_in, stored, IsParted};
 
     ghost Value = { Stored };
 
     ghost coded = { stored_code };
 
-    ghost view = { λ s. stored (named (λ k. k) s.table.entries) (kept_in s.blocks) };
+    ghost view = { λ s. stored s.table.entries (kept_in s.blocks) };
 
     ghost invariant = { λ s. IsParted s.table.entries s.live };
 }
@@ -481,7 +481,7 @@ fn drop_empty<K: Eq + Hash + Drop, V: Drop, S: BuildHasher, A: Allocator>(
 // The names of the entries that have a form, in the order of the table.
 fn full_names<A: Allocator + Copy>(table: &Table<A>) -> Result<Vec<&[u8], A>, FormError>
     ensures names { IfOk result
-        (λ names. map (λ name. name.now) names.items ≡ full_keys (named (λ k. k) table.now.entries)) }
+        (λ names. map (λ name. name.now) names.items ≡ full_keys table.now.entries) }
     ensures err { IsOkUnless result FormError.Memory }
     ensures unique { IsUnique (λ x y. bytes_eq x y) table.now }
 {
@@ -513,8 +513,8 @@ impl<A: Allocator + Copy> Store<A> {
 
 // The same, of the entries that have a form.
 fn byte_in_list<A: Allocator + Copy>(table: &Table<A>, text: usize, i: usize) -> Option<usize>
-    ensures { MatchOption result (AreMissed text i (full_keys (named (λ k. k) table.now.entries)))
-        (IsHit text i (full_keys (named (λ k. k) table.now.entries))) }
+    ensures { MatchOption result (AreMissed text i (full_keys table.now.entries))
+        (IsHit text i (full_keys table.now.entries)) }
 {
     for (name, held) in table.iter() {
         if held.is_none() {
@@ -537,8 +537,8 @@ fn past_lesser<A: Allocator + Copy>(
     text: usize,
     i: usize,
 ) -> Option<usize>
-    ensures { MatchOption result (i < lesser_len text name.now (full_keys (named (λ k. k) table.now.entries)))
-        (λ byte. lesser_len text name.now (full_keys (named (λ k. k) table.now.entries)) + byte ≡ i) }
+    ensures { MatchOption result (i < lesser_len text name.now (full_keys table.now.entries))
+        (λ byte. lesser_len text name.now (full_keys table.now.entries) + byte ≡ i) }
 {
     let mut left = i;
     for (other, held) in table.iter() {

@@ -10,13 +10,11 @@ use Rattle.std.specs.Char.{digit_value, is_ascii_digit}
 use Rattle.std.specs.Str.{all_ascii_digits}
 use Rattle.std.specs.Str.Parse.{AllDigits, digits_value, digits_value_after}
 
--- each of them is a digit
 pub digit_at : (ds : List ℕ) (i : ℕ) → all_ascii_digits ds ≡ true → i < length ds → is_ascii_digit (get_or ds i 0) ≡ true
 digit_at [] i t l = absurd (omega arith)
 digit_at (d ∷ ds) zero t l = (and_parts (is_ascii_digit d) (all_ascii_digits ds) t).0
 digit_at (d ∷ ds) (suc i) t l = digit_at ds i (and_parts (is_ascii_digit d) (all_ascii_digits ds) t).1 (omega arith)
 
--- a tail of them are digits
 pub digits_drop : (n : ℕ) (ds : List ℕ) → all_ascii_digits ds ≡ true → all_ascii_digits (drop n ds) ≡ true
 digits_drop zero ds t = t
 digits_drop (suc n) [] t = refl
@@ -32,7 +30,6 @@ digits_before text k p l d t =
     let next : k ≡ k - 1 + 1 = omega arith in
     digits_more text (k - 1) (omega arith) d (subst (λ n. all_ascii_digits (drop n text) ≡ true) next t)
 
--- in std's words
 pub all_digits_from : (ds : List ℕ) → all_ascii_digits ds ≡ true → AllDigits 10 ds
 all_digits_from ds t = (numerals_by_value (λ xs. all_ascii_digits xs ≡ true) tells_all_ascii_digits).to ds t
 
@@ -49,7 +46,6 @@ digit_worth b t =
 shared_out : (n w p : ℕ) → (n * 10 + w) * p ≡ n * (p * 10) + (0 * 10 + w) * p
 shared_out n w p = omega arith
 
--- what stands before the digits weighs as much as they are many
 pub value_after : (n : ℕ) (ds : List ℕ) → digits_value_after 10 n ds ≡ n * 10 ^ length ds + digits_value 10 ds
 value_after n [] = omega arith
 value_after n (d ∷ ds) =
@@ -58,10 +54,8 @@ value_after n (d ∷ ds) =
     let power : 10 ^ suc (length ds) ≡ 10 ^ length ds * 10 = pow-suc 10 (length ds) in
     rw power (omega (arith, whole, first, shared_out n (digit_value d) (10 ^ length ds)))
 
--- the first digit and the others
 pub value_first : (d : ℕ) (ds : List ℕ) → digits_value 10 (d ∷ ds) ≡ digit_value d * 10 ^ length ds + digits_value 10 ds
 value_first d ds = value_after (0 * 10 + digit_value d) ds ∙ ap (λ n. n * 10 ^ length ds + digits_value 10 ds) (omega arith)
 
--- they write less than the power that has one digit more
 pub value_below : (ds : List ℕ) → all_ascii_digits ds ≡ true → digits_value 10 ds < 10 ^ length ds
 value_below ds t = digits_value-lt 10 ds (all_digits_from ds t)

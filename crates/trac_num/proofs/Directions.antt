@@ -13,7 +13,6 @@ not_below : (z by : ℤ) (count : ℕ) → z ≡ by → lt_z z (pos 0) ≡ false
 not_below (pos n) by count e l s = sym e ∙ ap pos (sym s)
 not_below (negsuc n) by count e l s = absurd (true≢false l)
 
--- a number below zero, with its size less one
 below : (z by : ℤ) (count : ℕ) → z ≡ by → lt_z z (pos 0) ≡ true → count ≡ unsigned_abs z → (n : ℕ) × (count ≡ suc n) × (by ≡ negsuc n)
 below (pos n) by count e l s = absurd (omega (arith, ltb-true n 0 l))
 below (negsuc n) by count e l s = (n, s, sym e)

@@ -83,7 +83,6 @@ octal-union left right short hl hs =
 
 -- ---- and
 
--- the last digits of a text have the last bits
 last_digits : (a : List ℕ) (n m : ℕ) → m ≡ 3 * n → n ≤ length a → bits_of (drop (length a - n) a) ≡ last_bits m (bits_of a)
 last_digits a n m e l =
     let cut : 3 * (length a - n) ≡ length (bits_of a) - m = omega (arith, e, l, length-bits_of a) in

@@ -101,7 +101,6 @@ at_least : (a p u : ℕ) → 0 < a → p ≤ a * p + u
 at_least (suc a) p u l = omega arith
 at_least zero p u l = absurd (omega arith)
 
--- digits without a leading zero write a number that has as many
 pub value_above : (d : ℕ) (ds : List ℕ) → IsMagnitude (d ∷ ds) → 10 ^ length ds ≤ digits_value 10 (d ∷ ds)
 value_above d ds form =
     let parts = and_parts (is_ascii_digit d) (all_ascii_digits ds) form.all_digits in
@@ -109,7 +108,6 @@ value_above d ds form =
     let some : 0 < digit_value d = omega (arith, worth.0, worth.2, form.no_zero (omega arith)) in
     omega (arith, value_first d ds, at_least (digit_value d) (10 ^ length ds) (digits_value 10 ds) some)
 
--- the longer list writes the larger number
 pub longer_is_larger : (xs ys : List ℕ) → IsMagnitude xs → IsMagnitude ys → length ys < length xs → digits_value 10 ys < digits_value 10 xs
 longer_is_larger [] ys fx fy l = absurd (omega arith)
 longer_is_larger (x ∷ xs) ys fx fy l =

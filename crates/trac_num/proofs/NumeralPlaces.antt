@@ -28,7 +28,6 @@ not_across text k j other l within =
     let digit = digit_inside (drop j text) (k - j) t (omega arith) (omega (arith, length-drop j text)) in
     false≢true (sym other ∙ rw here at digit))
 
--- nor at one, if it is no sign
 not_at : (text : List ℕ) (k : ℕ) → is_ascii_digit (get_or text k 0) ≡ false → (get_or text k 0 ≡ 43 → ⊥) → (get_or text k 0 ≡ 45 → ⊥) → is_numeral (drop k text) ≡ false
 not_at text k other p m =
     false_from_ne_true (is_numeral (drop k text)) (λ t.
@@ -36,7 +35,6 @@ not_at text k other p m =
     let digit = digit_first (drop k text) t (λ e. p (sym here ∙ e)) (λ e. m (sym here ∙ e)) in
     false≢true (sym other ∙ rw here at digit))
 
--- nor at the last byte, if it is not a digit
 not_last : (text : List ℕ) (k : ℕ) → is_ascii_digit (get_or text k 0) ≡ false → k + 1 ≡ length text → is_numeral (drop k text) ≡ false
 not_last text k other last =
     false_from_ne_true (is_numeral (drop k text)) (λ t.
@@ -44,13 +42,11 @@ not_last text k other last =
     let digit = digit_last (drop k text) 0 t (omega (arith, length-drop k text)) in
     false≢true (sym other ∙ rw here at digit))
 
--- a text of digits is its numeral
 pub all_is_numeral : (text : List ℕ) → all_ascii_digits text ≡ true → drop 0 text ≡ numeral_of text
 unfolding numeral_of
 all_is_numeral [] t = refl
 all_is_numeral (b ∷ bs) t = sym (first_numeral (b ∷ bs) 0 (inl (numeral_of_digits (b ∷ bs) (omega arith) t)) (omega arith) (λ j l. absurd (omega arith)))
 
--- a text that ends with no digit has none
 pub end_is_numeral : (text : List ℕ) (n : ℕ) → n ≡ length text → 0 < n → is_ascii_digit (get_or text (n - 1) 0) ≡ false → drop n text ≡ numeral_of text
 unfolding numeral_of
 end_is_numeral text n e p other =

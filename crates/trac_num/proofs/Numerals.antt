@@ -35,24 +35,20 @@ sign_or_none text =
 
 -- ---- numerals
 
--- a sign and digits
 pub numeral_of_sign : (text : List ℕ) → 1 < length text → without_leading_sign text ≡ drop 1 text → all_ascii_digits (drop 1 text) ≡ true → is_numeral text ≡ true
 numeral_of_sign text l e t = rw e (and_from _ _ (lt-ltb 0 (length (drop 1 text)) (omega (arith, length-drop 1 text))) t)
 
--- digits alone
 pub numeral_of_digits : (text : List ℕ) → 0 < length text → all_ascii_digits text ≡ true → is_numeral text ≡ true
 numeral_of_digits text l t =
     let first = digit_worth (get_or text 0 0) (digit_at text 0 t l) in
     let same : without_leading_sign text ≡ text = without_sign text (λ e. omega (arith, first.0, e)) (λ e. omega (arith, first.0, e)) in
     rw same (and_from _ _ (lt-ltb 0 (length text) l) t)
 
--- a numeral has something after its sign, and digits alone
 pub numeral_parts : (text : List ℕ) → is_numeral text ≡ true → (0 < length (without_leading_sign text)) × (all_ascii_digits (without_leading_sign text) ≡ true)
 numeral_parts text t =
     let both = and_parts _ _ t in
     (ltb-true 0 (length (without_leading_sign text)) both.0, both.1)
 
--- after the first byte of a numeral there are digits alone
 pub digit_inside : (text : List ℕ) (i : ℕ) → is_numeral text ≡ true → 0 < i → i < length text → is_ascii_digit (get_or text i 0) ≡ true
 digit_inside text i t p l =
     let parts = numeral_parts text t in
@@ -66,14 +62,12 @@ digit_inside text i t p l =
     digit_at text i (rw s.2 at parts.1) l)
     (sign_or_none text)
 
--- the first byte is a digit too, where it is no sign
 pub digit_first : (text : List ℕ) → is_numeral text ≡ true → (get_or text 0 0 ≡ 43 → ⊥) → (get_or text 0 0 ≡ 45 → ⊥) → is_ascii_digit (get_or text 0 0) ≡ true
 digit_first text t p m =
     let parts = numeral_parts text t in
     let same : without_leading_sign text ≡ text = without_sign text p m in
     digit_at text 0 (rw same at parts.1) (rw same at parts.0)
 
--- the last byte of a numeral is a digit
 pub digit_last : (text : List ℕ) (i : ℕ) → is_numeral text ≡ true → i + 1 ≡ length text → is_ascii_digit (get_or text i 0) ≡ true
 digit_last text i t l =
     let parts = numeral_parts text t in
@@ -85,7 +79,6 @@ digit_last text i t l =
     digit_at text i (rw s.2 at parts.1) (omega arith))
     (sign_or_none text)
 
--- a numeral is a text of ASCII
 pub ascii_numeral : (text : List ℕ) → is_numeral text ≡ true → IsAscii text
 ascii_numeral text t i =
     ⊎_elim

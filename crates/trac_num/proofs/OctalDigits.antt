@@ -16,7 +16,6 @@ two b = is_odd ((b - ZERO) / 2)
 abbrev pub one : ℕ → Bool
 one b = is_odd (b - ZERO)
 
--- the digit of three bits has these bits
 pub digit_bits-digit_of : (x y z : Bool) → digit_bits (digit_of x y z) ≡ x ∷ y ∷ z ∷ []
 digit_bits-digit_of true true true = refl
 digit_bits-digit_of true true false = refl
@@ -27,7 +26,6 @@ digit_bits-digit_of false true false = refl
 digit_bits-digit_of false false true = refl
 digit_bits-digit_of false false false = refl
 
--- it is an octal digit
 pub digit_of_is_octal : (x y z : Bool) → is_octal_digit (digit_of x y z) ≡ true
 digit_of_is_octal true true true = refl
 digit_of_is_octal true true false = refl

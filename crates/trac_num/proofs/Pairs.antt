@@ -21,7 +21,6 @@ pairwise_more f xs ys i d e p q =
     (pairwise-append f (take i xs) (get_or xs i d ∷ []) (take i ys) (get_or ys i e ∷ [])
     (length-take-le i xs (omega arith) ∙ sym (length-take-le i ys (omega arith))))
 
--- the lists may change places where the two items may
 pub pairwise_comm : {X Z : Type 0} (f : X → X → Z) → ((x y : X) → f x y ≡ f y x) → (xs ys : List X) → pairwise f xs ys ≡ pairwise f ys xs
 pairwise_comm f turn [] [] = refl
 pairwise_comm f turn [] (y ∷ ys) = refl
@@ -32,7 +31,6 @@ or_false : (x : Bool) → (x || false) ≡ x
 or_false true = refl
 or_false false = refl
 
--- zeros set no bit
 pub or_zeros : (xs : List Bool) → pairwise ◌||◌ xs (replicate (length xs) false) ≡ xs
 or_zeros [] = refl
 or_zeros (x ∷ xs) = rw (or_false x, or_zeros xs) refl
@@ -41,6 +39,5 @@ or_zeros (x ∷ xs) = rw (or_false x, or_zeros xs) refl
 pub pairwise_next : (f : ℕ → ℕ → ℕ) (xs ys : List ℕ) (i : ℕ) → i < length xs → i < length ys → pairwise f (take (i + 1) xs) (take (i + 1) ys) ≡ pairwise f (take i xs) (take i ys) ++ f (get_or xs i 0) (get_or ys i 0) ∷ []
 pairwise_next f xs ys i p q = pairwise_more f xs ys i 0 0 p q
 
--- all places
 pub pairwise_all : (f : ℕ → ℕ → ℕ) (xs ys : List ℕ) (i : ℕ) → length xs ≡ length ys → length xs ≤ i → pairwise f (take i xs) (take i ys) ≡ pairwise f xs ys
 pairwise_all f xs ys i e l = rw (take_all i xs l, take_all i ys (omega (arith, e, l))) refl

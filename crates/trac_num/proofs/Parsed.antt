@@ -28,7 +28,6 @@ parsed_number width numeral (Err e) t h =
     let parts = numeral_parts numeral t in
     held_if_fits width None (signed_digits_value 10 numeral) (λ f. h ((parts.0, all_digits_from _ parts.1), f))
 
--- a number of 64 bits is that of any width, as the code makes it
 of_narrow_number : (width : Width) (numeral : List ℕ) (n : ℤ) → Some n ≡ number_of W64 numeral → Some n ≡ number_of width numeral
 of_narrow_number W64 numeral n e = e
 of_narrow_number W128 numeral n e = sym (narrow_number numeral n (sym e))
@@ -40,7 +39,6 @@ number_of_narrow {E} width numeral (Ok m) n t h was =
     rw (← same) (ap Some (same_narrow m (subst (λ (k : ℤ). fits W64 k ≡ true) (sym h.1) (in_range W64 (signed_digits_value 10 numeral) h.0.1))) ∙ of_narrow_number width numeral m (parsed_number {E = E} W64 numeral (Ok m) t h))
 number_of_narrow {E} width numeral (Err e) n t h was = absurd (cc)
 
--- where it is none of 64 bits
 pub no_narrow_number : {E : Type 0} (numeral : List ℕ) (r : Result ℤ E) (e : E) → is_numeral numeral ≡ true → ParsesSigned w64 10 numeral r → r ≡ Err e → None ≡ number_of W64 numeral
 no_narrow_number numeral r e t h was = ap result_ok (sym was) ∙ parsed_number W64 numeral r t h
 

@@ -1,5 +1,5 @@
 -- The range of numbers is that of the integers which the code holds.
-use Rattle.std.proofs.Common.{◌≡◌, ◌-◌, ◌^◌, ◌<◌, ◌+ℤ◌, ◌-ℤ◌, ◌*ℤ◌, true, false, ℤ, pos, negsuc, FitsSigned, w64, of_z, to_z, to_z-of_z, int_div, Option, None, Some, SomeIff, refl, sym, ap, subst, ◌∙◌, arith, ⊎_elim}
+use Rattle.std.proofs.Common.{◌≡◌, ◌-◌, ◌^◌, ◌<◌, ◌+ℤ◌, ◌-ℤ◌, ◌*ℤ◌, Bool, true, false, cond, ℤ, pos, negsuc, FitsSigned, w64, of_z, to_z, to_z-of_z, int_div, Option, None, Some, SomeIff, refl, sym, ap, subst, ◌∙◌, arith, ⊎_elim}
 use Rattle.std.proofs.lemmas.Bool.{and_parts, and_from, ltb-true, leb-true, lt-ltb, le-leb, cases_Bool, false_from_ne_true, false≢true}
 use Rattle.std.proofs.lemmas.Bool.Decides.{Decides-int_eq}
 use Rattle.std.proofs.lemmas.Option.{cond_some, none-some}
@@ -12,21 +12,19 @@ use Rattle.trac_rules.specs.declared.width.Width.{Width}
 use Rattle.trac_rules.specs.declared.width.Width.TheVariants.{W64, W128}
 use Rattle.trac_rules.specs.Computing.{result_of}
 use Rattle.trac_rules.specs.Number.{difference_of, fits, if_fits, product_of, quotient_of, sum_of}
-use Rattle.trac_rules.proofs.Calculated.{narrow_fits, narrow_result}
+use Rattle.trac_rules.proofs.Calculated.{exact, fitted, narrow_fits, narrow_result, result_is_fitted}
 
 -- the integers of the code that are as wide
 abbrev pub held : Width → Bits
 held W64 = w64
 held W128 = w128
 
--- an integer of the code is in the range
 pub in_range : (width : Width) (n : ℤ) → FitsSigned (held width) n → fits width n ≡ true
 in_range W64 (pos k) h = lt-ltb k (2 ^ 63) h.sfits
 in_range W64 (negsuc k) h = and_from _ _ (le-leb k (2 ^ 63 - 1) (omega (arith, h.sfits))) refl
 in_range W128 (pos k) h = lt-ltb k (2 ^ 127) h.sfits
 in_range W128 (negsuc k) h = and_from _ _ (le-leb k (2 ^ 127 - 1) (omega (arith, h.sfits))) refl
 
--- a number of the range is one of them
 pub is_held : (width : Width) (n : ℤ) → fits width n ≡ true → FitsSigned (held width) n
 is_held W64 (pos k) t = record { sfits = ltb-true k (2 ^ 63) t }
 is_held W64 (negsuc k) t = record { sfits = omega (arith, leb-true k (2 ^ 63 - 1) (and_parts _ _ t).0) }
@@ -49,7 +47,6 @@ bits_above_zero W64 (negsuc k) h n = omega (arith, h.sfits)
 bits_above_zero W128 (pos k) h n = omega (arith, λ (e : k ≡ 0). n (ap pos e))
 bits_above_zero W128 (negsuc k) h n = omega (arith, h.sfits)
 
--- the same of a quotient
 quotient_if_fits : (width : Width) (r : Option ℤ) (a b : ℤ) → FitsSigned (held width) b → SomeIff r (CanDivide (held width) a b) (int_div a b) → r ≡ quotient_of width a b
 unfolding quotient_of
 quotient_if_fits width None a b h never =
@@ -84,62 +81,31 @@ checked Divide width a b r h is = quotient_if_fits width r a b h is
 
 -- ---- one width from the other
 
--- a result of 64 bits is that of any width
 pub of_narrow : (operation : Operation) (width : Width) (a b n : ℤ) → result_of operation W64 a b ≡ Some n → Some n ≡ result_of operation width a b
 of_narrow operation W64 a b n e = sym e
 of_narrow operation W128 a b n e = sym (narrow_result operation a b n e)
 
--- where there is no result of 128 bits, there is none
-none_of_none : (width : Width) (n : ℤ) → None ≡ if_fits W128 n → None ≡ if_fits width n
-none_of_none W128 n e = e
-none_of_none W64 n e =
-    ⊎_elim
-    (λ (t : fits W64 n ≡ true). let wide = narrow_fits n t in absurd (none-some n (rw wide at e)))
-    (λ (f : fits W64 n ≡ false). rw f refl)
-    (cases_Bool (fits W64 n))
+fitted_twice : (width : Width) (o : Option ℤ) → fitted width (fitted W128 o) ≡ fitted width o
+fitted_twice width None = refl
+fitted_twice width (Some n) = by width (fits W128 n) refl
+  where
+    by : (w : Width) (t : Bool) → fits W128 n ≡ t → fitted w (cond t (Some n) None) ≡ if_fits w n
+    by w true t = refl
+    by W128 false f = rw f refl
+    by W64 false f = let none : fits W64 n ≡ false = false_from_ne_true (fits W64 n) (λ t. false≢true (sym f ∙ narrow_fits n t)) in rw none refl
 
-pub none_of_wide : (operation : Operation) (width : Width) (a b : ℤ) → None ≡ result_of operation W128 a b → None ≡ result_of operation width a b
-unfolding sum_of difference_of product_of quotient_of
-none_of_wide Add width a b e = none_of_none width (a +ℤ b) e
-none_of_wide Subtract width a b e = none_of_none width (a -ℤ b) e
-none_of_wide Multiply width a b e = none_of_none width (a *ℤ b) e
-none_of_wide Divide width a b e =
-    ⊎_elim
-    (λ (t : int_eq b (pos 0) ≡ true). rw t refl)
-    (λ (f : int_eq b (pos 0) ≡ false). let kept : None ≡ if_fits W128 (int_div a b) = rw f at e in rw f (none_of_none width (int_div a b) kept))
-    (cases_Bool (int_eq b (pos 0)))
-
--- where there is one, it is judged by the width
-some_of_some : (width : Width) (n q : ℤ) → Some q ≡ if_fits W128 n → if_fits width q ≡ if_fits width n
-some_of_some width n q e = ap (if_fits width) (sym (cond_some (fits W128 n) n q (sym e)).1)
-
-pub some_of_wide : (operation : Operation) (width : Width) (a b q : ℤ) → Some q ≡ result_of operation W128 a b → if_fits width q ≡ result_of operation width a b
-unfolding sum_of difference_of product_of quotient_of
-some_of_wide Add width a b q e = some_of_some width (a +ℤ b) q e
-some_of_wide Subtract width a b q e = some_of_some width (a -ℤ b) q e
-some_of_wide Multiply width a b q e = some_of_some width (a *ℤ b) q e
-some_of_wide Divide width a b q e =
-    ⊎_elim
-    (λ (t : int_eq b (pos 0) ≡ true). let missing = rw t at e in absurd (none-some q (sym missing)))
-    (λ (f : int_eq b (pos 0) ≡ false). let kept : Some q ≡ if_fits W128 (int_div a b) = rw f at e in rw f (some_of_some width (int_div a b) q kept))
-    (cases_Bool (int_eq b (pos 0)))
+of_wide : (operation : Operation) (width : Width) (a b : ℤ) (r : Option ℤ) → r ≡ result_of operation W128 a b → fitted width r ≡ result_of operation width a b
+of_wide operation width a b r e =
+    ap (fitted width) (e ∙ result_is_fitted operation W128 a b) ∙ fitted_twice width (exact operation a b) ∙ sym (result_is_fitted operation width a b)
 
 -- ---- numbers as the code holds them
 
--- a result fits
-fits_of : (width : Width) (m n : ℤ) → if_fits width m ≡ Some n → fits width n ≡ true
-fits_of width m n e = let kept = cond_some (fits width m) m n e in subst (λ (k : ℤ). fits width k ≡ true) kept.1 kept.0
+fits_of_fitted : (width : Width) (o : Option ℤ) (n : ℤ) → fitted width o ≡ Some n → fits width n ≡ true
+fits_of_fitted width None n e = absurd (none-some n e)
+fits_of_fitted width (Some m) n e = let kept = cond_some (fits width m) m n e in subst (λ (k : ℤ). fits width k ≡ true) kept.1 kept.0
 
 fits_of_result : (operation : Operation) (width : Width) (a b n : ℤ) → result_of operation width a b ≡ Some n → fits width n ≡ true
-unfolding sum_of difference_of product_of quotient_of
-fits_of_result Add width a b n e = fits_of width (a +ℤ b) n e
-fits_of_result Subtract width a b n e = fits_of width (a -ℤ b) n e
-fits_of_result Multiply width a b n e = fits_of width (a *ℤ b) n e
-fits_of_result Divide width a b n e =
-    ⊎_elim
-    (λ (t : int_eq b (pos 0) ≡ true). let missing = rw t at e in absurd (none-some n missing))
-    (λ (f : int_eq b (pos 0) ≡ false). let kept : if_fits width (int_div a b) ≡ Some n = rw f at e in fits_of width (int_div a b) n kept)
-    (cases_Bool (int_eq b (pos 0)))
+fits_of_result operation width a b n e = fits_of_fitted width (exact operation a b) n (sym (result_is_fitted operation width a b) ∙ e)
 
 pub same_wide : (n : ℤ) → fits W128 n ≡ true → to_z w128 (of_z w128 n) ≡ n
 same_wide n t = to_z-of_z (is_held W128 n t)
@@ -149,20 +115,23 @@ pub same_narrow : (n : ℤ) → fits W64 n ≡ true → to_z w128 (of_z w128 (to
 same_narrow n t = ap (λ (m : ℤ). to_z w128 (of_z w128 m)) (to_z-of_z (is_held W64 n t)) ∙ same_wide n (narrow_fits n t)
 
 -- and one of 128 bits that is small enough, made one of 64
-pub narrow_held : (x z a : ℤ) → x ≡ z → fits W64 z ≡ true → z ≡ a → to_z w64 (of_z w64 x) ≡ a
-narrow_held x z a e t s = to_z-of_z (is_held W64 x (subst (λ (k : ℤ). fits W64 k ≡ true) (sym e) t)) ∙ e ∙ s
+narrow_held : (x z a : ℤ) → (x ≡ z) × (fits W64 z ≡ true) → z ≡ a → to_z w64 (of_z w64 x) ≡ a
+narrow_held x z a h s = to_z-of_z (is_held W64 x (subst (λ (k : ℤ). fits W64 k ≡ true) (sym h.0) h.1)) ∙ h.0 ∙ s
 
 if_some : (r p : Option ℤ) → r ≡ p → IfSome r (λ n. p ≡ Some n)
 if_some None p e = tt
 if_some (Some n) p e = sym e
 
 -- what std returns of two numbers of 64 bits
-pub narrow_checked : (operation : Operation) (a b x y : ℤ) (r : Option ℤ) → x ≡ a → y ≡ b → fits W64 b ≡ true → IsChecked operation W64 x y r →
-    IfSome r (λ n. result_of operation W64 a b ≡ Some n)
-narrow_checked operation a b x y r ex ey t is =
+pub narrow_checked : (operation : Operation) (a b x y z w : ℤ) (r : Option ℤ) → (x ≡ z) × (fits W64 z ≡ true) → z ≡ a → (y ≡ w) × (fits W64 w ≡ true) → w ≡ b →
+    IsChecked operation W64 (to_z w64 (of_z w64 x)) (to_z w64 (of_z w64 y)) r → IfSome r (λ n. result_of operation W64 a b ≡ Some n)
+narrow_checked operation a b x y z w r first za second wb is =
+    let ex = narrow_held x z a first za in
+    let ey = narrow_held y w b second wb in
+    let small : fits W64 (to_z w64 (of_z w64 y)) ≡ true = subst (λ (k : ℤ). fits W64 k ≡ true) (wb ∙ sym ey) second.1 in
     if_some r (result_of operation W64 a b)
-    (checked operation W64 x y r (is_held W64 y (subst (λ (k : ℤ). fits W64 k ≡ true) (sym ey) t)) is
-    ∙ ap (λ (k : ℤ). result_of operation W64 k y) ex ∙ ap (λ (k : ℤ). result_of operation W64 a k) ey)
+    (checked operation W64 (to_z w64 (of_z w64 x)) (to_z w64 (of_z w64 y)) r (is_held W64 (to_z w64 (of_z w64 y)) small) is
+    ∙ ap (λ (k : ℤ). result_of operation W64 k (to_z w64 (of_z w64 y))) ex ∙ ap (λ (k : ℤ). result_of operation W64 a k) ey)
 
 -- ---- results as the code makes them
 
@@ -174,8 +143,8 @@ pub wide_made : (operation : Operation) (width : Width) (a b n : ℤ) (r : Optio
     if_fits width (to_z w128 (of_z w128 n)) ≡ result_of operation width a b
 wide_made operation width a b n r h is was =
     let e : Some n ≡ result_of operation W128 a b = sym was ∙ checked operation W128 a b r h is in
-    ap (if_fits width) (same_wide n (fits_of_result operation W128 a b n (sym e))) ∙ some_of_wide operation width a b n e
+    ap (if_fits width) (same_wide n (fits_of_result operation W128 a b n (sym e))) ∙ of_wide operation width a b (Some n) e
 
 pub none_made : (operation : Operation) (width : Width) (a b : ℤ) (r : Option ℤ) → FitsSigned w128 b → IsChecked operation W128 a b r → r ≡ None →
     None ≡ result_of operation width a b
-none_made operation width a b r h is was = none_of_wide operation width a b (sym was ∙ checked operation W128 a b r h is)
+none_made operation width a b r h is was = of_wide operation width a b None (sym was ∙ checked operation W128 a b r h is)

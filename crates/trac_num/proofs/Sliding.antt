@@ -10,7 +10,6 @@ use Rattle.trac_num.proofs.Bits.{bits_of-append, bits_of-drop, bits_of-take, bit
 
 -- ---- one digit at a time
 
--- with another digit at a place
 pub octal-set : (xs : List ℕ) (k d : ℕ) → IsOctal xs → is_octal_digit d ≡ true → IsOctal (set xs k d)
 octal-set [] k d h digit = h
 octal-set (x ∷ xs) zero d h digit =
@@ -19,14 +18,12 @@ octal-set (x ∷ xs) (suc k) d h digit =
     let parts = and_parts (is_octal_digit x) (is_octal xs) h in
     and_from (is_octal_digit x) (is_octal (set xs k d)) parts.0 (octal-set xs k d parts.1 digit)
 
--- a longer front is a front and some more
 take-add : {X : Type 0} (m n : ℕ) (xs : List X) → take (m + n) xs ≡ take m xs ++ take n (drop m xs)
 take-add zero n xs = let e : zero + n ≡ n = omega arith in rw e refl
 take-add (suc m) zero [] = let e : suc m + zero ≡ suc m = omega arith in rw e refl
 take-add (suc m) (suc n) [] = let e : suc m + suc n ≡ suc (m + suc n) = omega arith in rw e refl
 take-add (suc m) n (x ∷ xs) = let e : suc m + n ≡ suc (m + n) = omega arith in rw e (ap (λ t. x ∷ t) (take-add m n xs))
 
--- three of the bits of two digits, whatever stands after them
 three_of_two : (x y r : ℕ) (rest : List Bool) → r ≤ 3 → take 3 (drop r (digit_bits x ++ (digit_bits y ++ rest))) ≡ take 3 (drop r (digit_bits x ++ digit_bits y))
 three_of_two x y zero rest l = refl
 three_of_two x y (suc zero) rest l = refl
@@ -51,7 +48,6 @@ pub record IsSlid (s v : List ℕ) (k r : ℕ) : Type 0 where
   pub moved : bits_of (take k v) ≡ take (3 * k) (drop r (bits_of s))
   pub rest : drop k v ≡ drop k s
 
--- an item of the rest
 rest_at : (s v : List ℕ) (k j : ℕ) → drop k v ≡ drop k s → get_or v (k + j) 0 ≡ get_or s (k + j) 0
 rest_at s v k j e = sym (get_or-drop k v j 0) ∙ ap (λ t. get_or t j 0) e ∙ get_or-drop k s j 0
 
@@ -83,7 +79,6 @@ zeros_at zero i = refl
 zeros_at (suc m) zero = refl
 zeros_at (suc m) (suc i) = zeros_at m i
 
--- zeros after a list change no bit of it
 before_zeros : (xs : List Bool) (m i : ℕ) → get_or (xs ++ replicate m false) i false ≡ get_or xs i false
 before_zeros [] m i = zeros_at m i
 before_zeros (x ∷ xs) m zero = refl
@@ -91,7 +86,6 @@ before_zeros (x ∷ xs) m (suc i) = before_zeros xs m i
 
 -- ---- to the left
 
--- a bit moved to the left
 left_at : (xs : List Bool) (n i : ℕ) → get_or (shifted_left n xs) i false ≡ get_or xs (n + i) false
 left_at xs n i = before_zeros (drop n xs) (min n (length xs)) i ∙ get_or-drop n xs i false
 
@@ -292,7 +286,6 @@ turned_by_digits a s start r l w is =
         ∙ ap (λ t. t ++ bits_of (take (start + 1) a)) (bits_of-drop start a)
         ∙ ap (λ t. drop (3 * start) (bits_of a) ++ t) (bits_of-take (start + 1) a ∙ ap (λ k. take k (bits_of a)) more)
 
--- what is left of a number of places, in digits and bits, after whole turns
 pub places_around : (a : List ℕ) (n : ℕ) → 0 < length a → 3 * (n / 3 % length a) + n % 3 ≡ n % length (bits_of a)
 places_around a n some =
     sym (ap (λ k. k % length (bits_of a)) whole ∙ mod-mul-add (n / 3 / length a) (length (bits_of a)) (3 * (n / 3 % length a) + n % 3) below)

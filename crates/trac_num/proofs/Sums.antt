@@ -11,7 +11,6 @@ use Rattle.trac_num.proofs.Digits.{digit_at, digit_worth}
 use Rattle.trac_num.proofs.Numerals.{numeral_parts, sign_or_none}
 use Rattle.trac_rules.specs.Number.{IsNumeralOrNull, is_numeral, whole_number}
 
--- at most 18 digits write less than the power that has 18 zeros
 pub short_below : (ds : List ℕ) → all_ascii_digits ds ≡ true → length ds ≤ 18 → digits_value 10 ds < 10 ^ 18
 short_below ds t l = digits_value_short (numerals_by_value (λ xs. all_ascii_digits xs ≡ true) tells_all_ascii_digits) ds 18 t l
 
@@ -35,7 +34,6 @@ one_more ds i s t l h e =
       below = omega (arith, worth, more, e, within, most);
     }
 
--- after the sign of a numeral, or of none, there are digits alone, and no more than it has bytes
 pub digits_of : (numeral : List ℕ) → IsNumeralOrNull numeral → all_ascii_digits (without_leading_sign numeral) ≡ true
 digits_of numeral form =
     ⊎_elim (λ (e : numeral ≡ []). rw e refl) (λ (t : is_numeral numeral ≡ true). (numeral_parts numeral t).1) form

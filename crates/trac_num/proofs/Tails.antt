@@ -28,7 +28,6 @@ octal_tail_after_place text n some within other h =
     let next : n - 1 + 1 ≡ n = omega (arith, some) in
     rw next at (octal_tail_from text (n - 1) (omega (arith, some, within)) other (rw next h))
 
--- a text of octal digits alone
 pub octal_tail_whole : (text : List ℕ) (n : ℕ) → n ≤ 0 → IsOctal (drop n text) → octal_tail text ≡ drop n text
 octal_tail_whole text n none h =
     let e : n ≡ 0 = omega (arith, none) in

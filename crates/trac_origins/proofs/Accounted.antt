@@ -74,7 +74,6 @@ pub lists_beside : (environment : Environment) (s t : State) → step environmen
 lists_beside environment s t h =
     stepped Any environment s t (record { carried = λ q found stands. tt; made = λ found makes. tt; read = λ n b unread read stands. tt }) h
 
--- as many in each argument of each function
 lengths_alike : {ls : List (List Origin)} {texts : List (List ℕ)} → Zip (Text Any) ls texts → map (λ os. length os) ls ≡ map (λ text. length text) texts
 lengths_alike ends = refl
 lengths_alike (beside {x = os} {y = text} t h) = ap₂ (λ (n : ℕ) (ns : List ℕ). n ∷ ns) (same_length t) (lengths_alike h)

@@ -50,46 +50,18 @@ module _ (R : Origin → Item → Type 0) where
 
   -- ---- changes of a state
 
-  pub gathered_beside : {gs : List FrameOrigins} {fs : List Frame} → Zip FrameBeside gs fs → (os : List Origin) (text : List ℕ) → Text os text → (o : Origins) (s : State) → StateBeside o s →
-      StateBeside (gather_from gs os o) (gathered_in fs text s)
-  gathered_beside ends os text t o s b = record {
-    active = b.active;
-    base = appended b.base t;
-    frames = b.frames;
-    output = b.output;
-    forms = b.forms;
-    blocks = b.blocks;
-  }
-  gathered_beside (beside f h) os text t o s b = record {
-    active = b.active;
-    base = b.base;
-    frames = beside (record { arguments = f.arguments; gathered = appended f.gathered t }) h;
-    output = b.output;
-    forms = b.forms;
-    blocks = b.blocks;
-  }
-
   -- another active text
   pub with_active : (os : List Origin) (text : List ℕ) → Text os text → (o : Origins) (s : State) → StateBeside o s → StateBeside (record o { active = os }) (record s { active = text })
-  with_active os text t o s b = record {
-    active = t;
-    base = b.base;
-    frames = b.frames;
-    output = b.output;
-    forms = b.forms;
-    blocks = b.blocks;
-  }
+  with_active os text t o s b = record { active = t; base = b.base; frames = b.frames; output = b.output; forms = b.forms; blocks = b.blocks }
 
   -- other functions
   with_frames : (gs : List FrameOrigins) (fs : List Frame) → Zip FrameBeside gs fs → (o : Origins) (s : State) → StateBeside o s → StateBeside (record o { frames = gs }) (record s { frames = fs })
-  with_frames gs fs f o s b = record {
-    active = b.active;
-    base = b.base;
-    frames = f;
-    output = b.output;
-    forms = b.forms;
-    blocks = b.blocks;
-  }
+  with_frames gs fs f o s b = record { active = b.active; base = b.base; frames = f; output = b.output; forms = b.forms; blocks = b.blocks }
+
+  pub gathered_beside : {gs : List FrameOrigins} {fs : List Frame} → Zip FrameBeside gs fs → (os : List Origin) (text : List ℕ) → Text os text → (o : Origins) (s : State) → StateBeside o s →
+      StateBeside (gather_from gs os o) (gathered_in fs text s)
+  gathered_beside ends os text t o s b = record { active = b.active; base = appended b.base t; frames = b.frames; output = b.output; forms = b.forms; blocks = b.blocks }
+  gathered_beside (beside f h) os text t o s b = with_frames _ _ (beside (record { arguments = f.arguments; gathered = appended f.gathered t }) h) o s b
 
   deleted_beside : (n : ℕ) (o : Origins) (s : State) → StateBeside o s → StateBeside (deleted_from n o) (deleted n s)
   deleted_beside n o s b = with_active _ _ (dropped n b.active) o s b
@@ -176,7 +148,6 @@ module _ (R : Origin → Item → Type 0) where
           let within = number_within n fs g there in
           cond-false (n == length fs) (Some f) (numbered n fs) (ne_eqb n (length fs) (λ e. absurd (omega (arith, e, within)))) ∙ there
 
-  -- each place is related to what stands there
   pub kept_beside : (s : State) → ((place : Place) (item : Item) → found_at s place ≡ Some item → R (Carried place) item) → StateBeside (all_kept s) s
   kept_beside s h = record {
     active = each OfByte (λ i. Carried (InActive i)) s.active (λ i b e. h (InActive i) (Byte b) (ap (option_map Byte) e));

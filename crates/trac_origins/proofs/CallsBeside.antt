@@ -50,12 +50,10 @@ use Rattle.trac_origins.proofs.Values.{as_items_beside, filled_beside, made_besi
 
 -- ---- a result after a prefix
 
--- is a text that begins with it
 begins_with_prefix : (prefix : List ℕ) (found : Option ℤ) (value : List ℕ) → after_prefix prefix found ≡ Some value → take (length prefix) value ≡ prefix
 begins_with_prefix prefix None value e = absurd (cc)
 begins_with_prefix prefix (Some n) value e = ap (take (length prefix)) (sym (same_Some (prefix ++ number_text n) value e)) ∙ take_at prefix (number_text n) (length prefix) refl
 
--- the prefix of a text begins it
 front_of_prefix : (text : List ℕ) → take (length (prefix_of text)) text ≡ prefix_of text
 unfolding prefix_of
 front_of_prefix text =

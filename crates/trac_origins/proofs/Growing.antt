@@ -56,7 +56,6 @@ head_told f g fs n k i is told =
     }))
     (cases_Bool (n == length fs))
 
--- with one more
 begun_told : (g : FrameOrigins) (fs : List Frame) (n k i : ℕ) → IsIn fs n k i → in_frames (g ∷ frames_kept fs) n k i ≡ Carried (InArgument n k i)
 begun_told g fs n k i is =
     let within = number_within n fs is.frame is.there in
@@ -64,7 +63,6 @@ begun_told g fs n k i is =
     (cond-false (n == length (frames_kept fs)) (Some g) (numbered n (frames_kept fs)) (ne_eqb n (length (frames_kept fs)) (λ e. absurd (omega (arith, e, within, length-frames_kept fs)))))
     ∙ frames_told fs n k i is
 
--- how long an argument's list is
 argument_length : (n : ℕ) (f : Frame) (k : ℕ) → length (get_or (lists_of (frame_kept n f)) k []) ≡ length (argument k (arguments_of f))
 argument_length n f k =
     ap (λ (os : List Origin). length os) (text_at (InArgument n) f.arguments f.gathered k) ∙ length-one_each (λ j. Carried (InArgument n k j)) (argument k (arguments_of f))

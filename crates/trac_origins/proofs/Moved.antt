@@ -33,7 +33,6 @@ use Rattle.trac_origins.proofs.ToldSteps.{length-current, scanning_moved, scanni
 
 -- ---- which rule moves one byte
 
--- the current text does not depend on the active text
 pub current_aside : (fs : List Frame) (text : List ℕ) (s : State) → current_text fs (record s { active = text }) ≡ current_text fs s
 current_aside [] text s = refl
 current_aside (f ∷ fs) text s = refl
@@ -41,7 +40,6 @@ current_aside (f ∷ fs) text s = refl
 abbrev current_len : State → ℕ
 current_len s = length (current_text s.frames s)
 
--- after a text was gathered
 gathered_len : (s : State) (bytes left : List ℕ) → current_len (gathered_in s.frames bytes (record s { active = left })) ≡ current_len s + length bytes
 gathered_len s bytes left =
     length-current s.frames bytes (record s { active = left }) refl ∙ ap (λ (text : List ℕ). length text + length bytes) (current_aside s.frames left s)
@@ -120,7 +118,6 @@ rule_at f s = go f
     go Closing = closing s.frames
     go Plain = λ one. (refl, refl)
 
--- a call ends a function
 frames_placed : (kind : Kind) (forced : Bool) (value : List ℕ) (u : State) → length (placed kind forced value u).frames ≡ length u.frames
 frames_placed Active forced value u = refl
 frames_placed Neutral true value u = refl
@@ -150,7 +147,6 @@ plain_rule environment s t h one = go (scan s) refl (rule_at (front_of s.active)
 
 -- ---- what stood before it
 
--- a byte within a text that grew
 front_item : (text more : List ℕ) (i : ℕ) (item : Item) → i < length text → byte_at i (text ++ more) ≡ Some item → byte_at i text ≡ Some item
 front_item text more i item l e =
     ap (option_map Byte)
@@ -164,7 +160,6 @@ other_last [] y z (suc k) other = refl
 other_last (x ∷ xs) y z zero other = refl
 other_last (x ∷ xs) y z (suc k) other = other_last xs y z k (λ same. other (ap suc same))
 
--- what the tests of a place say
 within_by : (a b c : Bool) (x : ℕ) → (if a && b && not c then Some x else None) ≡ None → a ≡ true → b ≡ true → c ≡ true
 within_by true true true x e first second = refl
 within_by true true false x e first second = absurd (cc)
@@ -345,7 +340,6 @@ one_more_before n s place within = go place
     go (InActive i) = ap InActive (omega arith)
     go other = outside other refl
 
--- no byte moved
 none_before : (s : State) (place : Place) (item : Item) → found_at s place ≡ Some item → before_moved 0 s place ≡ place
 none_before s place item e = go place e
   where

@@ -69,7 +69,6 @@ module _ (R : Origin → Item → Type 0) (environment : Environment) (s t : Sta
   kept : StateBeside R (all_kept s) s
   kept = kept_beside R s may.carried
 
-  -- what scanning gives
   pub scanned : ScanBeside R (front_of s.active) s (all_kept s) (scan s)
   unfolding scan
   scanned =
@@ -107,7 +106,6 @@ module _ (R : Origin → Item → Type 0) (environment : Environment) (s t : Sta
       let effect = whole call from is given e does after in
       placed_beside R call.kind e.forced _ e.value effect.value _ _ (changed_beside R _ _ effect from.others call.state given.others)
 
-  -- the step
   pub stepped : step environment s ≡ Ok t → StateBeside R (origins environment s) t
   unfolding step origins
   stepped h = go (scan s) refl scanned (limited_Ok texts_fit (carried_out environment (scan s)) t h).0

@@ -22,7 +22,6 @@ use Rattle.trac_origins.proofs.Zips.{Zip}
 
 -- ---- forms that are left
 
--- what is found after names were taken was there before
 found_without : (names : List (List ℕ)) (forms : Forms) (q : List ℕ) (form : Form) → finite.get (without names forms) q ≡ Some form → finite.get forms q ≡ Some form
 found_without [] forms q form e = e
 found_without (name ∷ names) forms q form e = found_of_taken forms name q form (found_without names (finite.remove forms name) q form e)
@@ -39,7 +38,6 @@ found_of_entries forms base (entry ∷ held) all was q form e =
     (found_of_put base entry.0 r entry.1 found there))
     q form e
 
--- none are found among none
 pub none_found : (q : List ℕ) (form : Form) → finite.get {R = slice_cmp nat_cmp} finite.empty q ≡ Some form → ⊥
 none_found q form e = let none : None ≡ Some form = sym (finite.get-empty (slice_cmp nat_cmp) q) ∙ e in cc
 
@@ -70,14 +68,12 @@ copied (entry ∷ held) m n forms q e =
     ∙ either (bytes_eq q entry.0) entry.1 (finite.get m q) (finite.get forms q)
     ∙ ap (λ found. or_else found (finite.get forms q)) (sym (put_get m entry.0 q entry.1)))
 
--- what is found after a block's forms were put is the block's, or was there
 pub found_of_copies : (block : Block) (forms : Forms) (q : List ℕ) → finite.get (with_all (forms_in block) forms) q ≡ or_else (held_form q block) (finite.get forms q)
 found_of_copies block forms q =
     copied (forms_in block) finite.empty forms forms q (ap (λ found. or_else found (finite.get forms q)) (sym (finite.get-empty (slice_cmp nat_cmp) q)))
 
 -- ---- blocks
 
--- of blocks with one more
 block_of_more : (blocks : List Block) (block : Block) (k : ℕ) → (k ≡ length blocks → ⊥) → block_at k (blocks ++ block ∷ []) ≡ block_at k blocks
 block_of_more [] block zero other = absurd (other refl)
 block_of_more [] block (suc k) other = refl

@@ -24,7 +24,6 @@ one_each-at from [] i l = absurd (omega arith)
 one_each-at from (x ∷ xs) zero l = refl
 one_each-at from (x ∷ xs) (suc i) l = one_each-at (λ k. from (suc k)) xs i (omega arith)
 
--- where something stands there is a byte
 pub byte_within : (i : ℕ) (text : List ℕ) (item : Item) → byte_at i text ≡ Some item → i < length text
 byte_within i text item e = go (slice_get text i) refl e
   where
@@ -42,7 +41,6 @@ pub length-texts_kept : (place : ℕ → ℕ → Place) (texts : List (List ℕ)
 length-texts_kept place [] = refl
 length-texts_kept place (text ∷ texts) = ap suc (length-texts_kept (λ k. place (suc k)) texts)
 
--- the function of a number
 frame_at : (fs : List Frame) (n : ℕ) (f : Frame) → numbered n fs ≡ Some f → numbered n (frames_kept fs) ≡ Some (frame_kept n f)
 frame_at [] n f there = absurd (cc)
 frame_at (g ∷ fs) n f there =

@@ -116,7 +116,6 @@ module _ (environment : Environment) (s : State) (call : Call) (primitive : Prim
   line : List ℕ
   line = trace_line call.state.trace call.kind call.arguments
 
-  -- its effect is that of its primitive
   value_named : (performed_from call_of).value ≡ does_from.value
   value_named = ap (λ (p : Primitive). (effect_from p call_of).value) is.named
 
@@ -166,7 +165,6 @@ module _ (environment : Environment) (s : State) (call : Call) (primitive : Prim
       ∙ get_or_append_left made does_from.printed Made i (omega (arith, l, length-one_each (λ j. Made) (trace_line call.state.trace call.kind call.arguments)))
       ∙ one_each-at (λ j. Made) (trace_line call.state.trace call.kind call.arguments) i l
 
-  -- a primitive that prints nothing
   pub silent_told : is_silent primitive ≡ true → (n : ℕ) → origin environment s (InOutput (length call.state.output + n)) ≡ Made
   silent_told silent n =
       let text = trace_line call.state.trace call.kind call.arguments in
@@ -205,7 +203,6 @@ module _ (environment : Environment) (s : State) (call : Call) (primitive : Prim
   pub length_argument : (k : ℕ) → length (argument_from k call_of) ≡ length (argument k call.arguments)
   length_argument k = same_length (related_or given.arguments k [] [] ends)
 
-  -- of another name, if it is not the form's
   pub forms_kept : (name : List ℕ) → call_of.from.others.forms name ≡ kept (InForm name) (items_of (finite.get call.state.forms name))
   forms_kept name = ap (λ (o : Origins). o.forms name) others_kept
 

@@ -89,7 +89,6 @@ blocks_aside p d k q other = refl
 
 -- ---- after a call
 
--- where its value goes makes no difference to them
 pub forms-gather_from : (gs : List FrameOrigins) (text : List Origin) (o : Origins) (q : List ℕ) → (gather_from gs text o).forms q ≡ o.forms q
 forms-gather_from [] text o q = refl
 forms-gather_from (g ∷ gs) text o q = refl

@@ -49,12 +49,10 @@ later_item : (item : Item) (old new : List Item) (os : List Origin) (o : Origin)
 later_item (Byte b) old new os o m x w = record { number = suc w.number; was = w.was; stood = w.stood; before = omega (arith, w.before); told = w.told }
 later_item (Gap k n) old new os o m x w = record { number = suc w.number; was = w.was; stood = w.stood; before = omega (arith, w.before); told = w.told }
 
--- the first of items that stay
 same_item : (item : Item) (old new : List Item) (os : List Origin) (o : Origin) → WasItem (item ∷ old) (item ∷ new) (o ∷ os) 0 item
 same_item (Byte b) old new os o = record { number = 0; was = Byte b; stood = refl; before = refl; told = refl }
 same_item (Gap k n) old new os o = record { number = 0; was = Gap k n; stood = refl; before = refl; told = refl }
 
--- the first byte of a text
 first_byte : (text : List ℕ) (rest : List Item) → 0 < length text → (b : ℕ) × (slice_get (as_items text ++ rest) 0 ≡ Some (Byte b))
 first_byte [] rest some = absurd (omega arith)
 first_byte (b ∷ text) rest some = (b, refl)

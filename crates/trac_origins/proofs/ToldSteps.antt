@@ -26,7 +26,6 @@ of_moves : (environment : Environment) (s t : State) (place : Place) → scan s 
 unfolding origins
 of_moves environment s t place is = ap (λ x. origin_at (scanned_from environment s x) place) is
 
--- what scanning says by the front
 at_front : (s : State) (x : Scanned) → scan s ≡ x → scan_at (front_of s.active) s ≡ x
 unfolding scan
 at_front s x is = is
@@ -123,7 +122,6 @@ loses f s idle = go f idle
     go Closing idle = closing s.frames
     go Plain idle = (1, gathers (take 1 (kept InActive s.active)) (take 1 s.active) 1)
 
--- a byte after n that are lost
 pub lost_told : (n : ℕ) (text : List ℕ) (i : ℕ) → n + i < length text → get_or (drop n (kept InActive text)) i Made ≡ Carried (InActive (n + i))
 lost_told n text i l = get_or-drop n (kept InActive text) i Made ∙ one_each-at (λ j. Carried (InActive j)) text (n + i) l
 
@@ -232,7 +230,6 @@ within_gathered (f ∷ fs) bytes u n item is e =
     byte_within n (f.gathered ++ bytes) item
     (ap (byte_at n) (sym last) ∙ sym (ap (option_and_then (λ (h : Frame). byte_at n (argument (length f.arguments) (arguments_of h)))) there) ∙ e)
 
--- and what stands in the current text is within that
 pub within_current : (fs : List Frame) (u : State) (n : ℕ) (item : Item) → u.frames ≡ fs → found_at u (in_current fs n) ≡ Some item → n < length (current_text fs u)
 within_current [] u n item is e = byte_within n u.base item e
 within_current (f ∷ fs) u n item is e =
@@ -250,7 +247,6 @@ scanning_within s t n item is moving e =
     subst (λ (u : State). n < length (current_text u.frames u)) (sym moved.state)
     (within_gathered s.frames moved.bytes before n item refl (subst (λ (u : State). found_at u (in_current s.frames n) ≡ Some item) moved.state e))
 
--- the state after it
 pub state_idle : (s t : State) → scan s ≡ Moves t → makes_idle (front_of s.active) ≡ true → t ≡ record s { active = idle_program; base = []; frames = [] }
 state_idle s t is idle = go (front_of s.active) idle (at_front s (Moves t) is)
   where

@@ -41,7 +41,6 @@ pub record IsSpread (os : List Origin) (n : ℕ) (o : Origin) : Type 0 where
   pub within : n < length os
   pub told : get_or os n Made ≡ o
 
--- after more of them
 later_spread : (before os : List Origin) (n m k : ℕ) (o : Origin) → length before ≡ k → m ≡ k + n → IsSpread os n o → IsSpread (before ++ os) m o
 later_spread before os n m k o long same is =
     let index : m ≡ length before + n = omega (arith, long, same) in
@@ -50,7 +49,6 @@ later_spread before os n m k o long same is =
       told = ap (λ i. get_or (before ++ os) i Made) index ∙ get_or-append-add before os n Made ∙ is.told;
     }
 
--- before more of them
 sooner_spread : (os more : List Origin) (n : ℕ) (o : Origin) → IsSpread os n o → IsSpread (os ++ more) n o
 sooner_spread os more n o is = record {
   within = omega (arith, is.within, length-append os more);
@@ -58,7 +56,6 @@ sooner_spread os more n o is = record {
 }
 
 module _ (gap : ℕ → List Origin) (give : Item → List ℕ) (bytes : (b : ℕ) → give (Byte b) ≡ b ∷ []) (gaps : (k w : ℕ) → length (gap k) ≡ length (give (Gap k w))) where
-  -- how much more is given by one item more
   one_more : (item : Item) (items : List Item) → length (flat_map give (item ∷ items)) ≡ length (give item) + length (flat_map give items)
   one_more item items = length-append (give item) (flat_map give items)
 
@@ -115,7 +112,6 @@ given_at f g same (d ∷ cs) (suc n) c e j l =
 
 -- ---- a call
 
--- made bytes are made, wherever they are
 made_at : (text : List ℕ) (i : ℕ) → get_or (all_made text) i Made ≡ Made
 made_at text i = always_made text i
 
@@ -137,18 +133,19 @@ module _ (environment : Environment) (s : State) (call : Call) (e : Effect) wher
 
   -- ---- computations
 
+  -- an argument is given
+  argument_given : (primitive : Primitive) (is : IsCallOf environment s call primitive e) (k : ℕ) → (does_from environment s call primitive e is).value ≡ argument_from k (call_of environment s call primitive e is) →
+      (i : ℕ) → i < length e.value → value_place i ≡ of_argument call k i
+  argument_given primitive is k same i l =
+      let long : length (argument k call.arguments) ≡ length e.value =
+      sym (length_argument environment s call primitive e is k) ∙ ap (λ (os : List Origin). length os) (sym same) ∙ length_value environment s call primitive e is in
+      value_told environment s call primitive e is i l ∙ ap (λ (os : List Origin). get_or os i Made) same
+      ∙ argument_told environment s call primitive e is k i (omega (arith, l, long))
+
   chosen_told : (primitive : Primitive) (is : IsCallOf environment s call primitive e) (b : Bool) → (does_from environment s call primitive e is).value ≡ chosen_from b (call_of environment s call primitive e is) →
       (i : ℕ) → i < length e.value → value_place i ≡ of_argument call (number_chosen b) i
-  chosen_told primitive is true same i l =
-      let long : length (argument 3 call.arguments) ≡ length e.value =
-      sym (length_argument environment s call primitive e is 3) ∙ ap (λ (os : List Origin). length os) (sym same) ∙ length_value environment s call primitive e is in
-      value_told environment s call primitive e is i l ∙ ap (λ (os : List Origin). get_or os i Made) same
-      ∙ argument_told environment s call primitive e is 3 i (omega (arith, l, long))
-  chosen_told primitive is false same i l =
-      let long : length (argument 4 call.arguments) ≡ length e.value =
-      sym (length_argument environment s call primitive e is 4) ∙ ap (λ (os : List Origin). length os) (sym same) ∙ length_value environment s call primitive e is in
-      value_told environment s call primitive e is i l ∙ ap (λ (os : List Origin). get_or os i Made) same
-      ∙ argument_told environment s call primitive e is 4 i (omega (arith, l, long))
+  chosen_told primitive is true same i l = argument_given primitive is 3 same i l
+  chosen_told primitive is false same i l = argument_given primitive is 4 same i l
 
   pub equal_told : IsCallOf environment s call (Compute Equal) e → (i : ℕ) → i < length e.value →
       value_place i ≡ of_argument call (number_chosen (bytes_eq (argument 1 call.arguments) (argument 2 call.arguments))) i
@@ -159,36 +156,41 @@ module _ (environment : Environment) (s : State) (call : Call) (e : Effect) wher
   greater_told is i l = chosen_told (Compute Greater) is (is_greater (numeral_of (argument 1 call.arguments)) (numeral_of (argument 2 call.arguments))) refl i l
 
   pub default_told : (operation : Operation) → IsCallOf environment s call (Compute (Calculate operation)) e → e.forced ≡ true → (i : ℕ) → i < length e.value → value_place i ≡ of_argument call 3 i
-  default_told operation is forced i l =
+  default_told operation is forced i l = argument_given (Compute (Calculate operation)) is 3 (cond-true e.forced _ _ forced) i l
+
+  -- a result comes after the prefix of the first argument
+  abbrev prefixed_from : (operation : Operation) → IsCallOf environment s call (Compute (Calculate operation)) e → List Origin
+  prefixed_from operation is = take (length (prefix_of (argument 1 call.arguments))) (argument_from 1 (call_of environment s call (Compute (Calculate operation)) e is))
+
+  length-prefixed : (operation : Operation) (is : IsCallOf environment s call (Compute (Calculate operation)) e) → length (prefixed_from operation is) ≡ length (prefix_of (argument 1 call.arguments))
+  length-prefixed operation is =
       let p = Compute (Calculate operation) in
-      let same : (does_from environment s call p e is).value ≡ argument_from 3 (call_of environment s call p e is) = cond-true e.forced _ _ forced in
-      let long : length (argument 3 call.arguments) ≡ length e.value =
-      sym (length_argument environment s call p e is 3) ∙ ap (λ (os : List Origin). length os) (sym same) ∙ length_value environment s call p e is in
-      value_told environment s call p e is i l ∙ ap (λ (os : List Origin). get_or os i Made) same ∙ argument_told environment s call p e is 3 i (omega (arith, l, long))
+      let first = argument_from 1 (call_of environment s call p e is) in
+      let n = length (prefix_of (argument 1 call.arguments)) in
+      omega (arith, length-take n first, length-prefix (argument 1 call.arguments), length_argument environment s call p e is 1)
+
+  result_told : (operation : Operation) (is : IsCallOf environment s call (Compute (Calculate operation)) e) → e.forced ≡ false → (i : ℕ) → i < length e.value →
+      value_place i ≡ get_or (prefixed_from operation is ++ all_made (drop (length (prefix_of (argument 1 call.arguments))) e.value)) i Made
+  result_told operation is unforced i l =
+      let p = Compute (Calculate operation) in
+      value_told environment s call p e is i l
+      ∙ ap (λ (os : List Origin). get_or os i Made) (cond-false e.forced (argument_from 3 (call_of environment s call p e is)) (prefixed_from operation is ++ all_made (drop (length (prefix_of (argument 1 call.arguments))) e.value)) unforced)
 
   pub prefix_told : (operation : Operation) → IsCallOf environment s call (Compute (Calculate operation)) e → e.forced ≡ false → (i : ℕ) → i < length e.value →
       i < length (prefix_of (argument 1 call.arguments)) → value_place i ≡ of_argument call 1 i
   prefix_told operation is unforced i l before =
-      let p = Compute (Calculate operation) in
-      let first = argument_from 1 (call_of environment s call p e is) in
       let n = length (prefix_of (argument 1 call.arguments)) in
-      let within : n ≤ length first = omega (arith, length-prefix (argument 1 call.arguments), length_argument environment s call p e is 1) in
-      value_told environment s call p e is i l
-      ∙ ap (λ (os : List Origin). get_or os i Made) (cond-false e.forced (argument_from 3 (call_of environment s call p e is)) (take n first ++ all_made (drop n e.value)) unforced)
-      ∙ get_or_append_left (take n first) (all_made (drop n e.value)) Made i (omega (arith, before, within, length-take n first))
-      ∙ get_or-take n first i Made before
-      ∙ argument_told environment s call p e is 1 i (omega (arith, before, length-prefix (argument 1 call.arguments)))
+      result_told operation is unforced i l
+      ∙ get_or_append_left (prefixed_from operation is) (all_made (drop n e.value)) Made i (omega (arith, before, length-prefixed operation is))
+      ∙ get_or-take n (argument_from 1 (call_of environment s call (Compute (Calculate operation)) e is)) i Made before
+      ∙ argument_told environment s call (Compute (Calculate operation)) e is 1 i (omega (arith, before, length-prefix (argument 1 call.arguments)))
 
   pub digits_told : (operation : Operation) → IsCallOf environment s call (Compute (Calculate operation)) e → e.forced ≡ false → (i : ℕ) → i < length e.value →
       length (prefix_of (argument 1 call.arguments)) ≤ i → value_place i ≡ Made
   digits_told operation is unforced i l after =
-      let p = Compute (Calculate operation) in
-      let first = argument_from 1 (call_of environment s call p e is) in
       let n = length (prefix_of (argument 1 call.arguments)) in
-      let within : n ≤ length first = omega (arith, length-prefix (argument 1 call.arguments), length_argument environment s call p e is 1) in
-      value_told environment s call p e is i l
-      ∙ ap (λ (os : List Origin). get_or os i Made) (cond-false e.forced (argument_from 3 (call_of environment s call p e is)) (take n first ++ all_made (drop n e.value)) unforced)
-      ∙ get_or-append_right (take n first) (all_made (drop n e.value)) n i Made (omega (arith, within, length-take n first)) after
+      result_told operation is unforced i l
+      ∙ get_or-append_right (prefixed_from operation is) (all_made (drop n e.value)) n i Made (length-prefixed operation is) after
       ∙ made_at (drop n e.value) (i - n)
 
   pub bits_told : (computation : Computation) → gives_bits computation ≡ true → IsCallOf environment s call (Compute computation) e → (i : ℕ) → i < length e.value → value_place i ≡ Made

@@ -32,13 +32,11 @@ use Rattle.trac_origins.proofs.Besides.{OfByte, Text}
 abbrev IsAhead : Form → Piece → Type 0
 IsAhead form piece = take (length piece.value) (bytes_in (drop (min (length form.before) piece.place) (all_items form))) ≡ piece.value
 
--- the bytes of a front of items begin their bytes
 front_of_bytes : (k : ℕ) (items : List Item) → take (length (bytes_in (take k items))) (bytes_in items) ≡ bytes_in (take k items)
 front_of_bytes k items =
     ap (take (length (bytes_in (take k items)))) (ap bytes_in (sym (take-append-drop k items)) ∙ bytes_in-append (take k items) (drop k items))
     ∙ take_at (bytes_in (take k items)) (bytes_in (drop k items)) (length (bytes_in (take k items))) refl
 
--- read on, perhaps past more
 ahead_on : (k more : ℕ) (form : Form) → IsAhead form (record { value = bytes_in (take k form.after); place = length form.before + more })
 ahead_on k more form =
     let least : min (length form.before) (length form.before + more) ≡ length form.before = omega arith in
@@ -55,12 +53,10 @@ ahead_back k form within =
     ∙ ap (take (length value)) (bytes_in-append (drop k form.before) form.after)
     ∙ take_at value (bytes_in form.after) (length value) refl
 
--- a piece where there is anything is that piece
 of_where_any : {A : Type 0} (xs : List A) (found : Option Piece) (piece : Piece) → where_any xs found ≡ Some piece → found ≡ Some piece
 of_where_any [] found piece e = absurd (cc)
 of_where_any (x ∷ xs) found piece e = e
 
--- what is made of what was found
 of_option_map : {A : Type 0} (make : A → Piece) (found : Option A) (piece : Piece) → option_map make found ≡ Some piece → (x : A) × (found ≡ Some x) × (make x ≡ piece)
 of_option_map make None piece e = absurd (cc)
 of_option_map make (Some x) piece e = (x, refl, same_Some (make x) piece e)
@@ -121,7 +117,6 @@ module _ (R : Origin → Item → Type 0) where
   pub made_beside : (text : List ℕ) → ((b : ℕ) → R Made (Byte b)) → Text R (all_made text) text
   made_beside text made = each (OfByte R) (λ i. Made) text (λ i b e. made b)
 
-  -- a text as items
   pub as_items_beside : {os : List Origin} {text : List ℕ} → Text R os text → Zip R os (as_items text)
   as_items_beside ends = ends
   as_items_beside (beside r h) = beside r (as_items_beside h)
@@ -134,7 +129,6 @@ module _ (R : Origin → Item → Type 0) where
       subst (λ (first : List ℕ). Text R (o ∷ spread gap items os) (first ++ flat_map give items)) (sym (bytes b)) (beside r (spread_beside gap give bytes gaps h))
   spread_beside gap give bytes gaps (beside {y = Gap k w} r h) = appended (gaps k w) (spread_beside gap give bytes gaps h)
 
-  -- the items of a form after its pointer, and before it
   pub after_beside : (os : List Origin) (form : Form) → Zip R os (all_items form) → Zip R (drop (length form.before) os) form.after
   after_beside os form h =
       subst (λ (items : List Item). Zip R (drop (length form.before) os) items) (drop_at form.before form.after (length form.before) refl) (dropped (length form.before) h)

@@ -30,19 +30,16 @@ module _ {A B : Type 0} {R : A → B → Type 0} where
   same_length ends = refl
   same_length (beside r h) = ap suc (same_length h)
 
-  -- at a place where there is one
   pub related : {xs : List A} {ys : List B} → Zip R xs ys → (i : ℕ) (d : A) (y : B) → slice_get ys i ≡ Some y → R (get_or xs i d) y
   related ends i d y e = absurd (cc)
   related (beside {x = x} {y = z} r h) zero d y e = subst (λ (w : B). R x w) (same_Some z y e) r
   related (beside r h) (suc i) d y e = related h i d y e
 
-  -- at any place
   pub related_or : {xs : List A} {ys : List B} → Zip R xs ys → (i : ℕ) (d : A) (e : B) → R d e → R (get_or xs i d) (get_or ys i e)
   related_or ends i d e r = r
   related_or (beside q h) zero d e r = q
   related_or (beside q h) (suc i) d e r = related_or h i d e r
 
-  -- by numbers from the last one on
   pub related_number : {xs : List A} {ys : List B} → Zip R xs ys → (n : ℕ) (y : B) → numbered n ys ≡ Some y → (x : A) × (numbered n xs ≡ Some x) × R x y
   related_number ends n y e = absurd (cc)
   related_number (beside {x = x} {y = z} {xs = xs} {ys = ys} r h) n y e =
@@ -55,7 +52,6 @@ module _ {A B : Type 0} {R : A → B → Type 0} where
       (later.0, cond-false (n == length xs) (Some x) (numbered n xs) (ap (λ k. n == k) (same_length h) ∙ t) ∙ later.1, later.2))
       (cases_Bool (n == length ys))
 
-  -- what each of a list gives, one after another
   pub all_given : {C : Type 0} (f : C → List A) (g : C → List B) → ((c : C) → Zip R (f c) (g c)) → (cs : List C) → Zip R (flat_map f cs) (flat_map g cs)
   all_given f g h [] = ends
   all_given f g h (c ∷ cs) = appended (h c) (all_given f g h cs)
@@ -67,26 +63,22 @@ each R from (y ∷ ys) h = beside (h 0 y refl) (each R (λ i. from (suc i)) ys (
 
 -- ---- what stands at a place of a list
 
--- of the first k
 pub of_taken : {X : Type 0} (k : ℕ) (xs : List X) (i : ℕ) (x : X) → slice_get (take k xs) i ≡ Some x → (i < k) × (slice_get xs i ≡ Some x)
 of_taken zero xs i x e = absurd (cc)
 of_taken (suc k) [] i x e = absurd (cc)
 of_taken (suc k) (y ∷ xs) zero x e = (omega arith, e)
 of_taken (suc k) (y ∷ xs) (suc i) x e = let later = of_taken k xs i x e in (omega (arith, later.0), later.1)
 
--- after the first n
 pub of_dropped : {X : Type 0} (n : ℕ) (xs : List X) (i : ℕ) → slice_get (drop n xs) i ≡ slice_get xs (n + i)
 of_dropped zero xs i = let same : i ≡ zero + i = omega arith in ap (slice_get xs) same
 of_dropped (suc n) [] i = refl
 of_dropped (suc n) (y ∷ xs) i = let same : suc (n + i) ≡ suc n + i = omega arith in of_dropped n xs i ∙ ap (slice_get (y ∷ xs)) same
 
--- among lists, of which there are more
 pub of_more : {X : Type 0} (xs ys : List (List X)) (k i : ℕ) (x : X) → slice_get (get_or xs k []) i ≡ Some x → slice_get (get_or (xs ++ ys) k []) i ≡ Some x
 of_more [] ys k i x e = absurd (cc)
 of_more (y ∷ xs) ys zero i x e = e
 of_more (y ∷ xs) ys (suc k) i x e = of_more xs ys k i x e
 
--- a number from the last one on is one of them
 pub number_within : {X : Type 0} (n : ℕ) (xs : List X) (x : X) → numbered n xs ≡ Some x → n < length xs
 number_within n [] x e = absurd (cc)
 number_within n (y ∷ xs) x e =

@@ -19,6 +19,7 @@ ghost use Rattle.trac_rules.specs.declared.width.Width.{Width};
 /// Of whatever stands at a place after a step: where it is said to be carried from, it stood before the step; where it
 /// is said to be read, it is that byte of the tape, which was not read before the step and is read after it; where it
 /// is said to be made, the step makes such items.
+#[tactic(auto, using(crate::proofs::Accounted::accounted))]
 pub fn origins_are_true()
     ensures { (environment : Environment) (s t : State) (place : Place) (item : Item) → step environment s ≡ Ok t →
         found_at t place ≡ Some item → Accounts environment s t (origin environment s place) item }
@@ -47,6 +48,7 @@ pub fn each_has_one_origin()
 /// Of whatever stands at a place after many steps, followed back: all steps that are said to have carried it
 /// did, and the step before these read or made it as said; or all steps carried it, and it stood at the
 /// place that is named before them.
+#[tactic(auto, using(crate::proofs::Accounted::followed_back))]
 pub fn many_steps_are_followed()
     ensures { (environment : Environment) (earlier : List State) (t : State) (place : Place) (item : Item) →
         AreSteps environment earlier t → found_at t place ≡ Some item → IsSource environment earlier t
@@ -56,6 +58,7 @@ pub fn many_steps_are_followed()
 /// So it is in every session that a new one becomes by any list of commands, refused ones among them: whatever was fed,
 /// gone back over and committed meanwhile. Nothing is known of what stands before the oldest state that is kept, and a
 /// byte that was read is counted from the start of the tape as it is then.
+#[tactic(auto, using(crate::proofs::Accounted::followed_in_session))]
 pub fn sessions_are_followed()
     ensures { (limit : ℕ) (width : Width)
         (commands : List Command) (replies : List Reply) (p : PlainSession) (place : Place) (item : Item) →

@@ -94,6 +94,7 @@ pub fn calls_are_told_by_lengths()
 /// Over as many steps as bytes go one by one to the current text, numbers alone tell all origins at once. What is
 /// left of the active text stood so many bytes further on, what is new in the current text stood at its front, and
 /// all else stands where it stood.
+#[tactic(auto, using(crate::proofs::Moved::run_followed))]
 pub fn runs_are_told_by_lengths()
     ensures { (environment : Environment) (s : State) (earlier : List State) (n : ℕ) (place : Place) (item : Item) →
         AreSteps environment (on_the_way n s ++ earlier) (moved_on n s) → n ≤ length s.active →

@@ -16,3 +16,4 @@ pub mod Slots
 pub mod Joining
 pub mod Planned
 pub mod ValueLengths
+pub mod OctalCalls

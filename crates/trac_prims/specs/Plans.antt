@@ -1,10 +1,7 @@
 -- What the plan of a call is: the effect that the definitions say, where the state after it is within the limits.
-use Rattle.std.specs.Prelude.{◌≡◌, ◌+◌, ◌≤◌, ℕ, List, length, Bool, false, true}
+use Rattle.std.specs.Prelude.{◌≡◌, ◌+◌, ◌≤◌, ℕ, List, length, Bool}
 use Rattle.trac_forms.specs.Stored.{Stored, storage_in}
 use Rattle.trac_rules.specs.declared.kind.Kind.{Kind}
-use Rattle.trac_rules.specs.declared.primitive.FormAction.{FormAction}
-use Rattle.trac_rules.specs.declared.primitive.FormAction.TheVariants.{Call, Define, Delete, DeleteAll, ListNames}
-use Rattle.trac_rules.specs.declared.primitive.FormAction.TheVariants.{PrintForm, Read, Restore, Segment}
 use Rattle.trac_rules.specs.declared.limit.TheConstants.{MARK_LIMIT, OUTPUT_LIMIT, TEXT_LIMIT}
 use Rattle.trac_rules.specs.Effect.{Effect}
 use Rattle.trac_rules.specs.Limits.{marks, text_bytes, texts_fit}
@@ -38,15 +35,3 @@ fits_after call e = texts_fit (after_call call e)
 pub record HasPlace (now : Now) (value printed : List ℕ) : Type 0 where
   pub text : now.text + length value ≤ TEXT_LIMIT
   pub output : now.output + length printed ≤ OUTPUT_LIMIT
-
--- whether a primitive changes forms, and does nothing else with them
-abbrev pub only_changes_forms : FormAction → Bool
-only_changes_forms Define = true
-only_changes_forms Delete = true
-only_changes_forms DeleteAll = true
-only_changes_forms Segment = true
-only_changes_forms Restore = true
-only_changes_forms Call = false
-only_changes_forms (Read reading) = false
-only_changes_forms ListNames = false
-only_changes_forms PrintForm = false

@@ -20,7 +20,7 @@ ghost use Rattle.trac_prims.specs.Effects.{IsDone};
 ghost use Rattle.trac_change.specs.Changed.{named_forms};
 ghost use Rattle.trac_text.specs.Framing.{texts_of};
 
-use crate::effect::Deed;
+use crate::effect::{Deed, NOTHING};
 use std::alloc::Allocator;
 use trac_change::{Change, LaterArguments, after};
 use trac_forms::{Block, Form, Item, Store, Texts};
@@ -60,7 +60,7 @@ pub(crate) fn store_block<A: Allocator + Copy>(
         name,
         address,
     };
-    Ok(Deed::nothing())
+    Ok(NOTHING)
 }
 
 // `fb`: copies of a block's forms are put among the forms.
@@ -77,14 +77,14 @@ pub(crate) fn fetch_block<A: Allocator + Copy>(
 {
     let found = named_block(alloc, args, store)?;
     let Some((number, block)) = found else {
-        return Ok(Deed::nothing());
+        return Ok(NOTHING);
     };
     if !may_come_back(store, block) {
         return Err(Refusal::TooLong);
     }
     let forms = copies_of(alloc, block)?;
     *change = Change::Bring { number, forms };
-    Ok(Deed::nothing())
+    Ok(NOTHING)
 }
 
 // `eb`: a block is erased, and the form that names it deleted.
@@ -101,11 +101,11 @@ pub(crate) fn erase_block<A: Allocator + Copy>(
 {
     let found = named_block(alloc, args, store)?;
     let Some((number, _block)) = found else {
-        return Ok(Deed::nothing());
+        return Ok(NOTHING);
     };
     let name = Vec::from_slice(alloc, args.get(1))?;
     *change = Change::Erase { number, name };
-    Ok(Deed::nothing())
+    Ok(NOTHING)
 }
 
 // ---- forms that leave

@@ -1,5 +1,5 @@
 //! Calls whose value is made of their arguments alone: decisions, numbers and bit strings.
-ghost use Rattle.std.specs.Prelude.{◌≡◌, List, ℕ, Ok, IfOk};
+ghost use Rattle.std.specs.Prelude.{◌≡◌, ◌++◌, List, ℕ, Ok, IfOk, IsOkUnless, OnOk};
 ghost use Rattle.trac_rules.specs.Computing.{chosen, computed, number_argument, result_of};
 ghost use Rattle.trac_rules.specs.Effect.{argument, gives};
 ghost use Rattle.trac_rules.specs.Number.{is_greater, numeral_of, on_both};
@@ -9,7 +9,7 @@ ghost use Rattle.trac_change.specs.declared.change.Change.TheVariants.{Keep};
 ghost use Rattle.trac_prims.specs.Effects.{IsDone};
 
 use crate::bits::{complement_of, meet_of, rotation_of, shift_of, union_of};
-use crate::effect::{Deed, Made};
+use crate::effect::{Deed, Made, NOTHING};
 use std::alloc::Allocator;
 use trac_num::{add, div, greater, mul, print_into, read_tail, sub, value};
 use trac_rules::primitive::{Computation, Operation};
@@ -46,7 +46,7 @@ fn give<A: Allocator + Copy>(text: &[u8], made: &mut Made<A>) -> Result<Deed, Re
         IsDone arguments storage (Ok (gives text.now storage)) made.old made.new Keep result }
 {
     made.value.extend_from_slice(text)?;
-    Ok(Deed::nothing())
+    Ok(NOTHING)
 }
 
 /// The number of the argument of this place, the name being at 0: its numeral, the prefix dropped; `None` where it does
@@ -93,12 +93,23 @@ fn calculate<A: Allocator + Copy>(
         made.value.extend_from_slice(args.get(3))?;
         return Ok(Deed {
             forced: true,
-            ..Deed::nothing()
+            ..NOTHING
         });
     };
-    made.value.extend_from_slice(read_tail(args.get(1)).prefix)?;
+    put_prefix(read_tail(args.get(1)).prefix, &mut made.value)?;
     print_into(n, &mut made.value)?;
-    Ok(Deed::nothing())
+    Ok(NOTHING)
+}
+
+// Puts the prefix of a number at the end of `out`. Most numbers have none, and then nothing is called.
+fn put_prefix<A: Allocator + Copy>(prefix: &[u8], out: &mut Vec<u8, A>) -> Result<(), Refusal>
+    ensures items { OnOk result (out.new.items ≡ out.old.items ++ prefix.now) }
+    ensures err { IsOkUnless result Refusal.Memory }
+{
+    if !prefix.is_empty() {
+        out.extend_from_slice(prefix)?;
+    }
+    Ok(())
 }
 
 /// The result of `ad`, `su`, `ml` or `dv` on the numbers of the two arguments after the name; `None` where one of them

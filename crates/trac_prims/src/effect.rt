@@ -1,7 +1,7 @@
 //! What a call will do, and what it has to know for that.
 ghost use Rattle.std.specs.Prelude.{◌≡◌, ◌+◌, ◌<◌, ◌^◌, [], List, ℕ};
 ghost use Rattle.trac_rules.specs.State.{Storage};
-ghost use Rattle.trac_prims.specs.Effects.{done_on, nothing, planned_from, planned_on};
+ghost use Rattle.trac_prims.specs.Effects.{done_on, planned_from, planned_on};
 
 use std::alloc::{Allocator, Global};
 use trac_change::Change;
@@ -79,19 +79,15 @@ impl<A: Allocator + Copy> Made<A> {
     }
 }
 
-impl Deed {
-    // It reads and sets nothing.
-    pub(crate) fn nothing() -> Self
-        ensures { result ≡ nothing }
-    {
-        Deed {
-            forced: false,
-            read: 0,
-            meta: None,
-            trace: None,
-        }
-    }
+// A call that reads and sets nothing.
+pub(crate) const NOTHING: Deed = Deed {
+    forced: false,
+    read: 0,
+    meta: None,
+    trace: None,
+};
 
+impl Deed {
     // What a call will do, from the texts and the change that it made, and from what is so now.
     pub(crate) fn complete<A: Allocator + Copy>(
         self,

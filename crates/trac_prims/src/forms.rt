@@ -18,7 +18,7 @@ ghost use Rattle.trac_prims.specs.Effects.{IsDone};
 ghost use Rattle.trac_text.specs.Framing.{texts_of};
 ghost use Rattle.trac_rules.specs.declared.width.Width.{Width};
 
-use crate::effect::{Deed, Made};
+use crate::effect::{Deed, Made, NOTHING};
 use std::alloc::Allocator;
 use trac_change::{Change, LaterArguments, after};
 use trac_forms::{Form, Store, Texts};
@@ -27,6 +27,7 @@ use trac_rules::refusal::Refusal;
 use trac_text::Args;
 
 // `ds`: a text becomes a form.
+#[inline(never)]
 pub(crate) fn define<A: Allocator + Copy>(
     alloc: A,
     args: &Args<'_>,
@@ -44,10 +45,11 @@ pub(crate) fn define<A: Allocator + Copy>(
     }
     let name = Vec::from_slice(alloc, name)?;
     *change = Change::Put(name, form);
-    Ok(Deed::nothing())
+    Ok(NOTHING)
 }
 
 // `dd`: the forms of some names are deleted.
+#[inline(never)]
 pub(crate) fn delete<A: Allocator + Copy>(
     alloc: A,
     args: &Args<'_>,
@@ -59,10 +61,11 @@ pub(crate) fn delete<A: Allocator + Copy>(
 {
     let names = copies(alloc, &after(args, 1))?;
     *change = Change::Remove(names);
-    Ok(Deed::nothing())
+    Ok(NOTHING)
 }
 
 // `ss`: texts are cut out of a form.
+#[inline(never)]
 pub(crate) fn segment<A: Allocator + Copy>(
     alloc: A,
     args: &Args<'_>,
@@ -77,7 +80,7 @@ pub(crate) fn segment<A: Allocator + Copy>(
 {
     let name = args.get(1);
     let Some(form) = store.get(name) else {
-        return Ok(Deed::nothing());
+        return Ok(NOTHING);
     };
     if !may_put(store, name) {
         return Err(Refusal::TooLong);
@@ -85,10 +88,11 @@ pub(crate) fn segment<A: Allocator + Copy>(
     let cut = form.cut_for(&after(args, 2))?;
     let name = Vec::from_slice(alloc, name)?;
     *change = Change::Cut(name, cut);
-    Ok(Deed::nothing())
+    Ok(NOTHING)
 }
 
 // `cr`: the pointer of a form goes before its first item.
+#[inline(never)]
 pub(crate) fn restore<A: Allocator + Copy>(
     alloc: A,
     args: &Args<'_>,
@@ -102,11 +106,11 @@ pub(crate) fn restore<A: Allocator + Copy>(
 {
     let name = args.get(1);
     if store.get(name).is_none() {
-        return Ok(Deed::nothing());
+        return Ok(NOTHING);
     }
     let name = Vec::from_slice(alloc, name)?;
     *change = Change::Point(name, 0);
-    Ok(Deed::nothing())
+    Ok(NOTHING)
 }
 
 // `cl`: a form from its pointer on, its gaps filled with texts.
@@ -119,7 +123,7 @@ pub(crate) fn call<A: Allocator + Copy>(
         (handled CallForm width args.now (storage_in store.now)) made.old made.new Keep result }
 {
     let Some(form) = store.get(args.get(1)) else {
-        return Ok(Deed::nothing());
+        return Ok(NOTHING);
     };
     let Some(room) = room_of(form, args) else {
         return Err(Refusal::TooLong);
@@ -127,7 +131,7 @@ pub(crate) fn call<A: Allocator + Copy>(
     let texts = after(args, 2);
     made.value.reserve(room)?;
     form.call_into(&texts, &mut made.value)?;
-    Ok(Deed::nothing())
+    Ok(NOTHING)
 }
 
 // `ln`: the names of all forms, each with a text before it.
@@ -146,7 +150,7 @@ pub(crate) fn list_names<A: Allocator + Copy>(
     };
     made.value.reserve(len)?;
     list_into(text, names.as_slice(), &mut made.value)?;
-    Ok(Deed::nothing())
+    Ok(NOTHING)
 }
 
 // `pf`: a form is printed.
@@ -159,14 +163,14 @@ pub(crate) fn print_form<A: Allocator + Copy>(
         (handled PrintForm width args.now (storage_in store.now)) made.old made.new Keep result }
 {
     let Some(form) = store.get(args.get(1)) else {
-        return Ok(Deed::nothing());
+        return Ok(NOTHING);
     };
     let Some(len) = form.show_len() else {
         return Err(Refusal::TooLong);
     };
     made.print.reserve(len)?;
     form.show_into(&mut made.print)?;
-    Ok(Deed::nothing())
+    Ok(NOTHING)
 }
 
 // ---- pieces

@@ -6,7 +6,7 @@ ghost use Rattle.trac_rules.specs.State.{Storage};
 ghost use Rattle.trac_change.specs.declared.change.Change.TheVariants.{Keep};
 ghost use Rattle.trac_prims.specs.Effects.{IsDone};
 
-use crate::effect::{Deed, Made};
+use crate::effect::{Deed, Made, NOTHING};
 use crate::tape::Tape;
 use memchr::memchr;
 use std::alloc::Allocator;
@@ -22,7 +22,7 @@ pub(crate) fn print_string<A: Allocator + Copy>(
         IsDone args.now storage (Ok (prints (argument 1 args.now) storage)) made.old made.new Keep result }
 {
     made.print.extend_from_slice(args.get(1))?;
-    Ok(Deed::nothing())
+    Ok(NOTHING)
 }
 
 // `rs`: the input from this place on, up to the first meta character, or all of it at its end.
@@ -79,10 +79,7 @@ fn take<A: Allocator + Copy>(text: &[u8], read: usize, made: &mut Made<A>) -> Re
     ensures read { IfOk result (λ d. d.read ≡ read) }
 {
     made.value.extend_from_slice(text)?;
-    Ok(Deed {
-        read,
-        ..Deed::nothing()
-    })
+    Ok(Deed { read, ..NOTHING })
 }
 
 // The first place of a byte.

@@ -1,5 +1,5 @@
 //! Planning a call.
-ghost use Rattle.std.specs.Prelude.{◌≡◌, ◌+◌, ◌≤◌, length, true, ◌↔◌, IfOk, IsTrue, OnOk};
+ghost use Rattle.std.specs.Prelude.{◌≡◌, ◌+◌, ◌≤◌, length, ◌↔◌, IfOk, IsTrue, OnOk};
 ghost use Rattle.trac_forms.specs.Stored.{storage_in};
 ghost use Rattle.trac_rules.specs.Blocks.{block_handled};
 ghost use Rattle.trac_rules.specs.Handling.{handled};
@@ -14,12 +14,12 @@ ghost use Rattle.trac_change.specs.Changes.{IsChangeOf};
 ghost use Rattle.trac_rules.specs.declared.width.Width.{Width};
 ghost use Rattle.trac_prims.specs.declared.effect.Made as made;
 ghost use Rattle.trac_prims.specs.Effects.{IsDone, done_on, planned_from, planned_on};
-ghost use Rattle.trac_prims.specs.Plans.{HasPlace, IsGiven, IsNow, fits_after, only_changes_forms};
+ghost use Rattle.trac_prims.specs.Plans.{HasPlace, IsGiven, IsNow, fits_after};
 ghost use Rattle.trac_prims.specs.Tape.{environment_of};
 
 use crate::blocks::{erase_block, fetch_block, store_block};
 use crate::computing::compute;
-use crate::effect::{Deed, Effect, Made, Now};
+use crate::effect::{Deed, Effect, Made, NOTHING, Now};
 use crate::forms::{call, define, delete, list_names, print_form, restore, segment};
 use crate::io::{print_string, read_byte, read_string};
 use crate::name::primitive_named;
@@ -152,21 +152,21 @@ fn perform<A: Allocator + Copy>(
         Primitive::Halt => Err(Refusal::Ended),
         Primitive::SetMeta => Ok(Deed {
             meta: args.get(1).first().copied(),
-            ..Deed::nothing()
+            ..NOTHING
         }),
         Primitive::SetTrace(trace) => Ok(Deed {
             trace: Some(trace),
-            ..Deed::nothing()
+            ..NOTHING
         }),
         Primitive::Compute(computation) => compute(alloc, computation, args, now.width, made),
         Primitive::Handle(action) => handle(alloc, action, args, store, now.width, made, change),
         Primitive::HandleBlock(action) => plan_block_change(alloc, action, args, store, change),
-        Primitive::Unknown => Ok(Deed::nothing()),
+        Primitive::Unknown => Ok(NOTHING),
     }
 }
 
-// What a primitive does with forms. A function clears room for all changes that it may plan where it begins: so this
-// and the two after it are compiled apart, and a call that plans none does not pay.
+// What a primitive does with forms. A function clears room for all changes that it may plan where it begins: so this,
+// what plans a change of forms, and the next one are compiled apart, and a call that plans none does not pay.
 #[inline(never)]
 fn handle<A: Allocator + Copy>(
     alloc: A,
@@ -188,41 +188,14 @@ fn handle<A: Allocator + Copy>(
         FormAction::Read(reading) => read(alloc, reading, args, store, width, made, change),
         FormAction::ListNames => list_names(args, store, made),
         FormAction::PrintForm => print_form(args, store, made),
-        FormAction::Define
-        | FormAction::Delete
-        | FormAction::DeleteAll
-        | FormAction::Segment
-        | FormAction::Restore => plan_form_change(alloc, action, args, store, change),
-    }
-}
-
-// The change of a primitive that only changes forms.
-#[inline(never)]
-fn plan_form_change<A: Allocator + Copy>(
-    alloc: A,
-    action: FormAction,
-    args: &Args<'_>,
-    store: &Store<A>,
-    change: &mut Change<A>,
-) -> Result<Deed, Refusal>
-    requires only { only_changes_forms action ≡ true }
-    requires keeps { change.old ≡ Keep }
-    requires count { length args.now ≤ MARK_LIMIT }
-    ensures outcome { (width : Width) (texts : made.Made A) → IsDone args.now (storage_in store.now)
-        (handled action width args.now (storage_in store.now)) texts texts change.new result }
-    ensures change { OnOk result (IsChangeOf (primitive.Handle action) args.now (storage_in store.now) change.new) }
-{
-    match action {
         FormAction::Define => define(alloc, args, store, change),
         FormAction::Delete => delete(alloc, args, change),
         FormAction::DeleteAll => {
             *change = Change::Clear;
-            Ok(Deed::nothing())
+            Ok(NOTHING)
         }
         FormAction::Segment => segment(alloc, args, store, change),
         FormAction::Restore => restore(alloc, args, store, change),
-        FormAction::Call | FormAction::Read(_) | FormAction::ListNames | FormAction::PrintForm =>
-            unreachable!(),
     }
 }
 

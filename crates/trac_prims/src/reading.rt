@@ -14,7 +14,7 @@ ghost use Rattle.trac_change.specs.Changes.{IsChangeOf};
 ghost use Rattle.trac_prims.specs.Effects.{IsDone};
 
 use crate::computing::number_at;
-use crate::effect::{Deed, Made};
+use crate::effect::{Deed, Made, NOTHING};
 use std::alloc::Allocator;
 use trac_change::Change;
 use trac_forms::{Form, Piece, Store};
@@ -41,7 +41,7 @@ pub(crate) fn read<A: Allocator + Copy>(
 {
     let name = args.get(1);
     let Some(form) = store.get(name) else {
-        return Ok(Deed::nothing());
+        return Ok(NOTHING);
     };
     match piece_of(reading, args, form, width)? {
         Some(piece) => give_piece(alloc, name, form, &piece, made, change),
@@ -108,7 +108,7 @@ fn give_piece<A: Allocator + Copy>(
     form.piece_into(piece, &mut made.value)?;
     let name = Vec::from_slice(alloc, name)?;
     *change = Change::Point(name, piece.pointer);
-    Ok(Deed::nothing())
+    Ok(NOTHING)
 }
 
 // Gives a text, forced; the pointer of the form of this name stays.
@@ -132,6 +132,6 @@ fn force<A: Allocator + Copy>(
     *change = Change::Point(name, form.pointer());
     Ok(Deed {
         forced: true,
-        ..Deed::nothing()
+        ..NOTHING
     })
 }

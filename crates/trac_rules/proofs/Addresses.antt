@@ -10,7 +10,6 @@ use Rattle.trac_rules.specs.Pieces.{bytes_in}
 use Rattle.trac_rules.specs.State.{Block}
 use Rattle.trac_rules.proofs.Balanced.{first_place_some}
 
--- an address is the number in decimal
 pub spelled : (form : Form) (blocks : List Block) (number : ℕ) → is_address form blocks number ≡ true → decimal number ≡ bytes_in (all_items form)
 spelled form blocks number is =
     let parts = and_parts (is_some (block_at number blocks)) (bytes_eq (decimal number) (bytes_in (all_items form))) is in

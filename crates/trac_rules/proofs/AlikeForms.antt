@@ -12,7 +12,6 @@ use Rattle.trac_rules.specs.declared.item.Item.TheVariants.{Byte, Gap}
 use Rattle.trac_rules.specs.Form.{Form, all_items}
 use Rattle.trac_rules.specs.Goals.{is_same_form, is_same_item}
 
--- the test of two items decides whether they are one
 alike_items : (a b : Item) → Decides (is_same_item a b) (a ≡ b)
 alike_items (Byte x) (Byte y) = (
   λ h. ap Byte ((Decides-eqb x y).0 h),

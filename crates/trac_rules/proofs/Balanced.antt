@@ -9,7 +9,6 @@ use Rattle.trac_rules.specs.Matching.{closes_at, match_of, protected, IsBalanced
 
 -- ---- counting
 
--- the count of two joined texts is the sum of their counts
 pub count_of-append : (b : ℕ) (xs ys : List ℕ) → count_of b (xs ++ ys) ≡ count_of b xs + count_of b ys
 count_of-append b [] ys = omega arith
 count_of-append b (x ∷ xs) ys =
@@ -23,25 +22,21 @@ count_of-append b (x ∷ xs) ys =
 pub count_of_same : (b x : ℕ) (xs : List ℕ) → x ≡ b → count_of b (x ∷ xs) ≡ count_of b xs + 1
 count_of_same b x xs e = let t : (x == b) ≡ true = eq-eqb x b e in rw t (omega arith)
 
--- any other byte leaves the count as it is
 pub count_of_other : (b x : ℕ) (xs : List ℕ) → (x ≡ b → ⊥) → count_of b (x ∷ xs) ≡ count_of b xs
 count_of_other b x xs n = let t : (x == b) ≡ false = ne_eqb x b n in rw t refl
 
--- one more byte of a text, which is counted
 pub count_of_more_same : (b : ℕ) (text : List ℕ) (i : ℕ) → i < length text → get_or text i 0 ≡ b → count_of b (take (i + 1) text) ≡ count_of b (take i text) + 1
 count_of_more_same b text i l e =
     let one : count_of b (get_or text i 0 ∷ []) ≡ count_of b [] + 1 = count_of_same b (get_or text i 0) [] e in
     let more : take (i + 1) text ≡ take i text ++ get_or text i 0 ∷ [] = take_more text i 0 l in
     rw more (omega (arith, one, count_of-append b (take i text) (get_or text i 0 ∷ [])))
 
--- one more byte of a text, which is another one
 pub count_of_more_other : (b : ℕ) (text : List ℕ) (i : ℕ) → i < length text → (get_or text i 0 ≡ b → ⊥) → count_of b (take (i + 1) text) ≡ count_of b (take i text)
 count_of_more_other b text i l n =
     let one : count_of b (get_or text i 0 ∷ []) ≡ count_of b [] = count_of_other b (get_or text i 0) [] n in
     let more : take (i + 1) text ≡ take i text ++ get_or text i 0 ∷ [] = take_more text i 0 l in
     rw more (omega (arith, one, count_of-append b (take i text) (get_or text i 0 ∷ [])))
 
--- one more byte of a text, whatever it is
 pub count_of_more : (b : ℕ) (text : List ℕ) (i : ℕ) → i < length text → count_of b (take i text) ≤ count_of b (take (i + 1) text)
 count_of_more b text i l =
     ⊎_elim
@@ -51,12 +46,10 @@ count_of_more b text i l =
 
 -- ---- the first place that passes a test
 
--- there is none where no place passes
 pub first_place_none : (passes : ℕ → Bool) (n : ℕ) → ((k : ℕ) → k < n → passes k ≡ false) → first_place passes n ≡ None
 first_place_none p zero h = refl
 first_place_none p (suc n) h = rw (first_place_none p n (λ k l. h k (omega arith)), h n (omega arith)) refl
 
--- it is a place that passes, none below passing
 pub first_place_some : (passes : ℕ → Bool) (n k : ℕ) → k < n → passes k ≡ true → ((j : ℕ) → j < k → passes j ≡ false) → first_place passes n ≡ Some k
 first_place_some p zero k l is below = absurd (omega arith)
 first_place_some p (suc n) k l is below =
@@ -79,7 +72,6 @@ first_place_cases p (suc n) = go (first_place_cases p n) (cases_Bool (p n))
     go (inl none) (inr t) =
         inl (λ k l. ⊎_elim (λ (e : k ≡ n). rw e t) (λ (ne : k ≡ n → ⊥). none k (omega arith)) (cases_eq k n))
 
--- the first place that passes does pass
 pub first_place_passes : (passes : ℕ → Bool) (n k : ℕ) → first_place passes n ≡ Some k → passes k ≡ true
 first_place_passes p n k found =
     ⊎_elim
@@ -103,7 +95,6 @@ closes_at_parts text k h =
     let both = and_parts (get_or text k 0 == CLOSING) (count_of OPENING (take k text) == count_of CLOSING (take k text)) h in
     (eqb-true (get_or text k 0) CLOSING both.0, eqb-true (count_of OPENING (take k text)) (count_of CLOSING (take k text)) both.1)
 
--- another byte does not close
 pub closes_at_other : (text : List ℕ) (k : ℕ) → (get_or text k 0 ≡ CLOSING → ⊥) → closes_at text k ≡ false
 closes_at_other text k n = false_from_ne_true (closes_at text k) (λ t. n (closes_at_parts text k t).0)
 
@@ -111,12 +102,10 @@ closes_at_other text k n = false_from_ne_true (closes_at text k) (λ t. n (close
 pub closes_at_inside : (text : List ℕ) (k : ℕ) → count_of CLOSING (take k text) < count_of OPENING (take k text) → closes_at text k ≡ false
 closes_at_inside text k l = false_from_ne_true (closes_at text k) (λ t. absurd (omega (arith, (closes_at_parts text k t).1)))
 
--- the first closing place is the match
 pub match_at : (text : List ℕ) (k : ℕ) → closes_at text k ≡ true → ((j : ℕ) → j < k → closes_at text j ≡ false) → k < length text → match_of text ≡ Some k
 unfolding match_of
 match_at text k is below l = first_place_some (closes_at text) (length text) k l is below
 
--- without a closing place there is no match
 pub match_none : (text : List ℕ) → ((k : ℕ) → k < length text → closes_at text k ≡ false) → match_of text ≡ None
 unfolding match_of
 match_none text none = first_place_none (closes_at text) (length text) none
@@ -140,7 +129,6 @@ fronts_of_open text n l none (suc i) m =
     (λ (ne : get_or text i 0 ≡ CLOSING → ⊥). omega (arith, count_of_more_other CLOSING text i within ne))
     (cases_eq (get_or text i 0) CLOSING))
 
--- the text before the first closing place is balanced
 pub balanced_before : (text : List ℕ) (k : ℕ) → closes_at text k ≡ true → ((j : ℕ) → j < k → closes_at text j ≡ false) → k < length text → IsBalanced (take k text)
 balanced_before text k is below l = record {
   even = (closes_at_parts text k is).1;
@@ -154,7 +142,6 @@ balanced_before text k is below l = record {
       (cases_lt n k);
 }
 
--- no place of a balanced text closes, whatever stands after it
 pub open_within : (inner more : List ℕ) → IsBalanced inner → (j : ℕ) → j < length inner → closes_at (inner ++ more) j ≡ false
 open_within inner more balanced j l =
     false_from_ne_true (closes_at (inner ++ more) j) (λ t.
@@ -167,7 +154,6 @@ open_within inner more balanced j l =
 
 -- ---- what is protected
 
--- the text splits at its first closing place
 pub split_at_closing : (text : List ℕ) (k : ℕ) → closes_at text k ≡ true → k < length text → text ≡ take k text ++ CLOSING ∷ drop (k + 1) text
 split_at_closing text k is l =
     let here : get_or text k 0 ≡ CLOSING = (closes_at_parts text k is).0 in

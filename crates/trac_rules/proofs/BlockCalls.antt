@@ -45,7 +45,6 @@ pub with_all-held : (entries : Held) (es : Named) → with_all entries (held es)
 with_all-held [] es = refl
 with_all-held (entry ∷ entries) es = with_all-held entries (entry ∷ es)
 
--- how many forms there are
 len-held : (es : Named) → finite.len (held es) ≡ length (in_order es)
 len-held es = finite.len-entries (held es) ∙ ap length (entries-held es)
 
@@ -142,7 +141,6 @@ handled-held EraseBlock arguments es blocks =
 abbrev pub sorted : Option (Named × List Block) → Option (Named × List Block)
 sorted o = option_map (λ (b : Named × List Block). let in_its_order : Named × List Block = (in_order b.0, b.1) in in_its_order) o
 
--- lists of the same order and blocks are the same storage
 pub same_stored : (b : Named × List Block) (after : Named) (blocks : List Block) → sorted (Some b) ≡ Some (in_order after, blocks) → stored b.0 b.1 ≡ stored after blocks
 same_stored b after blocks is =
     let same : (let in_its_order : Named × List Block = (in_order b.0, b.1) in in_its_order) ≡ (in_order after, blocks) = cc in

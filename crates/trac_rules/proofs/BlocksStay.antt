@@ -42,7 +42,6 @@ use Rattle.trac_rules.proofs.Scans.{ScanShows, scan_shows}
 abbrev HasBlocks : List Block → Storage → Type 0
 HasBlocks n storage = AreKept n storage.blocks
 
--- so it is where others are added
 kept_before : (old new more : List Block) → AreKept old new → AreKept old (new ++ more)
 kept_before old new more kept = record {
   count = omega (arith, kept.count, length-append new more);
@@ -51,7 +50,6 @@ kept_before old new more kept = record {
       (kept.each number within);
 }
 
--- and where one of them is erased
 kept_erased : (old new : List Block) (at : ℕ) → AreKept old new → AreKept old (slice_set new at None)
 kept_erased old new at kept = record {
   count = omega (arith, kept.count, length-set new at None);
@@ -193,7 +191,6 @@ carried_out_leaves n environment s (Moves t) same l = subst (HasBlocks n) (sym s
 carried_out_leaves n environment s (Calls call) same l =
     placed_leaves n call (performed environment call) (performed_leaves n environment call (subst (HasBlocks n) (sym same) l))
 
--- no step takes a block off the list, or changes one but to erase it
 pub blocks_stay : (environment : Environment) (s t : State) → step environment s ≡ Ok t → AreKept s.blocks t.blocks
 unfolding step
 blocks_stay environment s t h =

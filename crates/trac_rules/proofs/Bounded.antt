@@ -77,7 +77,6 @@ found_within name forms proper = by_found (finite.get forms name) refl
         let parts = form_parts name form (proper.each name form there) in
         omega (arith, parts.0, parts.1, length-append form.before form.after)
 
--- all forms, and so those that are taken
 entries_within : (forms : Forms) → AreProperForms forms → all_loss (finite.entries forms) ≤ forms_most
 entries_within forms proper = held_within (finite.entries forms) (each_entry forms proper) (omega (arith, finite.len-entries forms, proper.count))
 
@@ -120,7 +119,6 @@ module _ (arguments : List (List ℕ)) (storage : Storage) (proper : IsProperSto
   handled_bounded action.Segment = omega (arith, segmenting_within (named_form arguments storage) refl)
   handled_bounded other = omega arith
 
-  -- no block holds more forms than it may
   few_in : (block : Block) → IsProperBlock block → length (forms_in block) ≤ FORM_COUNT_LIMIT
   few_in None held = omega arith
   few_in (Some held) is = is.count
@@ -158,7 +156,6 @@ pub total_length-append : (texts : List (List ℕ)) (text : List ℕ) → total_
 total_length-append [] text = omega arith
 total_length-append (first ∷ texts) text = omega (arith, total_length-append texts text)
 
--- texts and marks of a proper state
 fits_so : (s : State) → texts_fit s ≡ true → (text_bytes s ≤ TEXT_LIMIT) × (marks s.frames ≤ MARK_LIMIT)
 unfolding texts_fit
 fits_so s fits =
@@ -202,7 +199,6 @@ losses_bounded [] all = omega arith
 losses_bounded (s ∷ states) all =
     omega (arith, loss_bounded s (All-head IsProper s states all), losses_bounded states (All-tail IsProper s states all))
 
--- their records weigh no more than that
 pub weights_within_losses : (states : List State) → weights_from states ≤ losses_from states
 weights_within_losses [] = omega arith
 weights_within_losses (s ∷ states) = omega (arith, step_weight_within s, weights_within_losses states)

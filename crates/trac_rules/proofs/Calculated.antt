@@ -1,5 +1,5 @@
 -- A quotient is cut toward zero, and what is printed is read back.
-use Rattle.std.proofs.Common.{◌≡◌, ◌+ℤ◌, ◌-ℤ◌, ◌*ℤ◌, ℕ, zero, suc, ◌-◌, ◌/◌, ◌^◌, ◌<◌, ◌==◌, true, false, ℤ, pos, negsuc, neg_ℤ, unsigned_abs, int_div, int_rem, List, ◌∷◌, length, get_or, Some, refl, sym, ap, ◌∙◌, arith, ⊎_elim}
+use Rattle.std.proofs.Common.{◌≡◌, ◌+ℤ◌, ◌-ℤ◌, ◌*ℤ◌, ℕ, zero, suc, ◌-◌, ◌/◌, ◌^◌, ◌<◌, ◌==◌, Bool, true, false, cond, ℤ, pos, negsuc, neg_ℤ, unsigned_abs, int_div, int_rem, List, ◌∷◌, length, get_or, Option, None, Some, refl, sym, ap, ◌∙◌, arith, ⊎_elim}
 use Rattle.std.proofs.Math.Nat.{div-mul-le_self}
 use Rattle.std.proofs.lemmas.Bool.{and_parts, and_from, cases_Bool, false≢true, le-leb, lt-ltb, ltb-true, leb-true, ne_eqb}
 use Rattle.std.proofs.lemmas.Bool.Decides.{Decides-int_eq}
@@ -87,7 +87,6 @@ minus_number : (n : ℕ) (text : List ℕ) → IsDecimal n text → whole_number
 unfolding whole_number
 minus_number n text d = ap (λ k. neg_ℤ (pos k)) d.value
 
--- the numbers of the range have less than 64 digits
 narrow_plus : (width : Width) (k : ℕ) → fits width (pos k) ≡ true → k < 10 ^ 64
 narrow_plus W64 k t = omega (arith, ltb-true k (2 ^ 63) t)
 narrow_plus W128 k t = omega (arith, ltb-true k (2 ^ 127) t)
@@ -120,13 +119,33 @@ pub narrow_number : (numeral : List ℕ) (n : ℤ) → number_of W64 numeral ≡
 unfolding number_of
 narrow_number numeral n e = if_narrow (whole_number numeral) n e
 
-pub narrow_result : (operation : Operation) (a b n : ℤ) → result_of operation W64 a b ≡ Some n → result_of operation W128 a b ≡ Some n
+-- an operation without a range; none for a divisor of 0
+abbrev pub exact : Operation → ℤ → ℤ → Option ℤ
+exact Add a b = Some (a +ℤ b)
+exact Subtract a b = Some (a -ℤ b)
+exact Multiply a b = Some (a *ℤ b)
+exact Divide a b = cond (int_eq b (pos 0)) None (Some (int_div a b))
+
+-- what there is, if it fits
+abbrev pub fitted : Width → Option ℤ → Option ℤ
+fitted width None = None
+fitted width (Some n) = if_fits width n
+
+pub result_is_fitted : (operation : Operation) (width : Width) (a b : ℤ) → result_of operation width a b ≡ fitted width (exact operation a b)
 unfolding sum_of difference_of product_of quotient_of
-narrow_result Add a b n e = if_narrow (a +ℤ b) n e
-narrow_result Subtract a b n e = if_narrow (a -ℤ b) n e
-narrow_result Multiply a b n e = if_narrow (a *ℤ b) n e
-narrow_result Divide a b n e =
-    ⊎_elim
-    (λ (t : int_eq b (pos 0) ≡ true). let missing = rw t at e in absurd (none-some n missing))
-    (λ (f : int_eq b (pos 0) ≡ false). let kept : if_fits W64 (int_div a b) ≡ Some n = rw f at e in rw f (if_narrow (int_div a b) n kept))
-    (cases_Bool (int_eq b (pos 0)))
+result_is_fitted Add width a b = refl
+result_is_fitted Subtract width a b = refl
+result_is_fitted Multiply width a b = refl
+result_is_fitted Divide width a b = by (int_eq b (pos 0))
+  where
+    by : (t : Bool) → cond t None (if_fits width (int_div a b)) ≡ fitted width (cond t None (Some (int_div a b)))
+    by true = refl
+    by false = refl
+
+narrow_fitted : (o : Option ℤ) (n : ℤ) → fitted W64 o ≡ Some n → fitted W128 o ≡ Some n
+narrow_fitted None n e = e
+narrow_fitted (Some m) n e = if_narrow m n e
+
+pub narrow_result : (operation : Operation) (a b n : ℤ) → result_of operation W64 a b ≡ Some n → result_of operation W128 a b ≡ Some n
+narrow_result operation a b n e =
+    result_is_fitted operation W128 a b ∙ narrow_fitted (exact operation a b) n (sym (result_is_fitted operation W64 a b) ∙ e)

@@ -85,6 +85,16 @@ unfolding step
 call_performed environment s t kept h k =
     call_of_step environment s t kept (scan s) (asks s) (limited_Ok texts_fit (carried_out environment (scan s)) t h).0 k
 
+-- a part of a state that is got back from what each call leaves is got back from the state after the step
+goes_back_over : {X : Type 0} (part : State → X) (before : CallRecord → X → Option X) (environment : Environment) (s t : State) (kept : CallRecord) →
+    step environment s ≡ Ok t → call_record_of environment s ≡ Some kept →
+    ((call : Call) (e : Effect) → IsAtFront s call → performed environment call ≡ Ok e → before (call_recorded call e) (part (after_call call e)) ≡ Some (part s)) →
+    before kept (part t) ≡ Some (part s)
+goes_back_over part before environment s t kept h k back =
+    let done = call_performed environment s t kept h k in
+    subst (λ (c : CallRecord). before c (part t) ≡ Some (part s)) done.is
+    (subst (λ (u : State). before (call_recorded done.call done.effect) (part u) ≡ Some (part s)) done.after (back done.call done.effect done.at_front done.done))
+
 -- ---- texts and begun functions
 
 -- a text is off again where it was put before another
@@ -110,18 +120,11 @@ value_goes_back Neutral false value u = end_taken u.frames value u
 
 pub texts_go_back : (environment : Environment) (s t : State) (kept : CallRecord) → step environment s ≡ Ok t → call_record_of environment s ≡ Some kept →
     texts_before kept (texts_in t) ≡ Some (texts_in s)
-texts_go_back environment s t kept h k =
-    let done = call_performed environment s t kept h k in
-    let call = done.call in
-    let e = done.effect in
-    let back : texts_before (call_recorded call e) (texts_in (after_call call e)) ≡ Some (texts_in s) =
-    ap (option_and_then (begun_again call.kind call.arguments)) (value_goes_back call.kind e.forced e.value (changed_by e call.state)) ∙ done.at_front.texts in
-    subst (λ (c : CallRecord). texts_before c (texts_in t) ≡ Some (texts_in s)) done.is
-    (subst (λ (u : State). texts_before (call_recorded call e) (texts_in u) ≡ Some (texts_in s)) done.after back)
+texts_go_back environment s t kept h k = goes_back_over texts_in texts_before environment s t kept h k (λ call e at done.
+    ap (option_and_then (begun_again call.kind call.arguments)) (value_goes_back call.kind e.forced e.value (changed_by e call.state)) ∙ at.texts)
 
 -- ---- all but forms and blocks
 
--- a meta character that was set, or not, is the old one again
 meta_goes_back : (old : ℕ) (new : Option ℕ) → unwrap_or (option_map (λ _. old) new) (unwrap_or new old) ≡ old
 meta_goes_back old None = refl
 meta_goes_back old (Some b) = refl
@@ -143,7 +146,6 @@ rest_goes_back call e =
     } in rest)) fits
     ∙ (λ i. Some (record { meta = meta i; trace = s.trace; position = back i; output = output i }))
 
--- a placed value leaves all of it
 rest-placed : (kind : Kind) (forced : Bool) (value : List ℕ) (s : State) → rest_of (placed kind forced value s) ≡ rest_of s
 rest-placed Active forced value s = refl
 rest-placed Neutral true value s = refl
@@ -151,14 +153,8 @@ rest-placed Neutral false value s = gathered_in_shows rest_of (λ _ _ _ _. refl)
 
 pub rest_goes_back_over : (environment : Environment) (s t : State) (kept : CallRecord) → step environment s ≡ Ok t → call_record_of environment s ≡ Some kept →
     rest_before kept (rest_of t) ≡ Some (rest_of s)
-rest_goes_back_over environment s t kept h k =
-    let done = call_performed environment s t kept h k in
-    let call = done.call in
-    let e = done.effect in
-    let back : rest_before (call_recorded call e) (rest_of (after_call call e)) ≡ Some (rest_of s) =
-    ap (rest_before (call_recorded call e)) (rest-placed call.kind e.forced e.value (changed_by e call.state)) ∙ rest_goes_back call e ∙ ap Some done.at_front.rest in
-    subst (λ (c : CallRecord). rest_before c (rest_of t) ≡ Some (rest_of s)) done.is
-    (subst (λ (u : State). rest_before (call_recorded call e) (rest_of u) ≡ Some (rest_of s)) done.after back)
+rest_goes_back_over environment s t kept h k = goes_back_over rest_of rest_before environment s t kept h k (λ call e at done.
+    ap (rest_before (call_recorded call e)) (rest-placed call.kind e.forced e.value (changed_by e call.state)) ∙ rest_goes_back call e ∙ ap Some at.rest)
 
 -- ---- forms and blocks
 
@@ -176,16 +172,11 @@ performed_kept environment call e done =
 pub storage_goes_back : (environment : Environment) (s t : State) (kept : CallRecord) → step environment s ≡ Ok t → call_record_of environment s ≡ Some kept →
     storage_before kept.arguments kept.undone (storage_of t) ≡ Some (storage_of s)
 storage_goes_back environment s t kept h k =
-    let done = call_performed environment s t kept h k in
-    let call = done.call in
-    let e = done.effect in
-    let undone = undone_by (primitive_of (argument 0 call.arguments)) call.arguments (storage_of call.state) in
-    let back : storage_before call.arguments undone (storage_of (after_call call e)) ≡ Some (storage_of s) =
-    ap (storage_before call.arguments undone) (storage-placed call.kind e.forced e.value (changed_by e call.state))
-    ∙ (performed_kept environment call e done.done).storage_back
-    ∙ ap Some done.at_front.storage in
-    subst (λ (c : CallRecord). storage_before c.arguments c.undone (storage_of t) ≡ Some (storage_of s)) done.is
-    (subst (λ (u : State). storage_before call.arguments undone (storage_of u) ≡ Some (storage_of s)) done.after back)
+    goes_back_over storage_of (λ (c : CallRecord) storage. storage_before c.arguments c.undone storage) environment s t kept h k (λ call e at done.
+    ap (storage_before call.arguments (undone_by (primitive_of (argument 0 call.arguments)) call.arguments (storage_of call.state)))
+    (storage-placed call.kind e.forced e.value (changed_by e call.state))
+    ∙ (performed_kept environment call e done).storage_back
+    ∙ ap Some at.storage)
 
 -- ---- the whole state
 
@@ -218,7 +209,6 @@ pub record_leads_back : (environment : Environment) (s t : State) (r : Record) �
     state_before r t ≡ Some s
 record_leads_back environment s t r proper h k = before_of_restored r s t proper (record_restores environment s t r h k)
 
--- an accepted step has a record
 pub record_is_there : (environment : Environment) (s t : State) → step environment s ≡ Ok t → is_some (record_of environment s) ≡ true
 unfolding step
 record_is_there environment s t h = by_scanned (scan s) (limited_Ok texts_fit (carried_out environment (scan s)) t h).0

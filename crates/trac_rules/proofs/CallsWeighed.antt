@@ -38,17 +38,14 @@ use Rattle.trac_rules.proofs.Weighed.{weight_within}
 
 -- ---- what is kept of forms and blocks
 
--- a form without its name is no more than one with it
 form_within : (name : List ℕ) (found : Option Form) → form_weight found ≤ option_map_or (form_loss name) found 0
 form_within name None = omega arith
 form_within name (Some form) = omega (arith, length-append form.before form.after)
 
--- forms with their names weigh what is lost with them
 held_loses : (held : Held) → held_weight held ≡ all_loss held
 held_loses [] = refl
 held_loses (entry ∷ held) = omega (arith, held_loses held, length-append entry.1.before entry.1.after)
 
--- two lists of forms weigh what they weigh together
 weight-append : (held more : Held) → held_weight (held ++ more) ≡ held_weight held + held_weight more
 weight-append [] more = omega arith
 weight-append (entry ∷ held) more = omega (arith, weight-append held more)
@@ -149,7 +146,6 @@ module _ (arguments : List (List ℕ)) (storage : Storage) where
 
 -- ---- a call
 
--- a kept meta character weighs one, whichever it was
 old_meta_weighs : (old : ℕ) (new : Option ℕ) → meta_weight (option_map (λ _. old) new) ≡ meta_weight new
 old_meta_weighs old None = refl
 old_meta_weighs old (Some b) = refl
@@ -160,7 +156,6 @@ pub call_weighs : (environment : Environment) (call : Call) (e : Effect) → per
 call_weighs environment call e done =
     omega (arith, old_meta_weighs call.state.meta e.meta, (performed_kept environment call e done).meta)
 
--- which is no more than the call may lose
 kept_within : (arguments : List (List ℕ)) (storage : Storage) → kept_weight arguments storage ≤ call_loss arguments storage
 kept_within arguments storage = omega (arith, primitive_within arguments storage (primitive_of (argument 0 arguments)))
 
@@ -183,7 +178,6 @@ loses : (s : State) → LosesAsCall (front_of s.active) s (scan s)
 unfolding scan
 loses s = loses_at (front_of s.active) s
 
--- what the record of a step weighs is no more than the step may lose
 pub step_weight_within : (s : State) → step_weight s ≤ loss s
 step_weight_within s = by_scanned (scan s) refl (loses s)
   where

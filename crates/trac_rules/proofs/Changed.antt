@@ -66,7 +66,6 @@ scan_at-changed f g Closing s = closing_in-changed f g s.frames (deleted 1 s)
 scan_at-changed f g Plain s = ap Moves (gathered_in-changed f g s.frames (take 1 s.active) (deleted 1 s))
 scan_at-changed f g other s = refl
 
--- the position and the output play no part in scanning
 pub scan-changed : (places : ℕ → ℕ) (texts : List ℕ → List ℕ) (s : State) → scan (changed places texts s) ≡ scanned_as (changed places texts) (scan s)
 unfolding scan
 scan-changed f g s = scan_at-changed f g (front_of s.active) s
@@ -160,12 +159,10 @@ scanned_out-changed f g old new s same =
 
 -- ---- limits
 
--- the position plays no part in the limits
 pub texts_fit-moved : (places : ℕ → ℕ) (s : State) → texts_fit (changed places (λ o. o) s) ≡ texts_fit s
 unfolding texts_fit
 texts_fit-moved f s = refl
 
--- a state keeps the limits where one with more output does
 pub texts_fit_of_more : (text : List ℕ) (s : State) → texts_fit (changed (λ p. p) (λ o. text ++ o) s) ≡ true → texts_fit s ≡ true
 unfolding texts_fit
 texts_fit_of_more text s h =

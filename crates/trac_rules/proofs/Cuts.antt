@@ -25,29 +25,24 @@ pub data IsCut (texts : List (List ℕ)) : List Item → List Item → Type 0 wh
   made : (k : ℕ) {old new : List Item} → 0 < length (text_numbered k texts) → IsCut texts old new →
       IsCut texts (as_items (text_numbered k texts) ++ old) (Gap k (length (text_numbered k texts)) ∷ new)
 
--- joined texts as items
 as_items-append : (xs ys : List ℕ) → as_items (xs ++ ys) ≡ as_items xs ++ as_items ys
 as_items-append [] ys = refl
 as_items-append (x ∷ xs) ys = ap (λ (r : List Item). Byte x ∷ r) (as_items-append xs ys)
 
 module _ (texts : List (List ℕ)) where
-  -- nothing need be cut
   pub same_items : (items : List Item) → IsCut texts items items
   same_items [] = done
   same_items (item ∷ items) = kept (same_items items)
 
-  -- one list after another
   pub one_after : {a b c d : List Item} → IsCut texts a b → IsCut texts c d → IsCut texts (a ++ c) (b ++ d)
   one_after done i = i
   one_after (kept h) i = kept (one_after h i)
   one_after {c = c} {d = d} (made k {old = old} {new = new} some h) i =
       subst (λ (xs : List Item). IsCut texts xs (Gap k (length (text_numbered k texts)) ∷ (new ++ d))) (sym (append_assoc (as_items (text_numbered k texts)) old c)) (made k some (one_after h i))
 
-  -- what a byte was
   was_byte : {b : ℕ} {old new : List Item} → IsCut texts old (Byte b ∷ new) → (rest : List Item) × (old ≡ Byte b ∷ rest) × IsCut texts rest new
   was_byte (kept {old = rest} h) = (rest, refl, h)
 
-  -- what bytes were
   were_bytes : (text : List ℕ) (old new : List Item) → IsCut texts old (as_items text ++ new) → (rest : List Item) × (old ≡ as_items text ++ rest) × IsCut texts rest new
   were_bytes [] old new h = (old, refl, h)
   were_bytes (b ∷ text) old new h =
@@ -55,7 +50,6 @@ module _ (texts : List (List ℕ)) where
       let others = were_bytes text first.0 new first.2 in
       (others.0, first.1 ∙ ap (λ (xs : List Item). Byte b ∷ xs) others.1, others.2)
 
-  -- what is cut again
   pub cut_again : {b c : List Item} → IsCut texts b c → (a : List Item) → IsCut texts a b → IsCut texts a c
   cut_again done a h = h
   cut_again (kept i) a (kept {old = old} h) = kept (cut_again i old h)
@@ -93,7 +87,6 @@ module _ (texts : List (List ℕ)) where
   cut_others cut cuts [] = done
   cut_others cut cuts (gap ∷ others) = kept (one_after (cuts gap.1) (cut_others cut cuts others))
 
-  -- a text cut out of all runs
   pub cut_once : (k : ℕ) (text : List ℕ) (items : List Item) → text_numbered k texts ≡ text → IsCut texts items (cut_out k text items)
   unfolding cut_out
   cut_once k text items e =
@@ -112,7 +105,6 @@ module _ (texts : List (List ℕ)) where
       (omega (arith, n, length-append earlier (text ∷ []))))
       items (cut_once k text items here)
 
--- segmenting cuts texts out
 pub segmented_is_cut : (texts : List (List ℕ)) (form : Form) → IsCut texts (all_items form) (all_items (segmented texts form))
 segmented_is_cut texts form = cut_in_turn texts [] texts 1 (all_items form) refl refl
 
@@ -129,7 +121,6 @@ between_made place k text old new some =
     (no_gap text old some)
     ∙ ap (λ (xs : List Item). made_first place k (cut_between (place + 1) xs new)) (drop_at (as_items text) old (length text) (length-as_items text))
 
--- what stays is not made
 pub between_kept : (place : ℕ) (item : Item) (old new : List Item) → cut_between place (item ∷ old) (item ∷ new) ≡ cut_between (place + 1) old new
 between_kept place (Byte b) old new = refl
 between_kept place (Gap k w) old new = refl
@@ -144,7 +135,6 @@ gap_more : (item : Item) (xs ys : List Item) (n : ℕ) → gap_count ys ≡ gap_
 gap_more (Byte b) xs ys n h = h
 gap_more (Gap k w) xs ys n h = omega (arith, h)
 
--- the new items have as many gaps more
 pub counted : (texts : List (List ℕ)) (place : ℕ) {old new : List Item} → IsCut texts old new → gap_count new ≡ gap_count old + length (cut_between place old new)
 counted texts place done = omega arith
 counted texts place (kept {item = item} {old = old} {new = new} h) =
@@ -211,7 +201,6 @@ fill_made texts place k text cut items e some =
     (eq-eqb place place refl)
     ∙ ap (option_and_then (λ t. option_map (λ rest. as_items t ++ rest) (joined_from texts (place + 1) cut items))) (fitting_is texts k text e some)
 
--- the gaps that were made, filled again, give the old items
 pub joined_back : (texts : List (List ℕ)) (place : ℕ) {old new : List Item} → IsCut texts old new → joined_from texts place (cut_between place old new) new ≡ Some old
 joined_back texts place done = refl
 joined_back texts place (kept {item = item} {old = old} {new = new} h) =
@@ -286,14 +275,12 @@ joined_is_cut texts place (gap ∷ cut) (item ∷ items) before h =
 
 -- ---- the extent
 
--- cutting keeps the extent
 pub cut_extent : (texts : List (List ℕ)) {old new : List Item} → IsCut texts old new → extent old ≡ extent new
 cut_extent texts done = refl
 cut_extent texts (kept {item = item} h) = ap (λ (n : ℕ). width_of item + n) (cut_extent texts h)
 cut_extent texts (made k {old = old} some h) =
     omega (arith, extent-append (as_items (text_numbered k texts)) old, extent-as_items (text_numbered k texts), cut_extent texts h)
 
--- where the new items are wide the old ones are
 pub cut_wide : (texts : List (List ℕ)) {old new : List Item} → IsCut texts old new → All IsWide new → All IsWide old
 cut_wide texts done w = w
 cut_wide texts (kept {item = item} {old = old} {new = new} h) w =

@@ -15,14 +15,12 @@ use Rattle.trac_rules.proofs.Balanced.{first_place_some, first_place_none, first
 
 -- ---- where a text stands
 
--- a text stands after what is before it
 pub stands_after : (text front back : List ℕ) → stands_at text (front ++ (text ++ back)) (length front) ≡ true
 stands_after text front back =
     let here : drop (length front) (front ++ (text ++ back)) ≡ text ++ back = drop_at front (text ++ back) (length front) refl in
     let there : take (length text) (text ++ back) ≡ text = take_at text back (length text) refl in
     (bytes_eq-Decides (take (length text) (drop (length front) (front ++ (text ++ back)))) text).1 (ap (take (length text)) here ∙ there)
 
--- the run splits where a text stands
 pub split_at : (text run : List ℕ) (place : ℕ) → stands_at text run place ≡ true → run ≡ take place run ++ (text ++ drop (place + length text) run)
 split_at text run place h =
     let here : take (length text) (drop place run) ≡ text = (bytes_eq-Decides (take (length text) (drop place run)) text).0 h in
@@ -37,11 +35,9 @@ pub leftmost_some : (text run : List ℕ) (place : ℕ) → place ≤ length run
     leftmost text run ≡ Some place
 leftmost_some text run place l is before = first_place_some (stands_at text run) (length run + 1) place (omega arith) is before
 
--- where the text stands at no place there is no leftmost one
 pub leftmost_none : (text run : List ℕ) → ((j : ℕ) → j ≤ length run → stands_at text run j ≡ false) → leftmost text run ≡ None
 leftmost_none text run none = first_place_none (stands_at text run) (length run + 1) (λ j l. none j (omega arith))
 
--- a leftmost place is one at which the text stands
 pub leftmost_stands : (text run : List ℕ) (place : ℕ) → leftmost text run ≡ Some place → stands_at text run place ≡ true
 leftmost_stands text run place h =
     ⊎_elim
@@ -74,7 +70,6 @@ pub cut_at_same : (o : Option ℕ) (k : ℕ) (text run : List ℕ) (cut cut' : L
 cut_at_same None k text run cut cut' same = refl
 cut_at_same (Some place) k text run cut cut' same = ap (λ r. as_items (take place run) ++ Gap k (length text) ∷ r) (same place refl)
 
--- nothing is cut out of nothing
 pub cut_up_to_nil : (n k : ℕ) (text : List ℕ) → 0 < length text → cut_up_to n k text [] ≡ []
 cut_up_to_nil zero k text some = refl
 cut_up_to_nil (suc n) k text some = go (leftmost text []) refl
@@ -83,7 +78,6 @@ cut_up_to_nil (suc n) k text some = go (leftmost text []) refl
     go None h = refl
     go (Some place) h = absurd (omega (arith, some, leftmost_length text [] place h))
 
--- as many cuts as there are bytes are enough
 pub cut_up_to_enough : (n m k : ℕ) (text run : List ℕ) → 0 < length text → length run ≤ n → length run ≤ m → cut_up_to n k text run ≡ cut_up_to m k text run
 cut_up_to_enough zero m k text run some l r =
     let nothing : run ≡ [] = nil_from_length run (omega arith) in
@@ -97,7 +91,6 @@ cut_up_to_enough (suc n) (suc m) k text run some l r =
     let shorter = leftmost_length text run place h in
     cut_up_to_enough n m k text (drop (place + length text) run) some (omega (arith, some, shorter)) (omega (arith, some, shorter)))
 
--- a run is cut at the leftmost place, and the rest as a run of its own
 pub part_is : (k : ℕ) (text run : List ℕ) → 0 < length text → part k text run ≡ cut_at (leftmost text run) k text run (part k text)
 unfolding part
 part_is k [] run some = absurd (omega arith)
@@ -134,12 +127,10 @@ part_found k text front back some first =
         ∙ ap (drop (length text)) (drop_at front (text ++ back) (length front) refl)
         ∙ drop_at text back (length text) refl
 
--- an empty text is cut out nowhere
 pub part_null : (k : ℕ) (run : List ℕ) → part k [] run ≡ as_items run
 unfolding part
 part_null k run = refl
 
--- a run in which the text does not stand stays
 pub part_without : (k : ℕ) (text run : List ℕ) → ((front back : List ℕ) → run ≡ front ++ (text ++ back) → ⊥) → part k text run ≡ as_items run
 part_without k [] run none = part_null k run
 part_without k (b ∷ text) run none =
@@ -162,7 +153,6 @@ cut_out_gap k ordinal width text run items =
     ap (replaced (part k text)) (runs_of-bytes run (Gap ordinal width ∷ items))
     ∙ ap (λ (r : List ℕ). part k text r ++ flat_map (λ gap. gap.0 ∷ part k text gap.1) ((Gap ordinal width, (runs_of items).first) ∷ (runs_of items).others)) (append-nil run)
 
--- and so is the last run
 pub cut_out_last : (k : ℕ) (text run : List ℕ) → cut_out k text (as_items run) ≡ part k text run
 unfolding cut_out
 cut_out_last k text run =
@@ -171,7 +161,6 @@ cut_out_last k text run =
     ∙ append-nil (part k text (run ++ []))
     ∙ ap (part k text) (append-nil run)
 
--- where nothing is cut, the runs with their gaps are the items again
 pub replaced_none : (items : List Item) → replaced as_items (runs_of items) ≡ items
 replaced_none [] = refl
 replaced_none (Byte b ∷ items) = ap (λ (r : List Item). Byte b ∷ r) (replaced_none items)
@@ -179,12 +168,10 @@ replaced_none (Gap ordinal width ∷ items) = ap (λ (r : List Item). Gap ordina
 
 -- ---- the extent
 
--- the extent of two joined lists is the sum of their extents
 pub extent-append : (xs ys : List Item) → extent (xs ++ ys) ≡ extent xs + extent ys
 extent-append [] ys = omega arith
 extent-append (x ∷ xs) ys = omega (arith, extent-append xs ys)
 
--- a text stands for its bytes
 pub extent-as_items : (text : List ℕ) → extent (as_items text) ≡ length text
 extent-as_items [] = refl
 extent-as_items (b ∷ text) = omega (arith, extent-as_items text)
@@ -204,7 +191,6 @@ extent-cut_at (Some place) k text run cut h keeps =
       leftmost_length text run place h,
     )
 
--- a cut run stands for as many bytes as before
 pub extent-cut_up_to : (n k : ℕ) (text run : List ℕ) → extent (cut_up_to n k text run) ≡ length run
 extent-cut_up_to zero k text run = extent-as_items run
 extent-cut_up_to (suc n) k text run = extent-cut_at (leftmost text run) k text run (cut_up_to n k text) refl (extent-cut_up_to n k text)
@@ -229,7 +215,6 @@ extent-replaced cut keeps r =
     others (gap ∷ gaps) =
         omega (arith, extent-append (cut gap.1) (flat_map (λ g. g.0 ∷ cut g.1) gaps), keeps gap.1, others gaps)
 
--- cutting a text out keeps the extent
 pub extent-cut_out : (k : ℕ) (text : List ℕ) (items : List Item) → extent (cut_out k text items) ≡ extent items
 unfolding cut_out
 extent-cut_out k text items =
@@ -237,7 +222,6 @@ extent-cut_out k text items =
     ∙ sym (extent-replaced as_items extent-as_items (runs_of items))
     ∙ ap extent (replaced_none items)
 
--- and so does segmenting
 pub extent-segmented_from : (k : ℕ) (texts : List (List ℕ)) (items : List Item) → extent (segmented_from k texts items) ≡ extent items
 extent-segmented_from k [] items = refl
 extent-segmented_from k (text ∷ texts) items = extent-segmented_from (k + 1) texts (cut_out k text items) ∙ extent-cut_out k text items
@@ -247,7 +231,6 @@ extent-segmented texts form = extent-segmented_from 1 texts (all_items form)
 
 -- ---- widths
 
--- each byte is an item that stands for one
 pub wide-as_items : (text : List ℕ) → All IsWide (as_items text)
 wide-as_items [] = All-nil IsWide
 wide-as_items (b ∷ text) = All-cons IsWide (Byte b) (as_items text) (omega arith) (wide-as_items text)
@@ -262,13 +245,11 @@ wide-cut_up_to : (n k : ℕ) (text run : List ℕ) → 0 < length text → All I
 wide-cut_up_to zero k text run some = wide-as_items run
 wide-cut_up_to (suc n) k text run some = wide-cut_at (leftmost text run) k text run (cut_up_to n k text) some (λ r. wide-cut_up_to n k text r some)
 
--- the gaps of a cut run are wide
 pub wide-part : (k : ℕ) (text run : List ℕ) → All IsWide (part k text run)
 unfolding part
 wide-part k [] run = wide-as_items run
 wide-part k (b ∷ text) run = wide-cut_up_to (length run) k (b ∷ text) run (omega arith)
 
--- the gaps between runs are gaps of the items
 wide-runs_of : (items : List Item) → All IsWide items → All (λ (gap : Item × List ℕ). IsWide gap.0) (runs_of items).others
 wide-runs_of [] h = All-nil (λ (gap : Item × List ℕ). IsWide gap.0)
 wide-runs_of (Byte b ∷ items) h = wide-runs_of items (All-tail IsWide (Byte b) items h)
@@ -284,31 +265,26 @@ wide-others cut wide (gap ∷ others) h =
     (All-append IsWide (cut gap.1) (flat_map (λ g. g.0 ∷ cut g.1) others) (wide gap.1)
     (wide-others cut wide others (All-tail (λ (g : Item × List ℕ). IsWide g.0) gap others h)))
 
--- cutting a text out leaves all gaps wide
 pub wide-cut_out : (k : ℕ) (text : List ℕ) (items : List Item) → All IsWide items → All IsWide (cut_out k text items)
 unfolding cut_out
 wide-cut_out k text items h =
     All-append IsWide (part k text (runs_of items).first) (flat_map (λ gap. gap.0 ∷ part k text gap.1) (runs_of items).others)
     (wide-part k text (runs_of items).first) (wide-others (part k text) (wide-part k text) (runs_of items).others (wide-runs_of items h))
 
--- and so does segmenting
 pub wide-segmented_from : (k : ℕ) (texts : List (List ℕ)) (items : List Item) → All IsWide items → All IsWide (segmented_from k texts items)
 wide-segmented_from k [] items h = h
 wide-segmented_from k (text ∷ texts) items h = wide-segmented_from (k + 1) texts (cut_out k text items) (wide-cut_out k text items h)
 
--- there are no more items than bytes that they stand for
 pub count_within_extent : (items : List Item) → All IsWide items → length items ≤ extent items
 count_within_extent [] h = omega arith
 count_within_extent (item ∷ items) h = omega (arith, All-head IsWide item items h, count_within_extent items (All-tail IsWide item items h))
 
 -- ---- filling
 
--- the items of two joined lists are filled one list after the other
 pub filled-append : (texts : List (List ℕ)) (xs ys : List Item) → all_filled texts (xs ++ ys) ≡ all_filled texts xs ++ all_filled texts ys
 filled-append texts [] ys = refl
 filled-append texts (x ∷ xs) ys = ap (λ r. filled texts x ++ r) (filled-append texts xs ys) ∙ sym (append_assoc (filled texts x) (all_filled texts xs) (all_filled texts ys))
 
--- bytes stay
 pub filled-as_items : (texts : List (List ℕ)) (text : List ℕ) → all_filled texts (as_items text) ≡ text
 filled-as_items texts [] = refl
 filled-as_items texts (b ∷ text) = ap (λ r. b ∷ r) (filled-as_items texts text)
@@ -373,7 +349,6 @@ filled-segmented texts form = filled-segmented_from texts [] texts 1 (all_items 
 
 -- ---- empty texts
 
--- two ways to cut that agree on each run give the same
 pub replaced_alike : (cut cut' : List ℕ → List Item) → ((run : List ℕ) → cut run ≡ cut' run) → (r : Runs) → replaced cut r ≡ replaced cut' r
 replaced_alike cut cut' same r =
     ap (λ f. f ++ flat_map (λ gap. gap.0 ∷ cut gap.1) r.others) (same r.first) ∙ ap (λ f. cut' r.first ++ f) (others r.others)
@@ -383,7 +358,6 @@ replaced_alike cut cut' same r =
     others (gap ∷ gaps) =
         ap (λ f. gap.0 ∷ (f ++ flat_map (λ g. g.0 ∷ cut g.1) gaps)) (same gap.1) ∙ ap (λ f. gap.0 ∷ (cut' gap.1 ++ f)) (others gaps)
 
--- an empty text leaves all items
 pub cut_out_null : (k : ℕ) (items : List Item) → cut_out k [] items ≡ items
 unfolding cut_out
 cut_out_null k items = replaced_alike (part k []) as_items (part_null k) (runs_of items) ∙ replaced_none items

@@ -41,16 +41,13 @@ abbrev pub in_order : Named → Named
 in_order [] = []
 in_order (e ∷ es) = put (slice_cmp nat_cmp) e.0 e.1 (in_order es)
 
--- no forms have no entries
 no_entries : finite.entries (held []) ≡ []
 no_entries = nil_from_length (finite.entries (held [])) (sym (finite.len-entries (held [])) ∙ finite.len-empty (slice_cmp nat_cmp) Form)
 
--- the entries of the forms of a list
 pub entries-held : (es : Named) → finite.entries (held es) ≡ in_order es
 entries-held [] = no_entries
 entries-held (e ∷ es) = finite.entries-insert nat_list_cmp_total (held es) e.0 e.1 ∙ ap (put (slice_cmp nat_cmp) e.0 e.1) (entries-held es)
 
--- lists with the same order hold the same forms
 pub same_held : (es fs : Named) → in_order es ≡ in_order fs → held es ≡ held fs
 same_held es fs same = finite.same_entries_map (held es) (held fs) (entries-held es ∙ same ∙ sym (entries-held fs))
 
@@ -58,7 +55,6 @@ same_held es fs same = finite.same_entries_map (held es) (held fs) (entries-held
 abbrev pub removed : List ℕ → Named → Named
 removed name es = where_key (slice_cmp nat_cmp) (λ x. not (eq_by_cmp (slice_cmp nat_cmp) name x)) es
 
--- a branch on the turned test
 turned : {A : Type 0} (b : Bool) (x y : A) → cond (not b) x y ≡ cond b y x
 turned true x y = refl
 turned false x y = refl

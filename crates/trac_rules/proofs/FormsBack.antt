@@ -22,25 +22,21 @@ use Rattle.trac_rules.proofs.ProperDecided.{all_entries}
 abbrev ties : List ℕ → List ℕ → Bool
 ties q name = eq_by_cmp (slice_cmp nat_cmp) q name
 
--- forms in which each name finds the same are the same
 same_forms : (m n : Forms) → ((q : List ℕ) → finite.get m q ≡ finite.get n q) → m ≡ n
 same_forms m n same = finite.same_map nat_list_cmp_total only_equal_tie m n same
 
--- under a name that was put stands that form, and under another what stood there
 get_put_at : (forms : Forms) (name q : List ℕ) (form : Form) → ties q name ≡ true → finite.get (finite.insert forms name form) q ≡ Some form
 get_put_at forms name q form t = finite.get-insert nat_list_cmp_total forms name form q ∙ cond-true (ties q name) (Some form) (finite.get forms q) t
 
 get_put_aside : (forms : Forms) (name q : List ℕ) (form : Form) → ties q name ≡ false → finite.get (finite.insert forms name form) q ≡ finite.get forms q
 get_put_aside forms name q form t = finite.get-insert nat_list_cmp_total forms name form q ∙ cond-false (ties q name) (Some form) (finite.get forms q) t
 
--- under a name that was taken stands nothing, and under another what stood there
 get_taken_at : (forms : Forms) (name q : List ℕ) → ties q name ≡ true → finite.get (finite.remove forms name) q ≡ None
 get_taken_at forms name q t = finite.get-remove nat_list_cmp_total forms name q ∙ cond-true (ties q name) None (finite.get forms q) t
 
 get_taken_aside : (forms : Forms) (name q : List ℕ) → ties q name ≡ false → finite.get (finite.remove forms name) q ≡ finite.get forms q
 get_taken_aside forms name q t = finite.get-remove nat_list_cmp_total forms name q ∙ cond-false (ties q name) None (finite.get forms q) t
 
--- by whether a name is another
 by_tie : {P : Type 0} (q name : List ℕ) → (ties q name ≡ true → P) → (ties q name ≡ false → P) → P
 by_tie q name at aside = ⊎_elim at aside (cases_Bool (ties q name))
 
@@ -56,7 +52,6 @@ put_differs name form forms = λ q t. get_put_aside forms name q form t
 pub taken_differs : (name : List ℕ) (forms : Forms) → DifferAt name (finite.remove forms name) forms
 taken_differs name forms = λ q t. get_taken_aside forms name q t
 
--- with what stood under it put back they are the same
 pub swapped : (name : List ℕ) (old : Option Form) (m forms : Forms) → finite.get forms name ≡ old → DifferAt name m forms → swapped_back name old m ≡ forms
 swapped name None m forms there apart =
     same_forms (finite.remove m name) forms (λ q. by_tie q name
@@ -118,14 +113,12 @@ all_back forms base held was covered =
 
 -- ---- forms that were moved out
 
--- what was not there is not there either when names were taken
 none_without : (names : List (List ℕ)) (forms : Forms) (q : List ℕ) → finite.get forms q ≡ None → finite.get (without names forms) q ≡ None
 none_without [] forms q none = none
 none_without (name ∷ names) forms q none =
     none_without names (finite.remove forms name) q
     (by_tie q name (λ t. get_taken_at forms name q t) (λ t. get_taken_aside forms name q t ∙ none))
 
--- without names the forms agree under each other name, or its form was moved out
 moved_or_same : (names : List (List ℕ)) (forms : Forms) (q : List ℕ) → AgreeOr (names_in (moved_out names forms)) (without names forms) forms q
 moved_or_same [] forms q = inl refl
 moved_or_same (name ∷ names) forms q =
@@ -149,14 +142,12 @@ moved_or_same (name ∷ names) forms q =
         (λ (there : IsOneOf q (names_in rest)). inr (one_of_later q (with_name name (finite.get forms name)) rest there))
         later
 
--- no form is left under a name that was taken
 pub none_left : (names : List (List ℕ)) (forms : Forms) (q : List ℕ) → IsOneOf q names → finite.get (without names forms) q ≡ None
 none_left [] forms q there = absurd there
 none_left (name ∷ names) forms q (inl is) =
     none_without names (finite.remove forms name) q (subst (λ n. finite.get (finite.remove forms n) q ≡ None) (sym is) (get_taken forms q))
 none_left (name ∷ names) forms q (inr there) = none_left names (finite.remove forms name) q there
 
--- a form that was moved out has one of the names that were given
 pub moved_are_named : (names : List (List ℕ)) (forms : Forms) (q : List ℕ) → IsOneOf q (names_in (moved_out names forms)) → IsOneOf q names
 moved_are_named [] forms q there = absurd there
 moved_are_named (name ∷ names) forms q there =
@@ -180,7 +171,6 @@ all_there [] forms stands = refl
 all_there (name ∷ names) forms stands =
     and_from (is_some (finite.get forms name)) (are_there names forms) (stands name (inl refl)) (all_there names forms (λ q there. stands q (inr there)))
 
--- after names were taken
 pub taken_free : (names : List (List ℕ)) (forms : Forms) → are_free names (without names forms) ≡ true
 taken_free names forms = all_free names (without names forms) (λ q there. none_left names forms q there)
 
@@ -188,14 +178,12 @@ pub moved_free : (names : List (List ℕ)) (forms : Forms) → are_free (names_i
 moved_free names forms =
     all_free (names_in (moved_out names forms)) (without names forms) (λ q there. none_left names forms q (moved_are_named names forms q there))
 
--- forms that were moved out, put back
 pub moved_back_in : (names : List (List ℕ)) (forms : Forms) → with_all (moved_out names forms) (without names forms) ≡ forms
 moved_back_in names forms =
     all_back forms (without names forms) (moved_out names forms) (moved_out_among names forms) (moved_or_same names forms)
 
 -- ---- forms that were put
 
--- entries that were put change nothing but under their names
 put_or_same : (held : Held) (forms : Forms) (q : List ℕ) → AgreeOr (names_in held) (with_all held forms) forms q
 put_or_same [] forms q = inl refl
 put_or_same (entry ∷ held) forms q =
@@ -205,14 +193,12 @@ put_or_same (entry ∷ held) forms q =
     (λ (there : IsOneOf q (names_in held)). inr (inr there))
     (put_or_same held (finite.insert forms entry.0 entry.1) q)
 
--- a form stands still where entries were put
 still_there : (held : Held) (forms : Forms) (q : List ℕ) → is_some (finite.get forms q) ≡ true → is_some (finite.get (with_all held forms) q) ≡ true
 still_there [] forms q stands = stands
 still_there (entry ∷ held) forms q stands =
     still_there held (finite.insert forms entry.0 entry.1) q
     (by_tie q entry.0 (λ t. ap is_some (get_put_at forms entry.0 q entry.1 t)) (λ t. ap is_some (get_put_aside forms entry.0 q entry.1 t) ∙ stands))
 
--- and one under each of their names
 put_there : (held : Held) (forms : Forms) (q : List ℕ) → IsOneOf q (names_in held) → is_some (finite.get (with_all held forms) q) ≡ true
 put_there [] forms q there = absurd there
 put_there (entry ∷ held) forms q (inl is) =
@@ -220,7 +206,6 @@ put_there (entry ∷ held) forms q (inl is) =
     (ap (λ n. is_some (finite.get (finite.insert forms entry.0 entry.1) n)) (sym is) ∙ ap is_some (get-put forms entry.0 entry.1))
 put_there (entry ∷ held) forms q (inr there) = put_there held (finite.insert forms entry.0 entry.1) q there
 
--- copies stand under their names, those of what they replaced among them, and nothing under these when they are taken out again
 pub copies_there : (held : Held) (forms : Forms) → are_there (names_in held) (with_all held forms) ≡ true
 copies_there held forms = all_there (names_in held) (with_all held forms) (λ q there. put_there held forms q there)
 
@@ -233,7 +218,6 @@ replaced_free held forms =
     all_free (names_in (moved_out (names_in held) forms)) (without (names_in held) (with_all held forms))
     (λ q there. none_left (names_in held) (with_all held forms) q (moved_are_named (names_in held) forms q there))
 
--- forms that agree but under some names are the same without these
 same_without : (names : List (List ℕ)) (m n : Forms) → ((q : List ℕ) → AgreeOr names m n q) → without names m ≡ without names n
 same_without [] m n agree = same_forms m n (λ q. ⊎_elim (λ same. same) (λ there. absurd there) (agree q))
 same_without (name ∷ names) m n agree =
@@ -248,7 +232,6 @@ same_without (name ∷ names) m n agree =
     there)
     (agree q)))
 
--- copies taken out again, and what they replaced put back
 pub copies_taken_back : (held : Held) (forms : Forms) → with_all (moved_out (names_in held) forms) (without (names_in held) (with_all held forms)) ≡ forms
 copies_taken_back held forms =
     ap (with_all (moved_out (names_in held) forms)) (same_without (names_in held) (with_all held forms) forms (put_or_same held forms))
@@ -256,7 +239,6 @@ copies_taken_back held forms =
 
 -- ---- all forms
 
--- a name is not found among entries, or is one of theirs
 found_or_none : (es : Held) (q : List ℕ) → (find (slice_cmp nat_cmp) q es ≡ None) ⊎ IsOneOf q (names_in es)
 found_or_none [] q = inl refl
 found_or_none (e ∷ es) q =
@@ -266,11 +248,9 @@ found_or_none (e ∷ es) q =
     (λ (there : IsOneOf q (names_in es)). inr (inr there))
     (found_or_none es q))
 
--- none are left under any names
 pub empty_free : (names : List (List ℕ)) → are_free names finite.empty ≡ true
 empty_free names = all_free names finite.empty (λ q there. finite.get-empty (slice_cmp nat_cmp) q)
 
--- all forms put back where none are left
 pub all_put_back : (forms : Forms) → with_all (finite.entries forms) finite.empty ≡ forms
 all_put_back forms =
     all_back forms finite.empty (finite.entries forms)

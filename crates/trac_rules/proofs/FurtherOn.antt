@@ -13,7 +13,6 @@ use Rattle.trac_rules.proofs.Restored.{elsewhere, restored-elsewhere}
 
 -- ---- records of scanning
 
--- what is restored stands where the state after stands
 pub stands_there : (r : Record) (s t : State) → IsOfScanning r → restored r t ≡ Some s → (s.position ≡ t.position) × (s.output ≡ t.output)
 stands_there r s t of back =
     let there : Some s ≡ Some (elsewhere t.position t.output s) =
@@ -88,7 +87,6 @@ call_further_on k o call s t back =
     let rest = rest_further_on k o call (rest_of t) (rest_of s) parts.2 in
     λ i. put_together (parts.0 i) (parts.1 i) (rest i)
 
--- each record
 pub restored-further_on : (r : Record) (s t : State) (k : ℕ) (o : List ℕ) → restored r t ≡ Some s → restored r (further_on k o t) ≡ Some (further_on k o s)
 restored-further_on (Called call) s t k o back = call_further_on k o call s t back
 restored-further_on other s t k o back = scanning_further_on k o other s t tt back

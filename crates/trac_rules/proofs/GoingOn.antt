@@ -20,17 +20,14 @@ use Rattle.trac_rules.proofs.Replies.{accepted_done, Step_done, Step_refused_Too
 
 -- ---- outputs
 
--- a text before a text before an output
 pub prepended-prepended : (xs ys : List ℕ) (o : Output) → prepended xs (prepended ys o) ≡ prepended (xs ++ ys) o
 prepended-prepended xs ys o = ap (λ (bytes : List ℕ). record { bytes = bytes; stop = o.stop }) (sym (append_assoc xs ys o.bytes))
 
--- a text before an output that has none
 pub prepended_empty : (text : List ℕ) (stop : Stop) → prepended text (record { bytes = []; stop = stop }) ≡ record { bytes = text; stop = stop }
 prepended_empty text stop = ap (λ (bytes : List ℕ). record { bytes = bytes; stop = stop }) (append-nil text)
 
 -- ---- one step of a run
 
--- where a step goes to a state, the run goes on from there
 pub output_from_Ok : (n : ℕ) (e : Environment) (s t : State) → step e s ≡ Ok t → prepended s.output (output_from (suc n) e s) ≡ prepended t.output (output_from n e t)
 unfolding output_from
 output_from_Ok n e s t h =
@@ -40,7 +37,6 @@ output_from_Ok n e s t h =
     ∙ ap (λ (o : Output). prepended (s.output ++ at.0.output) o) (sym (output_from-output n e at.0 (s.output ++ at.0.output)))
     ∙ ap (λ (u : State). prepended u.output (output_from n e u)) (sym at.2)
 
--- where the silent state's step is refused, the run ends
 pub output_from_Err : (n : ℕ) (e : Environment) (s : State) (refusal : Refusal) → step e (silent s) ≡ Err refusal → prepended s.output (output_from (suc n) e s) ≡ record { bytes = s.output; stop = stop_of refusal }
 unfolding output_from
 output_from_Err n e s r h =
@@ -57,7 +53,6 @@ pub record IsAfterSteps (k : ℕ) (p q : PlainSession) : Type 0 where
   pub within : q.last.position ≤ length q.tape.bytes
   pub earlier : length q.earlier ≡ length p.earlier + k
 
--- what an accepted step leaves
 pub after_Step : (p q : PlainSession) → p.last.position ≤ length p.tape.bytes → answer Step p ≡ done q → IsAfterSteps 1 p q
 after_Step p q l h =
     let at = Step_done p q h in
@@ -72,7 +67,6 @@ going_on-Step p q more n l h none =
     let e : step (over p.width (whole p.tape more)) p.last ≡ Ok at.0 = step-whole (over p.width p.tape) more p.last none (λ w. cc) ∙ at.1 in
     output_from_Ok n (over p.width (whole p.tape more)) p.last at.0 e ∙ ap (λ (s : PlainSession). going_on_from s more n) (sym at.2)
 
--- what many accepted steps leave
 pub after_repeated : (k : ℕ) (p q : PlainSession) → p.last.position ≤ length p.tape.bytes → repeated Step k p ≡ Some q → IsAfterSteps k p q
 after_repeated zero p q l h = let same : p ≡ q = cc in rw (← same) (record { tape = refl; width = refl; limit = refl; within = l; earlier = omega arith })
 after_repeated (suc k) p q l h =
@@ -103,14 +97,12 @@ going_on-repeated (suc k) n p q more l none h =
 
 -- ---- a commit, a feed, the end
 
--- a settled state has no output, and nothing of its tape is read
 pub settled_is : (s : State) → settled s ≡ record s { output = []; position = 0 }
 settled_is s =
     let output : drop (length s.output) s.output ≡ [] = drop_all (length s.output) s.output (omega arith) in
     let place : s.position - s.position ≡ 0 = omega arith in
     λ i. record s { output = output i; position = place i }
 
--- what a commit leaves
 pub after_Commit : (p q : PlainSession) → answer (Commit 0) p ≡ done q → (q.last.output ≡ []) × (q.earlier ≡ []) × (q.last.position ≡ 0) × (q.limit ≡ p.limit)
 after_Commit p q h =
     rw (Commit_done 0 p q h) (ap (λ (s : State). s.output) (settled_is p.last), refl, ap (λ (s : State). s.position) (settled_is p.last), refl)
@@ -141,7 +133,6 @@ after_Feed p q d l h =
     let inside : p.last.position ≤ length (p.tape.bytes ++ d) = omega (arith, length-append p.tape.bytes d) in
     rw at.0 (refl, refl, refl, inside, at.1)
 
--- a feed is more of the input
 pub going_on-Feed : (p q : PlainSession) (bytes more : List ℕ) (n : ℕ) → answer (Feed bytes) p ≡ done q → going_on_from p (bytes ++ more) n ≡ going_on_from q more n
 going_on-Feed p q d more n h =
     ap (λ (bytes : List ℕ). prepended p.last.output (output_from n (over p.width (record { bytes = bytes; ended = true })) p.last)) (sym (append_assoc p.tape.bytes d more))
@@ -152,7 +143,6 @@ pub after_End : (p q : PlainSession) → p.last.position ≤ length p.tape.bytes
     (q.last ≡ p.last) × (q.earlier ≡ p.earlier) × (q.limit ≡ p.limit) × (q.last.position ≤ length q.tape.bytes) × (q.tape.ended ≡ true)
 after_End p q l h = rw (End_done p q h) (refl, refl, refl, l, refl)
 
--- the end of the input is that of the run's
 pub going_on-End : (p q : PlainSession) (n : ℕ) → answer End p ≡ done q → going_on_from p [] n ≡ going_on_from q [] n
 going_on-End p q n h = ap (λ (s : PlainSession). going_on_from s [] n) (sym (End_done p q h))
 

@@ -6,7 +6,6 @@ use Rattle.trac_rules.specs.Cuts.{begins_with_gap}
 use Rattle.trac_rules.specs.Form.{as_items}
 use Rattle.trac_rules.specs.Pieces.{byte_of, bytes_in}
 
--- a text as items is as long
 pub length-as_items : (text : List ℕ) → length (as_items text) ≡ length text
 length-as_items [] = refl
 length-as_items (b ∷ text) = ap suc (length-as_items text)
@@ -16,6 +15,5 @@ pub no_gap : (text : List ℕ) (rest : List Item) → 0 < length text → begins
 no_gap [] rest some = absurd (omega arith)
 no_gap (b ∷ text) rest some = refl
 
--- joined items have joined bytes
 pub bytes_in-append : (xs ys : List Item) → bytes_in (xs ++ ys) ≡ bytes_in xs ++ bytes_in ys
 bytes_in-append xs ys = flat_map-append byte_of xs ys

@@ -1,3 +1,4 @@
+pub mod Opened
 pub mod Balanced
 pub mod Calculated
 pub mod Numerals

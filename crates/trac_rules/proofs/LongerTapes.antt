@@ -20,7 +20,6 @@ use Rattle.trac_rules.specs.Session.{over}
 use Rattle.trac_rules.specs.GoingOn.{whole}
 use Rattle.trac_rules.proofs.Positions.{position-append_Some}
 
--- a tape that has ended is whole
 pub whole_of_ended : (tape : Tape) (more : List ℕ) → tape.ended ≡ true → more ≡ [] → whole tape more ≡ tape
 whole_of_ended tape more ended none =
     let bytes : tape.bytes ++ more ≡ tape.bytes = ap (λ m. tape.bytes ++ m) none ∙ append-nil tape.bytes in
@@ -39,7 +38,6 @@ grown more ended e = record e { tape = record { bytes = e.tape.bytes ++ more; en
 abbrev pub lengthened : List ℕ → Environment → Environment
 lengthened more e = record e { tape = whole e.tape more }
 
--- where something is unread, more comes after it
 unread_some : (tape : Tape) (more : List ℕ) (s : State) → 0 < length (unread tape s) → drop s.position (tape.bytes ++ more) ≡ unread tape s ++ more
 unread_some tape more s some = drop-append-le s.position tape.bytes more (omega (arith, some, length-drop s.position tape.bytes))
 
@@ -61,7 +59,6 @@ string_read-more more text ended meta storage wanted =
     (λ k e. (position-append_Some (λ b. b == meta) text more k e, (position-Some (λ b. b == meta) text k 0 e).0))
     wanted
 
--- then there is a text
 string_some : (text : List ℕ) (meta : ℕ) (storage : Storage) → (string_read text false meta storage ≡ Err NeedInput → ⊥) → 0 < length text
 string_some [] meta storage wanted = absurd (wanted refl)
 string_some (b ∷ text) meta storage wanted = omega arith
@@ -112,13 +109,11 @@ carried_out-more e more ended (Moves t) unended wanted = refl
 carried_out-more e more ended (Calls call) unended wanted =
     ap (seen_as (after_call call)) (performed-more e more ended call unended (λ none. wanted (ap (seen_as (after_call call)) none)))
 
--- so a step does the same, however the input goes on
 step-more : (e : Environment) (more : List ℕ) (ended : Bool) (s : State) → e.tape.ended ≡ false → (step e s ≡ Err NeedInput → ⊥) → step (grown more ended e) s ≡ step e s
 unfolding step
 step-more e more ended s unended wanted =
     ap (limited texts_fit) (carried_out-more e more ended (scan s) unended (λ short. wanted (ap (limited texts_fit) short)))
 
--- the same of a tape that has ended already, and then has nothing more
 pub step-whole : (e : Environment) (more : List ℕ) (s : State) → (e.tape.ended ≡ true → more ≡ []) → (step e s ≡ Err NeedInput → ⊥) → step (lengthened more e) s ≡ step e s
 step-whole e more s none wanted =
     ⊎_elim

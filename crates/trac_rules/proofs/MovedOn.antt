@@ -61,7 +61,6 @@ gathers_next (f ∷ fs) k s =
 pub moved_on-suc : (k : ℕ) (s : State) → moved_on (suc k) s ≡ gather_first (moved_on k s)
 moved_on-suc k s = gathers_next s.frames k s
 
--- the active text then
 pub active-gathered : (frames : List Frame) (text : List ℕ) (s : State) → (gathered_in frames text s).active ≡ s.active
 active-gathered [] text s = refl
 active-gathered (f ∷ fs) text s = refl
@@ -157,7 +156,6 @@ plain_bytes_there (suc n) p proper plain fits =
 
 -- ---- and back
 
--- the record of a moved byte leads back over the last of these bytes
 pub moved_byte_back : (n : ℕ) (s : State) → IsProper s → n + 1 ≤ length s.active → state_before Moved (moved_on (suc n) s) ≡ Some (moved_on n s)
 moved_byte_back n s proper within =
     let u : State = moved_on n s in
@@ -172,7 +170,6 @@ moved_bytes_back (suc n) s proper within =
     ap (option_and_then (led_back (replicate n Moved))) (moved_byte_back n s proper (omega arith))
     ∙ moved_bytes_back n s proper (omega arith)
 
--- which weighs nothing
 pub moved_byte_weighs : (n : ℕ) (s : State) → n < length s.active → is_plain (get_or s.active n 0) ≡ true → step_weight (moved_on n s) ≡ 0
 unfolding scan
 moved_byte_weighs n s within plain =

@@ -12,11 +12,9 @@ use Rattle.trac_rules.specs.State.{Forms}
 
 -- ---- names
 
--- names that the order does not tell apart are one
 pub one_name : (q name : List ℕ) → eq_by_cmp (slice_cmp nat_cmp) q name ≡ true → q ≡ name
 one_name q name t = (bytes_eq-Decides q name).0 (sym (is_eq-slice_cmp q name) ∙ t)
 
--- the order does not tell a name from itself
 pub ties_itself : (name : List ℕ) → eq_by_cmp (slice_cmp nat_cmp) name name ≡ true
 ties_itself name = is_eq-slice_cmp name name ∙ nat_list_eq_equiv.refl name
 
@@ -26,7 +24,6 @@ only_equal_tie = finite.slice_cmp-IsAntisymmetric finite.nat_cmp-IsAntisymmetric
 
 -- ---- forms put and taken
 
--- a form that was put is found under its name
 pub get-put : (forms : Forms) (name : List ℕ) (form : Form) → finite.get (finite.insert forms name form) name ≡ Some form
 get-put forms name form =
     finite.get-insert nat_list_cmp_total forms name form name
@@ -46,7 +43,6 @@ found_of_put forms name q form found there =
     inr (sym (cond-false (eq_by_cmp (slice_cmp nat_cmp) q name) (Some form) (finite.get forms q) t) ∙ is))
     (cases_Bool (eq_by_cmp (slice_cmp nat_cmp) q name))
 
--- what is found after a name was taken was there before
 pub found_of_taken : (forms : Forms) (name q : List ℕ) (found : Form) → finite.get (finite.remove forms name) q ≡ Some found → finite.get forms q ≡ Some found
 found_of_taken forms name q found there =
     let is : cond (eq_by_cmp (slice_cmp nat_cmp) q name) None (finite.get forms q) ≡ Some found = sym (finite.get-remove nat_list_cmp_total forms name q) ∙ there in
@@ -57,12 +53,10 @@ found_of_taken forms name q found there =
     sym (cond-false (eq_by_cmp (slice_cmp nat_cmp) q name) None (finite.get forms q) t) ∙ is)
     (cases_Bool (eq_by_cmp (slice_cmp nat_cmp) q name))
 
--- a form that takes the place of another leaves their number
 pub len-put_again : (forms : Forms) (name : List ℕ) (old new : Form) → finite.get forms name ≡ Some old → finite.len (finite.insert forms name new) ≡ finite.len forms
 len-put_again forms name old new there =
     finite.len-insert nat_list_cmp_total forms name new ∙ ap (λ (o : Option Form). cond (is_some o) (finite.len forms) (finite.len forms + 1)) there
 
--- a name that was taken leaves no more of them
 pub len-taken : (forms : Forms) (name : List ℕ) → finite.len (finite.remove forms name) ≤ finite.len forms
 len-taken forms name = go (finite.contains_key forms name) (finite.len-remove nat_list_cmp_total forms name)
   where

@@ -5,15 +5,12 @@ use Rattle.std.proofs.lemmas.Bool.{cases_Bool, cond-true, cond-false}
 use Rattle.trac_rules.specs.Bytes.{longest_tail}
 use Rattle.trac_rules.specs.Number.{IsNumeralOrNull, is_numeral, numeral_of, prefix_of}
 
--- a text that passes is its own longest tail
 pub longest_tail_whole : (passes : List ℕ → Bool) (b : ℕ) (bs : List ℕ) → passes (b ∷ bs) ≡ true → longest_tail passes (b ∷ bs) ≡ b ∷ bs
 longest_tail_whole passes b bs t = cond-true (passes (b ∷ bs)) (b ∷ bs) (longest_tail passes bs) t
 
--- that of any other text is the one of its rest
 pub longest_tail_rest : (passes : List ℕ → Bool) (b : ℕ) (bs : List ℕ) → passes (b ∷ bs) ≡ false → longest_tail passes (b ∷ bs) ≡ longest_tail passes bs
 longest_tail_rest passes b bs f = cond-false (passes (b ∷ bs)) (b ∷ bs) (longest_tail passes bs) f
 
--- it is a tail
 pub longest_tail_parts : (passes : List ℕ → Bool) (text : List ℕ) → (front : List ℕ) × (text ≡ front ++ longest_tail passes text)
 longest_tail_parts passes [] = ([], refl)
 longest_tail_parts passes (b ∷ bs) =
@@ -24,7 +21,6 @@ longest_tail_parts passes (b ∷ bs) =
     (b ∷ ih.0, ap (λ r. b ∷ r) ih.1 ∙ ap (λ r. b ∷ (ih.0 ++ r)) (sym (longest_tail_rest passes b bs f))))
     (cases_Bool (passes (b ∷ bs)))
 
--- it passes, or is empty
 pub longest_tail_passes : (passes : List ℕ → Bool) (text : List ℕ) → (longest_tail passes text ≡ []) ⊎ (passes (longest_tail passes text) ≡ true)
 longest_tail_passes passes [] = inl refl
 longest_tail_passes passes (b ∷ bs) =
@@ -33,7 +29,6 @@ longest_tail_passes passes (b ∷ bs) =
     (λ (f : passes (b ∷ bs) ≡ false). rw (longest_tail_rest passes b bs f) (longest_tail_passes passes bs))
     (cases_Bool (passes (b ∷ bs)))
 
--- a tail that passes is no longer
 pub longest_tail_longest : (passes : List ℕ → Bool) (front tail : List ℕ) → passes tail ≡ true → length tail ≤ length (longest_tail passes (front ++ tail))
 longest_tail_longest passes [] [] t = omega arith
 longest_tail_longest passes [] (b ∷ bs) t = rw (longest_tail_whole passes b bs t) (omega arith)
@@ -45,7 +40,6 @@ longest_tail_longest passes (x ∷ front) tail t =
     rw (longest_tail_rest passes x (front ++ tail) f) (longest_tail_longest passes front tail t))
     (cases_Bool (passes (x ∷ (front ++ tail))))
 
--- the prefix and the numeral are the text
 pub prefix_and_numeral : (text : List ℕ) → prefix_of text ++ numeral_of text ≡ text
 unfolding prefix_of numeral_of
 prefix_and_numeral text =
@@ -56,7 +50,6 @@ prefix_and_numeral text =
     ap (λ n. take n text) shorter ∙ ap (λ t. take (length parts.0) t) parts.1 ∙ take_at parts.0 (longest_tail is_numeral text) (length parts.0) refl in
     ap (λ p. p ++ longest_tail is_numeral text) front ∙ sym parts.1
 
--- the numeral is one, or empty
 pub numeral_or_null : (text : List ℕ) → IsNumeralOrNull (numeral_of text)
 unfolding numeral_of
 numeral_or_null text = longest_tail_passes is_numeral text

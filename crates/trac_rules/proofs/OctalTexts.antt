@@ -8,12 +8,10 @@ use Rattle.trac_rules.proofs.Numerals.{longest_tail_passes, longest_tail_whole}
 
 -- ---- the longest tail
 
--- an octal text is its own octal string
 pub octal_tail-octal : (text : List ℕ) → IsOctal text → octal_tail text ≡ text
 octal_tail-octal [] h = refl
 octal_tail-octal (b ∷ rest) h = longest_tail_whole is_octal b rest h
 
--- it is of octal digits alone
 pub octal_tail_is_octal : (text : List ℕ) → IsOctal (octal_tail text)
 octal_tail_is_octal text =
     ⊎_elim (λ (none : octal_tail text ≡ []). rw none refl) (λ (all : is_octal (octal_tail text) ≡ true). all) (longest_tail_passes is_octal text)
@@ -26,24 +24,20 @@ digit_range b h =
     let both = and_parts (nat_le ZERO b) (nat_le b SEVEN) h in
     (leb-true ZERO b both.0, leb-true b SEVEN both.1)
 
--- a value below eight is that of the digit of its bits
 pub digit_of-value : (v : ℕ) → v < 8 → digit_of (is_odd (v / 4)) (is_odd (v / 2)) (is_odd v) ≡ ZERO + v
 digit_of-value v l =
     eqb-true _ _ (agree_below_at (λ n. digit_of (is_odd (n / 4)) (is_odd (n / 2)) (is_odd n) == ZERO + n) (λ _. true) 8 v refl l)
 
--- a digit is the one of its bits
 pub digit_of-bits : (b : ℕ) → is_octal_digit b ≡ true → digit_of (is_odd ((b - ZERO) / 4)) (is_odd ((b - ZERO) / 2)) (is_odd (b - ZERO)) ≡ b
 digit_of-bits b h =
     let range = digit_range b h in
     digit_of-value (b - ZERO) (omega (arith, range.0, range.1)) ∙ omega (arith, range.0, range.1)
 
--- an octal text is the one of its bits
 pub text_of-bits_of : (text : List ℕ) → IsOctal text → text_of (bits_of text) ≡ text
 text_of-bits_of [] h = refl
 text_of-bits_of (b ∷ text) h =
     let both = and_parts (is_octal_digit b) (is_octal text) h in
     rw (digit_of-bits b both.0, text_of-bits_of text both.1) refl
 
--- so an octal text with these bits is the text of them
 pub text_from_bits : (text : List ℕ) (bits : List Bool) → IsOctal text → bits_of text ≡ bits → text ≡ text_of bits
 text_from_bits text bits h e = sym (text_of-bits_of text h) ∙ ap text_of e

@@ -6,15 +6,12 @@ use Rattle.trac_rules.specs.declared.refusal.Refusal.{Refusal}
 use Rattle.trac_rules.specs.declared.refusal.Refusal.TheVariants.{TooLong}
 use Rattle.trac_rules.specs.Outcomes.{MayLackMemory, limited, seen_as}
 
--- what fits is the outcome
 pub limited_within : {T : Type 0} (fits : T → Bool) (t : T) → fits t ≡ true → limited fits (Ok t) ≡ Ok t
 limited_within fits t h = rw h refl
 
--- anything else is refused
 pub limited_beyond : {T : Type 0} (fits : T → Bool) (t : T) → fits t ≡ false → limited fits (Ok t) ≡ Err TooLong
 limited_beyond fits t h = rw h refl
 
--- so where something is judged by a test alone, memory may be refused in either case
 pub lacks_limited : {T : Type 0} (fits : T → Bool) (t : T) → MayLackMemory (limited fits (Ok t))
 lacks_limited fits t =
     ⊎_elim
@@ -22,7 +19,6 @@ lacks_limited fits t =
     (λ (w : fits t ≡ false). subst MayLackMemory (sym (limited_beyond fits t w)) tt)
     (cases_Bool (fits t))
 
--- an outcome is what came of it, and fits
 pub limited_Ok : {T : Type 0} (fits : T → Bool) (x : Result T Refusal) (t : T) → limited fits x ≡ Ok t → (x ≡ Ok t) × (fits t ≡ true)
 limited_Ok fits (Ok u) t h =
     ⊎_elim
@@ -31,7 +27,6 @@ limited_Ok fits (Ok u) t h =
     (cases_Bool (fits u))
 limited_Ok fits (Err refusal) t h = absurd (cc)
 
--- a refusal is for a limit, or stands already
 pub limited_Err : {T : Type 0} (fits : T → Bool) (x : Result T Refusal) (refusal : Refusal) → limited fits x ≡ Err refusal → (refusal ≡ TooLong) ⊎ (x ≡ Err refusal)
 limited_Err fits (Ok u) r h =
     ⊎_elim
@@ -50,12 +45,10 @@ limited-seen_as fits fits_so view alike (Ok t) =
     (cases_Bool (fits t))
 limited-seen_as fits fits_so view alike (Err refusal) = refl
 
--- an outcome seen in another way is the view of one
 pub seen_as-Ok : {T U : Type 0} (view : T → U) (x : Result T Refusal) (u : U) → seen_as view x ≡ Ok u → (t : T) × (x ≡ Ok t) × (u ≡ view t)
 seen_as-Ok view (Ok t) u e = (t, refl, cc)
 seen_as-Ok view (Err refusal) u e = absurd (cc)
 
--- a refusal is the same however what comes of it is seen
 pub seen_as-Err : {T U : Type 0} (view : T → U) (x : Result T Refusal) (refusal : Refusal) → seen_as view x ≡ Err refusal → x ≡ Err refusal
 seen_as-Err view (Ok t) r e = absurd (cc)
 seen_as-Err view (Err refusal) r e = let same : refusal ≡ r = cc in ap Err same

@@ -8,13 +8,11 @@ use Rattle.std.proofs.Math.Seq.{get_or-append_right}
 use Rattle.std.proofs.lemmas.List.Sums.{position_or_len_is, fails_before_first}
 use Rattle.std.proofs.lemmas.List.Quantifiers.{position-Some}
 
--- a place that passes, none before it passing, is the first
 pub position_at : (p : ℕ → Bool) (xs : List ℕ) (k : ℕ) → k < length xs → p (get_or xs k 0) ≡ true → ((j : ℕ) → j < k → p (get_or xs j 0) ≡ false) → position p xs ≡ Some k
 position_at p xs k l is before =
     let e : position_or_len p xs ≡ k = position_or_len_is p xs k 0 (omega arith) before (λ _. is) in
     rw e (cond-true (ltb k (length xs)) (Some k) None (lt-ltb k (length xs) l))
 
--- without a first place none passes
 pub position_none : (p : ℕ → Bool) (xs : List ℕ) → position p xs ≡ None → (k : ℕ) → k < length xs → p (get_or xs k 0) ≡ false
 position_none p xs h k l =
     ⊎_elim
@@ -24,7 +22,6 @@ position_none p xs h k l =
     fails_before_first p xs k 0 (omega (arith, ltb-false (position_or_len p xs) (length xs) t)))
     (cases_Bool (ltb (position_or_len p xs) (length xs)))
 
--- the first place stays the first where the list goes on
 pub position-append_Some : (p : ℕ → Bool) (xs ys : List ℕ) (k : ℕ) → position p xs ≡ Some k → position p (xs ++ ys) ≡ Some k
 position-append_Some p xs ys k h =
     let at = position-Some p xs k 0 h in
@@ -32,7 +29,6 @@ position-append_Some p xs ys k h =
     (ap p (get_or_append_left xs ys 0 k at.0) ∙ at.1)
     (λ j l. ap p (get_or_append_left xs ys 0 j (omega (arith, at.0))) ∙ at.2 j l)
 
--- where there was none, the first place stands in what was added
 pub position-append_None : (p : ℕ → Bool) (xs ys : List ℕ) (k : ℕ) → position p xs ≡ None → position p (xs ++ ys) ≡ Some k → (length xs ≤ k) × (k < length (xs ++ ys))
 position-append_None p xs ys k none h =
     let at = position-Some p (xs ++ ys) k 0 h in
@@ -43,7 +39,6 @@ position-append_None p xs ys k none h =
     (cases_lt k (length xs)) in
     (after, at.0)
 
--- where there is none in either part, there is none
 pub position-append_neither : (p : ℕ → Bool) (xs ys : List ℕ) → position p xs ≡ None → position p ys ≡ None → position p (xs ++ ys) ≡ None
 position-append_neither p xs ys none_left none_right = go (position p (xs ++ ys)) refl
   where

@@ -32,7 +32,6 @@ first_among : (forms : Forms) (name : List ℕ) (found : Option Form) (rest : He
 first_among forms name None rest there all = all
 first_among forms name (Some form) rest there all = All-cons (WasAmong forms) (name, form) rest there all
 
--- what is moved out was there, under its name
 pub moved_out_among : (names : List (List ℕ)) (forms : Forms) → All (WasAmong forms) (moved_out names forms)
 moved_out_among [] forms = All-nil (WasAmong forms)
 moved_out_among (name ∷ names) forms =
@@ -92,7 +91,6 @@ moved_out_held names forms proper few = record {
 abbrev pub EachProper : Forms → Type 0
 EachProper forms = (name : List ℕ) → (form : Form) → finite.get forms name ≡ Some form → IsProperForm name form
 
--- with a proper form put
 pub each_put : (forms : Forms) (name : List ℕ) (form : Form) → EachProper forms → IsProperForm name form → EachProper (finite.insert forms name form)
 each_put forms name form each one = λ q found there.
     ⊎_elim
@@ -100,7 +98,6 @@ each_put forms name form each one = λ q found there.
     (λ (before : finite.get forms q ≡ Some found). each q found before)
     (found_of_put forms name q form found there)
 
--- with all of these put
 pub each_with_all : (held : Held) (forms : Forms) → All IsProperEntry held → EachProper forms → EachProper (with_all held forms)
 each_with_all [] forms all each = each
 each_with_all (entry ∷ held) forms all each =
@@ -109,18 +106,15 @@ each_with_all (entry ∷ held) forms all each =
 
 -- ---- blocks
 
--- what holds of each of two lists' elements holds of the second list's
 pub All-append_right : {X : Type 0} (P : X → Type 0) (xs ys : List X) → All P (xs ++ ys) → All P ys
 All-append_right P [] ys all = all
 All-append_right P (x ∷ xs) ys all = All-append_right P xs ys (All-tail P x (xs ++ ys) all)
 
--- the block of a number is proper, also where there is none
 pub block_at_proper : (blocks : List Block) (number : ℕ) → All IsProperBlock blocks → IsProperBlock (block_at number blocks)
 block_at_proper [] number all = tt
 block_at_proper (block ∷ blocks) zero all = All-head IsProperBlock block blocks all
 block_at_proper (block ∷ blocks) (suc number) all = block_at_proper blocks number (All-tail IsProperBlock block blocks all)
 
--- the forms in a proper block are proper
 pub in_proper : (block : Block) → IsProperBlock block → All IsProperEntry (forms_in block)
 in_proper None proper = All-nil IsProperEntry
 in_proper (Some held) proper = proper.each
@@ -128,7 +122,6 @@ in_proper (Some held) proper = proper.each
 pub forms_at_proper : (blocks : List Block) (number : ℕ) → All IsProperBlock blocks → All IsProperEntry (forms_in (block_at number blocks))
 forms_at_proper blocks number all = in_proper (block_at number blocks) (block_at_proper blocks number all)
 
--- blocks of which one is erased
 pub erased_blocks : (blocks : List Block) (number : ℕ) → All IsProperBlock blocks → All IsProperBlock (slice_set blocks number None)
 erased_blocks [] number all = All-nil IsProperBlock
 erased_blocks (block ∷ blocks) zero all = All-cons IsProperBlock None blocks tt (All-tail IsProperBlock block blocks all)

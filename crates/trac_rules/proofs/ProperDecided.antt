@@ -20,15 +20,12 @@ use Rattle.trac_rules.proofs.NamedForms.{one_name, ties_itself}
 
 -- ---- tests
 
--- a test decides that it holds
 itself : (b : Bool) → Decides b (b ≡ true)
 itself b = (λ e. e, λ e. e)
 
--- and a test on numbers that one is no greater
 no_greater : (a b : ℕ) → Decides (nat_le a b) (a ≤ b)
 no_greater a b = (leb-true a b, le-leb a b)
 
--- a test of each element
 each_of : {X : Type 0} (p : X → Bool) (P : X → Type 0) → ((x : X) → Decides (p x) (P x)) → (xs : List X) → Decides (list_all p xs) (All P xs)
 each_of p P decides xs = Decides-by_and p P (list_all p) decides refl (λ _ _. refl) xs
 
@@ -40,7 +37,6 @@ form_decided name form =
 
 -- ---- entries
 
--- a name below all names of a list is not found in it
 pub not_below : (name : List ℕ) (es : List (List ℕ × Form)) → T (below_all (slice_cmp nat_cmp) name es) → find (slice_cmp nat_cmp) name es ≡ None
 not_below name [] below = refl
 not_below name (e ∷ es) below = go (slice_cmp nat_cmp name e.0) below (not_below name es)
@@ -55,7 +51,6 @@ not_below name (e ∷ es) below = go (slice_cmp nat_cmp name e.0) below (not_bel
 abbrev IsProperEntry : List ℕ × Form → Type 0
 IsProperEntry e = IsProperForm e.0 e.1
 
--- where each entry is proper, so is what is found
 of_entries : (es : List (List ℕ × Form)) (name : List ℕ) (form : Form) → All IsProperEntry es → find (slice_cmp nat_cmp) name es ≡ Some form → IsProperForm name form
 of_entries [] name form all there = absurd (cc)
 of_entries (e ∷ es) name form all there =
@@ -111,7 +106,6 @@ forms_decided forms =
 
 -- ---- names of a block
 
--- no name of a list is this one
 none_is : (name : List ℕ) (names : List (List ℕ)) → Decides (not (list_any (bytes_eq name) names)) (AllByRecursion (λ n. bytes_eq name n ≡ false) names)
 none_is name names =
     Decides-like (not (list_any (bytes_eq name) names)) (recursion_from_All (λ n. bytes_eq name n ≡ false) names)
@@ -154,7 +148,6 @@ storage_decided storage =
     (Decides-and (are_proper_forms storage.forms) few (forms_decided storage.forms) (no_greater (length storage.blocks) BLOCK_LIMIT))
     (each_of is_proper_block IsProperBlock block_decided storage.blocks))
 
--- whether a state is proper is decided
 pub proper_decided : (s : State) → Decides (is_proper s) (IsProper s)
 unfolding is_proper
 proper_decided s =

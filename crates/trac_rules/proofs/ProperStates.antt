@@ -70,7 +70,6 @@ proper_of_judged name form forms proper wide judged =
     let parts = and_parts (form_fits name form) (nat_le (finite.len (finite.insert forms name form)) FORM_COUNT_LIMIT) judged in
     put_proper forms name form proper (record { fits = parts.0; wide = wide }) (leb-true (finite.len (finite.insert forms name form)) FORM_COUNT_LIMIT parts.1)
 
--- and one that leaves them proper may be put
 pub judged_of_proper : (name : List ℕ) (form : Form) (forms : Forms) → AreProperForms (finite.insert forms name form) → may_be_put name form forms ≡ true
 unfolding may_be_put
 judged_of_proper name form forms proper =
@@ -91,7 +90,6 @@ pointed_proper name place form forms proper there =
     (record { fits = ap (items_fit name) items ∙ same.fits; wide = subst (λ is. All IsWide is) (sym items) same.wide })
     (let again = len-put_again forms name form (pointed_at place (all_items form)) there in omega (arith, again, proper.count))
 
--- and they stay proper without these names
 pub without_proper : (names : List (List ℕ)) (forms : Forms) → AreProperForms forms → AreProperForms (without names forms)
 without_proper [] forms proper = proper
 without_proper (name ∷ names) forms proper =
@@ -107,7 +105,6 @@ abbrev LeavesProper : Result Effect Refusal → Type 0
 LeavesProper (Ok e) = IsProperStorage e.storage
 LeavesProper (Err refusal) = Unit {0}
 
--- other forms in a storage
 with_proper : (forms : Forms) (storage : Storage) → IsProperStorage storage → AreProperForms forms → IsProperStorage (keeping forms storage)
 with_proper forms storage proper now = record { forms = now; block_count = proper.block_count; blocks = proper.blocks }
 
@@ -185,7 +182,6 @@ storing_proper name names storage proper =
     (λ (t : block_fits (moved_out names storage.forms) storage.blocks ≡ false). rw t tt)
     (cases_Bool (block_fits (moved_out names storage.forms) storage.blocks))
 
--- copies of proper forms that are put among the others, or refused
 fetching_proper : (number : ℕ) (storage : Storage) → IsProperStorage storage → LeavesProper (fetching number storage)
 fetching_proper number storage proper =
     ⊎_elim
@@ -236,7 +232,6 @@ fetching_of_proper number storage proper = rw (le-leb (finite.len (fetched numbe
 
 -- ---- each primitive
 
--- reading
 read_proper : (at : Option ℕ) (text : List ℕ) (ended : Bool) (storage : Storage) → IsProperStorage storage → LeavesProper (read_up_to at text ended storage)
 read_proper (Some k) text ended storage proper = proper
 read_proper None text ended storage proper = rest text ended
@@ -251,7 +246,6 @@ byte_proper [] false storage proper = tt
 byte_proper [] true storage proper = tt
 byte_proper (b ∷ rest) ended storage proper = proper
 
--- setting the meta character
 meta_proper : (text : List ℕ) (storage : Storage) → IsProperStorage storage → IsProperStorage (meta_set text storage).storage
 meta_proper [] storage proper = proper
 meta_proper (b ∷ bytes) storage proper = proper
@@ -279,12 +273,10 @@ effect_proper (Handle action) environment arguments s proper = handled_proper ac
 effect_proper (HandleBlock action) environment arguments s proper = block_handled_proper action arguments (storage_of s) proper
 effect_proper primitive environment arguments s proper = proper
 
--- the line of the trace changes no storage
 traced_proper : (line : List ℕ) (outcome : Result Effect Refusal) → LeavesProper outcome → LeavesProper (seen_as (printed_after line) outcome)
 traced_proper line (Ok e) proper = proper
 traced_proper line (Err refusal) proper = tt
 
--- and so a call
 performed_proper : (environment : Environment) (call : Call) → IsProperStorage (storage_of call.state) → LeavesProper (performed environment call)
 unfolding performed
 performed_proper environment call proper =
@@ -298,13 +290,11 @@ abbrev StepsProper : Result State Refusal → Type 0
 StepsProper (Ok t) = IsProperStorage (storage_of t)
 StepsProper (Err refusal) = Unit {0}
 
--- a placed value leaves the storage
 pub storage-placed : (kind : Kind) (forced : Bool) (value : List ℕ) (s : State) → storage_of (placed kind forced value s) ≡ storage_of s
 storage-placed Active forced value s = refl
 storage-placed Neutral true value s = refl
 storage-placed Neutral false value s = gathered_in_shows storage_of (λ _ _ _ _. refl) s.frames value s
 
--- what is placed after a call has the storage that the call left
 placed_proper : (call : Call) (outcome : Result Effect Refusal) → LeavesProper outcome → StepsProper (seen_as (after_call call) outcome)
 placed_proper call (Ok e) proper = subst IsProperStorage (sym (storage-placed call.kind e.forced e.value (changed_by e call.state))) proper
 placed_proper call (Err refusal) proper = tt
@@ -316,7 +306,6 @@ carried_out_proper environment s (Moves t) same proper = subst IsProperStorage (
 carried_out_proper environment s (Calls call) same proper =
     placed_proper call (performed environment call) (performed_proper environment call (subst IsProperStorage (sym same) proper))
 
--- a step leads from a proper state to a proper one
 pub step_proper : (environment : Environment) (s t : State) → IsProper s → step environment s ≡ Ok t → IsProper t
 unfolding step
 step_proper environment s t proper h =
@@ -326,7 +315,6 @@ step_proper environment s t proper h =
       storage = subst StepsProper accepted.0 (carried_out_proper environment s (scan s) (scan_shows storage_of (λ _ _ _ _. refl) s) proper.storage);
     }
 
--- the state at the start is proper
 pub initial_proper : IsProper initial
 unfolding texts_fit
 initial_proper = record {

@@ -51,7 +51,6 @@ byte_refusals : (tape : Tape) (text : List ℕ) (storage : Storage) (refusal : R
 byte_refusals tape [] storage r h = rest_refusals tape [] tape.ended storage refl r h
 byte_refusals tape (b ∷ rest) storage r h = absurd (cc)
 
--- a call on forms is refused for a limit alone
 looks_refusals : (outcome : Result Effect Refusal) (refusal : Refusal) → LooksAtForms outcome → outcome ≡ Err refusal → refusal ≡ TooLong
 looks_refusals (Ok e) r looks h = absurd (cc)
 looks_refusals (Err why) r looks h = let same : why ≡ r = cc in sym same ∙ looks
@@ -86,7 +85,6 @@ carried_out_refusals : (e : Environment) (x : Scanned) (refusal : Refusal) → c
 carried_out_refusals e (Moves t) r h = absurd (cc)
 carried_out_refusals e (Calls call) r h = performed_refusals e call r (seen_as-Err (after_call call) (performed e call) r h)
 
--- a step is refused for a limit, for want of input, or at the end
 pub step_refusals : (e : Environment) (s : State) (refusal : Refusal) → step e s ≡ Err refusal → MayStop e.tape refusal
 unfolding step
 step_refusals e s r h =
@@ -95,7 +93,6 @@ step_refusals e s r h =
     (λ (out : carried_out e (scan s) ≡ Err r). carried_out_refusals e (scan s) r out)
     (limited_Err texts_fit (carried_out e (scan s)) r h)
 
--- a step that wants input is on a tape that has not ended
 pub wants_input_of_open : (e : Environment) (s : State) → step e s ≡ Err NeedInput → e.tape.ended ≡ false
 wants_input_of_open e s h =
     ⊎_elim
@@ -134,7 +131,6 @@ up_to_long front more (Some k) storage some inside =
 up_to_long front more None storage some inside =
     rest_long (length front) (front ++ more) storage some (omega (arith, length-append front more))
 
--- a text without a meta character is not read up to one
 pub wants_none : (text : List ℕ) (at : Option ℕ) (ended : Bool) (storage : Storage) → read_up_to at text ended storage ≡ Err NeedInput → at ≡ None
 wants_none text (Some k) ended storage h = absurd (cc)
 wants_none text None ended storage h = refl
@@ -162,7 +158,6 @@ effect_long (HandleBlock action) e more arguments s l some h =
     absurd (cc)
 effect_long other e more arguments s l some h = absurd (cc)
 
--- a line of the trace before it leaves the value
 traced_long : (n : ℕ) (line : List ℕ) (outcome : Result Effect Refusal) → IsLong n outcome → IsLong n (seen_as (printed_after line) outcome)
 traced_long n line (Ok e) long = long
 traced_long n line (Err refusal) long = absurd long
@@ -176,22 +171,18 @@ performed_long e more call h l some =
     (effect_long (primitive_of (argument 0 call.arguments)) e more call.arguments call.state l some
     (seen_as-Err (printed_after line) (effect_of (primitive_of (argument 0 call.arguments)) e call.arguments call.state) NeedInput h))
 
--- a gathered text counts among the text bytes
 pub text_bytes-gathered_in : (frames : List Frame) (text : List ℕ) (s : State) → frames ≡ s.frames → length text ≤ text_bytes (gathered_in frames text s)
 text_bytes-gathered_in [] text s e = omega (arith, length-append s.base text)
 text_bytes-gathered_in (x ∷ xs) text s e = omega (arith, length-append x.gathered text)
 
--- a placed value counts among the text bytes
 pub text_bytes-placed : (kind : Kind) (forced : Bool) (value : List ℕ) (s : State) → length value ≤ text_bytes (placed kind forced value s)
 text_bytes-placed Active forced value s = omega (arith, length-append value s.active)
 text_bytes-placed Neutral true value s = omega (arith, length-append value s.active)
 text_bytes-placed Neutral false value s = text_bytes-gathered_in s.frames value s refl
 
--- the value of a call counts among the text bytes of the state after it
 pub text_bytes-after_call : (call : Call) (e : Effect) → length e.value ≤ text_bytes (after_call call e)
 text_bytes-after_call call e = text_bytes-placed call.kind e.forced e.value (changed_by e call.state)
 
--- a state with too many text bytes is beyond the limits
 pub beyond_limits_of_text : (t : State) → TEXT_LIMIT < text_bytes t → texts_fit t ≡ false
 unfolding texts_fit
 beyond_limits_of_text t l = false_from_ne_true (texts_fit t) (λ h.

@@ -30,7 +30,6 @@ use Rattle.trac_rules.proofs.Steps.{carried_out-silent, cut, moved_back, step-cu
 
 -- ---- limits
 
--- with no more output the limits are kept
 texts_fit_of_less : (s : State) (o : List ℕ) → length o ≤ length s.output → texts_fit s ≡ true → texts_fit (record s { output = o }) ≡ true
 unfolding texts_fit
 texts_fit_of_less s o less h =
@@ -42,7 +41,6 @@ texts_fit-released : (o k : ℕ) (s : State) → texts_fit s ≡ true → texts_
 unfolding texts_fit
 texts_fit-released o k s h = texts_fit_of_less s (drop o s.output) (omega (arith, length-drop o s.output)) h
 
--- a released state is as proper as before
 pub proper-released : (o k : ℕ) (s : State) → IsProper s → IsProper (released o k s)
 proper-released o k s proper = record { texts = texts_fit-released o k s proper.texts; storage = proper.storage }
 
@@ -162,18 +160,14 @@ before-released o k r s t read printed back =
 
 -- ---- what a step keeps
 
+by_frames : (P : List Frame → Type 0) → P [] → ((f : Frame) (fs : List Frame) → P (f ∷ fs)) → (frames : List Frame) → P frames
+by_frames P none some [] = none
+by_frames P none some (f ∷ fs) = some f fs
+
 recorded_at-released : (at : Front) (o k : ℕ) (s : State) → recorded_at at (released o k s) ≡ recorded_at at s
-recorded_at-released at o k s = go at
-  where
-    comma : (frames : List Frame) → comma_recorded frames (released o k s) ≡ comma_recorded frames s
-    comma [] = refl
-    comma (f ∷ fs) = refl
+recorded_at-released front.Comma o k s = by_frames (λ frames. comma_recorded frames (released o k s) ≡ comma_recorded frames s) refl (λ f fs. refl) s.frames
+recorded_at-released other o k s = refl
 
-    go : (a : Front) → recorded_at a (released o k s) ≡ recorded_at a s
-    go front.Comma = comma s.frames
-    go other = refl
-
--- it weighs as much
 pub step_weight-released : (o k : ℕ) (s : State) → step_weight (released o k s) ≡ step_weight s
 step_weight-released o k s =
     ap (step_weight_in (released o k s)) (scan-changed (λ p. p - k) (λ x. drop o x) s) ∙ go (scan s)
@@ -182,41 +176,31 @@ step_weight-released o k s =
     go (Moves t) = ap weight (recorded_at-released (front_of s.active) o k s)
     go (Calls call) = refl
 
--- and may lose as much
 pub loss-released : (o k : ℕ) (s : State) → loss (released o k s) ≡ loss s
 loss-released o k s = go (front_of s.active)
   where
-    closing : (frames : List Frame) → closing_loss frames (released o k s) ≡ closing_loss frames s
-    closing [] = refl
-    closing (f ∷ fs) = refl
-
     go : (at : Front) → loss_at at (released o k s) ≡ loss_at at s
-    go front.Closing = closing s.frames
+    go front.Closing = by_frames (λ frames. closing_loss frames (released o k s) ≡ closing_loss frames s) refl (λ f fs. refl) s.frames
     go other = refl
 
 -- ---- a commit
 
--- a step prints after what is there
 pub step_prints_more : (e : Environment) (s t : State) → step e s ≡ Ok t → IsFrontOf s.output t.output
 step_prints_more e s t taken =
     let at = step-silent_Ok e s t taken in
     (at.0.output, ap (λ (u : State). u.output) at.2)
 
--- and adds one state
 pub one_state_more : (keep : ℕ) (p q : PlainSession) → length p.earlier ≤ keep → answer Step p ≡ done q → length q.earlier ≤ keep + 1
 one_state_more keep p q few taken = omega (arith, few, ap (λ (s : PlainSession). length s.earlier) (Step_done p q taken).2)
 
--- as many states stay
 pub length-committed : (keep : ℕ) (p : PlainSession) → length (committed keep p).earlier ≡ min keep (length p.earlier)
 length-committed keep p =
     length-map (take keep p.earlier) (released_by (first_kept keep p)) ∙ length-take keep p.earlier
 
--- the first of changed states is the first one, changed
 pub first_of-map : (f : State → State) (s : State) (earlier : List State) → first_of (f s) (map f earlier) ≡ f (first_of s earlier)
 first_of-map f s [] = refl
 first_of-map f s (t ∷ earlier) = first_of-map f t earlier
 
--- the first state that stays is settled
 pub first-committed : (keep : ℕ) (p : PlainSession) → first_of (committed keep p).last (committed keep p).earlier ≡ settled (first_kept keep p)
 first-committed keep p = first_of-map (released_by (first_kept keep p)) p.last (take keep p.earlier)
 

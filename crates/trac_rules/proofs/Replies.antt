@@ -13,20 +13,16 @@ use Rattle.trac_rules.specs.Stepping.{step}
 use Rattle.trac_rules.specs.Session.{PlainSession, Command, Feed, End, Step, Back, Commit, Answer, done, refused, stepped_to, backed_to, committed, answer, accepted_by, over}
 use Rattle.trac_rules.proofs.Refusals.{step_refusals, step_refused_otherwise}
 
--- a refused command is not done
 pub done_of_refused : (refusal : Refusal) (p q : PlainSession) → refused refusal p ≡ done q → ⊥
 done_of_refused r p q h = let e : Refused r ≡ Done = ap (λ a. a.reply) h in cc
 
--- refusals are told apart
 pub refused_alike : (r t : Refusal) (p q : PlainSession) → refused r p ≡ refused t q → (r ≡ t) × (q ≡ p)
 refused_alike r t p q h = let e : Refused r ≡ Refused t = ap (λ a. a.reply) h in (cc, sym (ap (λ a. a.session) h))
 
--- an accepted command is done
 pub accepted_by_Some : (reply : Reply) (session q : PlainSession) → accepted_by (record { reply = reply; session = session }) ≡ Some q → (reply ≡ Done) × (session ≡ q)
 accepted_by_Some Done s q h = (refl, cc)
 accepted_by_Some (Refused r) s q h = absurd (cc)
 
--- the answer to an accepted command is done
 pub accepted_done : (a : Answer) (q : PlainSession) → accepted_by a ≡ Some q → a ≡ done q
 accepted_done a q h =
     let parts = accepted_by_Some a.reply a.session q h in
@@ -38,27 +34,22 @@ accepted_done a q h =
 abbrev pub with_next : PlainSession → State → PlainSession
 with_next p t = record p { earlier = p.last ∷ p.earlier; last = t }
 
--- an outcome that was taken
 pub stepped_to_done : (x : Result State Refusal) (p q : PlainSession) → stepped_to x p ≡ done q → (t : State) × (x ≡ Ok t) × (q ≡ with_next p t)
 stepped_to_done (Ok t) p q h = (t, refl, sym (ap (λ a. a.session) h))
 stepped_to_done (Err r) p q h = absurd (done_of_refused r p q h)
 
--- an outcome that was refused
 pub stepped_to_refused : (x : Result State Refusal) (p q : PlainSession) (refusal : Refusal) → stepped_to x p ≡ refused refusal q → (x ≡ Err refusal) × (q ≡ p)
 stepped_to_refused (Ok t) p q r h = absurd (done_of_refused r q (with_next p t) (sym h))
 stepped_to_refused (Err u) p q r h = let parts = refused_alike u r p q h in (ap Err parts.0, parts.1)
 
--- with room in the journal a step gives what the language says
 pub answer_Step : (p : PlainSession) → length p.earlier < p.limit → answer Step p ≡ stepped_to (step (over p.width p.tape) p.last) p
 unfolding answer
 answer_Step p l = cond-true (ltb (length p.earlier) p.limit) (stepped_to (step (over p.width p.tape) p.last) p) (refused JournalFull p) (lt-ltb (length p.earlier) p.limit l)
 
--- without room in the journal a step is refused
 pub answer_Step_full : (p : PlainSession) → p.limit ≤ length p.earlier → answer Step p ≡ refused JournalFull p
 unfolding answer
 answer_Step_full p l = cond-false (ltb (length p.earlier) p.limit) (stepped_to (step (over p.width p.tape) p.last) p) (refused JournalFull p) (le-ltb (length p.earlier) p.limit l)
 
--- a step to a state is done
 pub answer_Step_Ok : (p : PlainSession) (t : State) → length p.earlier < p.limit → step (over p.width p.tape) p.last ≡ Ok t → answer Step p ≡ done (with_next p t)
 answer_Step_Ok p t l e = answer_Step p l ∙ ap (λ x. stepped_to x p) e
 
@@ -97,19 +88,15 @@ Step_refused_by_step p q r other h =
     (λ (stepped : (length p.earlier < p.limit) × (step (over p.width p.tape) p.last ≡ Err r)). stepped.1)
     (Step_refused p q r h).1
 
--- a step that the session refused for a limit was refused so by the language
 pub Step_refused_TooLong : (p q : PlainSession) → answer Step p ≡ refused TooLong q → step (over p.width p.tape) p.last ≡ Err TooLong
 Step_refused_TooLong p q h = Step_refused_by_step p q TooLong (λ e. cc) h
 
--- a step that the session refused for want of input was refused so by the language
 pub Step_refused_NeedInput : (p q : PlainSession) → answer Step p ≡ refused NeedInput q → step (over p.width p.tape) p.last ≡ Err NeedInput
 Step_refused_NeedInput p q h = Step_refused_by_step p q NeedInput (λ e. cc) h
 
--- a step that the session refused at the end was refused so by the language
 pub Step_refused_Ended : (p q : PlainSession) → answer Step p ≡ refused Ended q → step (over p.width p.tape) p.last ≡ Err Ended
 Step_refused_Ended p q h = Step_refused_by_step p q Ended (λ e. cc) h
 
--- a step that was refused for a full journal found no room in it
 pub Step_refused_JournalFull : (p q : PlainSession) → answer Step p ≡ refused JournalFull q → p.limit ≤ length p.earlier
 Step_refused_JournalFull p q h =
     ⊎_elim
@@ -132,12 +119,10 @@ Step_refusals p q r h =
 abbrev pub with_more : PlainSession → List ℕ → PlainSession
 with_more p bytes = record p { tape = record p.tape { bytes = p.tape.bytes ++ bytes } }
 
--- after the end a feed is refused
 pub answer_Feed_closed : (bytes : List ℕ) (p : PlainSession) → p.tape.ended ≡ true → answer (Feed bytes) p ≡ refused Closed p
 unfolding answer
 answer_Feed_closed d p e = rw e refl
 
--- with room on the tape a feed is done
 pub answer_Feed_room : (bytes : List ℕ) (p : PlainSession) → p.tape.ended ≡ false → length p.tape.bytes + length bytes ≤ TAPE_LIMIT → answer (Feed bytes) p ≡ done (with_more p bytes)
 unfolding answer
 answer_Feed_room d p e l =
@@ -187,30 +172,24 @@ Feed_refused d p q r h =
 abbrev pub with_end : PlainSession → PlainSession
 with_end p = record p { tape = record p.tape { ended = true } }
 
--- the end is always done
 pub answer_End : (p : PlainSession) → answer End p ≡ done (with_end p)
 unfolding answer
 answer_End p = refl
 
--- an end that was done is on the tape
 pub End_done : (p q : PlainSession) → answer End p ≡ done q → q ≡ with_end p
 End_done p q h = sym (ap (λ a. a.session) (sym (answer_End p) ∙ h))
 
--- a commit is always done
 pub answer_Commit : (keep : ℕ) (p : PlainSession) → answer (Commit keep) p ≡ done (committed keep p)
 unfolding answer
 answer_Commit keep p = refl
 
--- what a commit that was done left
 pub Commit_done : (keep : ℕ) (p q : PlainSession) → answer (Commit keep) p ≡ done q → q ≡ committed keep p
 Commit_done keep p q h = sym (ap (λ a. a.session) (sym (answer_Commit keep p) ∙ h))
 
--- a step back from the first state is refused
 pub answer_Back_start : (p : PlainSession) → p.earlier ≡ [] → answer Back p ≡ refused AtStart p
 unfolding answer
 answer_Back_start p e = ap (λ states. backed_to states p) e
 
--- a step back from any other state takes the last state away
 pub answer_Back_from : (p : PlainSession) (s : State) (earlier : List State) → p.earlier ≡ s ∷ earlier → answer Back p ≡ done (record p { earlier = earlier; last = s })
 unfolding answer
 answer_Back_from p s earlier e = ap (λ states. backed_to states p) e
@@ -220,14 +199,12 @@ pub backed_to_refused : (earlier : List State) (p q : PlainSession) (refusal : R
 backed_to_refused [] p q r h = let same = refused_alike AtStart r p q h in (same.1, sym same.0, refl)
 backed_to_refused (s ∷ rest) p q r h = absurd (done_of_refused r q (record p { earlier = rest; last = s }) (sym h))
 
--- a step back that was refused was at the first state
 pub Back_refused : (p q : PlainSession) (refusal : Refusal) → answer Back p ≡ refused refusal q → (q ≡ p) × (refusal ≡ AtStart) × (p.earlier ≡ [])
 unfolding answer
 Back_refused p q r h = backed_to_refused p.earlier p q r h
 
 -- ---- what no command changes
 
--- where two answers leave this width, the chosen one does
 pub either_width : (b : Bool) (x y : Answer) (width : Width) → x.session.width ≡ width → y.session.width ≡ width → (if b then x else y).session.width ≡ width
 either_width true x y width first second = first
 either_width false x y width first second = second
@@ -240,7 +217,6 @@ pub backed_to_width : (earlier : List State) (p : PlainSession) → (backed_to e
 backed_to_width [] p = refl
 backed_to_width (s ∷ earlier) p = refl
 
--- a session has numbers of the same width after each command
 pub answer_width : (command : Command) (p : PlainSession) → (answer command p).session.width ≡ p.width
 unfolding answer
 answer_width (Feed bytes) p =

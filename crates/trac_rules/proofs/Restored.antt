@@ -89,13 +89,11 @@ pub moved_back-gather : (frames : List Frame) (text more : List ℕ) (s : State)
 moved_back-gather [] text more s = rw (fits-append s.base text, last_of-append s.base text, all_before_last-append s.base text) refl
 moved_back-gather (f ∷ fs) text more s = rw (fits-append f.gathered text, last_of-append f.gathered text, all_before_last-append f.gathered text) refl
 
--- a frame is that of its arguments, the gathered one last
 pub frame_of-last : (f : Frame) → frame_of f.kind (f.arguments ++ f.gathered ∷ []) ≡ Some f
 frame_of-last f = rw (reverse-append f.arguments (f.gathered ∷ []), reverse-reverse f.arguments) refl
 
 -- ---- what is protected
 
--- a text splits at its match
 match_splits : (text : List ℕ) (k : ℕ) → match_of text ≡ Some k → text ≡ take k text ++ CLOSING ∷ drop (k + 1) text
 match_splits text k found =
     ⊎_elim
@@ -106,7 +104,6 @@ match_splits text k found =
     subst (λ (j : ℕ). text ≡ take j text ++ CLOSING ∷ drop (j + 1) text) same (split_at_closing text some.0 some.2 some.1))
     (first_place_cases (closes_at text) (length text))
 
--- a text is what is protected in it, the match, and what is after that
 protected_parts : (text : List ℕ) → text ≡ (protected text).inner ++ (ending_of (is_some (match_of text)) ++ (protected text).rest)
 protected_parts text = by_match (match_of text) refl
   where
@@ -121,7 +118,6 @@ abbrev GoesBack : State → Record → Scanned → Type 0
 GoesBack s r (Moves t) = restored r t ≡ Some s
 GoesBack s r (Calls call) = Unit {0}
 
--- a byte goes back from the current text
 pub first_goes_back : (s : State) → s.active ≡ get_or s.active 0 0 ∷ drop 1 s.active → restored Moved (gather_first s) ≡ Some s
 first_goes_back s e =
     let one : length (take 1 s.active) ≡ 1 = ap (λ (text : List ℕ). length (take 1 text)) e in
@@ -129,7 +125,6 @@ first_goes_back s e =
     ∙ moved_back-gather s.frames (take 1 s.active) [] (deleted 1 s)
     ∙ ap (λ (text : List ℕ). Some (record s { active = text })) (take-append-drop 1 s.active)
 
--- a protected text goes back from there
 protected_goes_back : (s : State) → s.active ≡ codes "(" ++ drop 1 s.active → GoesBack s (recorded_at front.Opening s) (scan_at front.Opening s)
 protected_goes_back s e =
     let text : List ℕ = drop 1 s.active in
@@ -158,7 +153,6 @@ closing_goes_back [] s e =
     ap (λ (text : List ℕ). Some (record s { active = text; frames = [] })) whole
 closing_goes_back (f ∷ fs) s e = tt
 
--- each rule
 goes_back_at : (at : Front) (s : State) → BeginsSo at s.active → GoesBack s (recorded_at at s) (scan_at at s)
 goes_back_at front.Opening s e = protected_goes_back s e
 goes_back_at front.Comma s e = comma_goes_back s.frames s e
@@ -173,7 +167,6 @@ scan_goes_back s = goes_back_at (front_of s.active) s (begins_so s.active)
 
 -- ---- a step
 
--- a step of scanning is led back by its record
 pub moved_goes_back : (e : Environment) (s t u : State) → scan s ≡ Moves u → step e s ≡ Ok t → restored (recorded s) t ≡ Some s
 unfolding step
 moved_goes_back e s t u scanned h =
@@ -183,13 +176,11 @@ moved_goes_back e s t u scanned h =
     let same : u ≡ t = cc in
     subst (λ (v : State). restored (recorded s) v ≡ Some s) same back
 
--- where a proper state is restored, it is the one before
 pub before_of_restored : (r : Record) (s t : State) → IsProper s → restored r t ≡ Some s → state_before r t ≡ Some s
 unfolding state_before
 before_of_restored r s t proper back =
     ap (option_and_then (λ (u : State). then_some (is_proper u) u)) back ∙ ap (λ (b : Bool). then_some b s) ((proper_decided s).1 proper)
 
--- a state before is restored, and proper
 pub restored_of_before : (r : Record) (s t : State) → state_before r t ≡ Some s → (restored r t ≡ Some s) × IsProper s
 unfolding state_before
 restored_of_before r s t h =

@@ -17,12 +17,10 @@ ScanShows view s (Calls call) = view call.state ≡ view s
 abbrev pub IsAside : {T : Type 0} → (State → T) → Type 0
 IsAside view = (s : State) (active base : List ℕ) (frames : List Frame) → view (record s { active = active; base = base; frames = frames }) ≡ view s
 
--- a text is gathered unseen
 pub gathered_in_shows : {T : Type 0} (view : State → T) → IsAside view → (frames : List Frame) (text : List ℕ) (s : State) → view (gathered_in frames text s) ≡ view s
 gathered_in_shows view aside [] text s = aside s s.active (s.base ++ text) s.frames
 gathered_in_shows view aside (f ∷ fs) text s = aside s s.active s.base (record f { gathered = f.gathered ++ text } ∷ fs)
 
--- each rule of scanning goes unseen
 pub scan_at_shows : {T : Type 0} (view : State → T) → IsAside view → (front : Front) (s : State) → ScanShows view s (scan_at front s)
 scan_at_shows view aside front s = go front
   where
@@ -53,7 +51,6 @@ scan_at_shows view aside front s = go front
     go Closing = closing s.frames
     go Plain = first
 
--- and so does scanning
 pub scan_shows : {T : Type 0} (view : State → T) → IsAside view → (s : State) → ScanShows view s (scan s)
 unfolding scan
 scan_shows view aside s = scan_at_shows view aside (front_of s.active) s
@@ -62,6 +59,5 @@ scan_shows view aside s = scan_at_shows view aside (front_of s.active) s
 abbrev pub place_of : State → ℕ
 place_of s = s.position
 
--- scanning reads nothing
 pub scan_keeps_place : (s : State) → ScanShows place_of s (scan s)
 scan_keeps_place s = scan_shows place_of (λ t active base frames. refl) s

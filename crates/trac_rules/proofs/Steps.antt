@@ -46,11 +46,9 @@ pub record IsFurther (tape : Tape) (s t : State) : Type 0 where
   pub onward : s.position ≤ t.position
   pub within : s.position ≤ length tape.bytes → t.position ≤ length tape.bytes
 
--- a state at the same position
 pub is_as_far : (tape : Tape) (s t : State) → t.position ≡ s.position → IsFurther tape s t
 is_as_far tape s t e = record { onward = omega arith; within = λ l. omega arith }
 
--- further than a state at the same position
 pub is_further_at : (tape : Tape) (s t u : State) → t.position ≡ s.position → IsFurther tape t u → IsFurther tape s u
 is_further_at tape s t u e further = record { onward = omega (arith, further.onward); within = λ l. further.within (omega arith) }
 
@@ -64,7 +62,6 @@ abbrev pub ReadsWithin : ℕ → Result Effect Refusal → Type 0
 ReadsWithin n (Ok e) = e.read ≤ n
 ReadsWithin n (Err refusal) = Unit {0}
 
--- the rest is no longer than itself
 rest_within : (rest : List ℕ) (ended : Bool) (storage : Storage) → ReadsWithin (length rest) (rest_read rest ended storage)
 rest_within rest false storage = tt
 rest_within [] true storage = tt
@@ -115,7 +112,6 @@ handled_looks ListNames width arguments storage = refl
 handled_looks PrintForm width arguments storage =
     on_form_looks (named_form arguments storage) (λ form. Ok (prints (shown form) storage)) storage (λ form. refl)
 
--- calls on blocks neither
 fitting_looks : (fits : Bool) (outcome : Result Effect Refusal) → LooksAtForms outcome → LooksAtForms (if fits then outcome else Err TooLong)
 fitting_looks true outcome looks = looks
 fitting_looks false outcome looks = refl
@@ -140,7 +136,6 @@ looks_within : (n : ℕ) (outcome : Result Effect Refusal) → LooksAtForms outc
 looks_within n (Ok e) looks = omega (arith, looks)
 looks_within n (Err refusal) looks = tt
 
--- a computation reads nothing
 value_within : (n : ℕ) (value : Option (List ℕ)) (other : List ℕ) (storage : Storage) → (gives_or_forces value other storage).read ≤ n
 value_within n None other storage = omega arith
 value_within n (Some value) other storage = omega arith
@@ -149,12 +144,10 @@ computed_within : (n : ℕ) (computation : Computation) (width : Width) (argumen
 computed_within n (Calculate operation) width arguments storage = value_within n _ (argument 3 arguments) storage
 computed_within n computation width arguments storage = omega arith
 
--- one byte is read of what is not null
 byte_within : (text : List ℕ) (ended : Bool) (storage : Storage) → ReadsWithin (length text) (byte_read text ended storage)
 byte_within [] ended storage = rest_within [] ended storage
 byte_within (b ∷ rest) ended storage = omega arith
 
--- a meta character is set without reading
 meta_within : (n : ℕ) (text : List ℕ) (storage : Storage) → (meta_set text storage).read ≤ n
 meta_within n [] storage = omega arith
 meta_within n (b ∷ bytes) storage = omega arith
@@ -176,7 +169,6 @@ effect_within (HandleBlock action) e arguments s =
     looks_within (length (unread e.tape s)) (block_handled action arguments (storage_of s)) (block_handled_looks action arguments (storage_of s))
 effect_within Unknown e arguments s = omega arith
 
--- and so does a call
 traced_within : (n : ℕ) (line : List ℕ) (outcome : Result Effect Refusal) → ReadsWithin n outcome → ReadsWithin n (seen_as (printed_after line) outcome)
 traced_within n line (Ok e) within = within
 traced_within n line (Err refusal) within = tt
@@ -188,13 +180,11 @@ performed_within e call =
     (effect_of (primitive_of (argument 0 call.arguments)) e call.arguments call.state)
     (effect_within (primitive_of (argument 0 call.arguments)) e call.arguments call.state)
 
--- a placed value leaves the position as it is
 pub position-placed : (kind : Kind) (forced : Bool) (value : List ℕ) (s : State) → (placed kind forced value s).position ≡ s.position
 position-placed Active forced value s = refl
 position-placed Neutral true value s = refl
 position-placed Neutral false value s = gathered_in_shows place_of (λ t active base frames. refl) s.frames value s
 
--- the state after a call has the position after what was read
 pub position-after_call : (call : Call) (e : Effect) → (after_call call e).position ≡ call.state.position + e.read
 position-after_call call e = position-placed call.kind e.forced e.value (changed_by e call.state)
 
@@ -207,57 +197,46 @@ placed_further tape call (Ok e) within = record {
 }
 placed_further tape call (Err refusal) within = tt
 
--- an outcome of a state of this position
 pub StepGoes_at : (tape : Tape) (s t : State) → t.position ≡ s.position → (x : Result State Refusal) → StepGoes tape t x → StepGoes tape s x
 StepGoes_at tape s t e (Ok u) goes = is_further_at tape s t u e goes
 StepGoes_at tape s t e (Err refusal) goes = tt
 
--- what scanning gives leaves the state further on
 carried_out_further : (e : Environment) (s : State) (x : Scanned) → ScanShows place_of s x → StepGoes e.tape s (carried_out e x)
 carried_out_further e s (Moves t) kept = is_as_far e.tape s t kept
 carried_out_further e s (Calls call) kept =
     StepGoes_at e.tape s call.state kept (carried_out e (Calls call)) (placed_further e.tape call (performed e call) (performed_within e call))
 
--- what an outcome says of its state
 pub StepGoes-Ok : (tape : Tape) (s t : State) (x : Result State Refusal) → x ≡ Ok t → StepGoes tape s x → IsFurther tape s t
 StepGoes-Ok tape s t (Ok u) e goes = let same : u ≡ t = cc in rw (← same) goes
 StepGoes-Ok tape s t (Err refusal) e goes = absurd (cc)
 
--- a step leaves the state further on
 pub step_further : (e : Environment) (s t : State) → step e s ≡ Ok t → IsFurther e.tape s t
 unfolding step
 step_further e s t h =
     StepGoes-Ok e.tape s t (carried_out e (scan s)) (limited_Ok texts_fit (carried_out e (scan s)) t h).0 (carried_out_further e s (scan s) (scan_keeps_place s))
 
--- a step does not leave the tape
 pub step_within : (e : Environment) (s t : State) → step e s ≡ Ok t → s.position ≤ length e.tape.bytes → t.position ≤ length e.tape.bytes
 step_within e s t h l = (step_further e s t h).within l
 
--- a step reads onward
 pub step_onward : (e : Environment) (s t : State) → step e s ≡ Ok t → s.position ≤ t.position
 step_onward e s t h = (step_further e s t h).onward
 
 -- ---- the output
 
--- a change of the output alone is not noticed
 pub output_unnoticed : (texts : List ℕ → List ℕ) (e : Environment) (s : State) → ((x y : List ℕ) → texts (x ++ y) ≡ texts x ++ y) → GoesUnnoticed (λ p. p) texts e e s
 output_unnoticed texts e s printed = record { unread = refl; ended = refl; width = refl; moved = λ n. refl; printed = printed }
 
--- a state is its silent one with its output
 pub silent-changed : (s : State) → changed (λ p. p) (λ o. s.output ++ o) (silent s) ≡ s
 silent-changed s = ap (λ (o : List ℕ). record s { output = o }) (append-nil s.output)
 
--- a state without output is silent
 pub silent_of_none : (s : State) → s.output ≡ [] → silent s ≡ s
 silent_of_none s none = ap (λ (o : List ℕ). record s { output = o }) (sym none)
 
--- what is carried out from a silent state, and then with its output
 pub carried_out-silent : (e : Environment) (s : State) → carried_out e (scan s) ≡ seen_as (changed (λ p. p) (λ o. s.output ++ o)) (carried_out e (scan (silent s)))
 carried_out-silent e s =
     ap (λ u. carried_out e (scan u)) (sym (silent-changed s))
     ∙ scanned_out-changed (λ p. p) (λ o. s.output ++ o) e e (silent s) (output_unnoticed (λ o. s.output ++ o) e (silent s) (λ x y. sym (append_assoc s.output x y)))
 
--- a step adds to the output what the step of the silent state prints
 pub step-silent_Ok : (e : Environment) (s t : State) → step e s ≡ Ok t → (u : State) × (step e (silent s) ≡ Ok u) × (t ≡ record u { output = s.output ++ u.output })
 unfolding step
 step-silent_Ok e s t h =
@@ -266,7 +245,6 @@ step-silent_Ok e s t h =
     let fits : texts_fit (changed (λ p. p) (λ o. s.output ++ o) at.0) ≡ true = rw (← at.2) out.1 in
     (at.0, ap (limited texts_fit) at.1 ∙ limited_within texts_fit at.0 (texts_fit_of_more s.output at.0 fits), at.2)
 
--- a refusal for anything but a limit is the silent state's too
 pub step-silent_Err : (e : Environment) (s : State) (refusal : Refusal) → step e s ≡ Err refusal → (refusal ≡ TooLong → ⊥) → step e (silent s) ≡ Err refusal
 unfolding step
 step-silent_Err e s r h other =
@@ -292,7 +270,6 @@ cut k e = record e { tape = record e.tape { bytes = drop k e.tape.bytes } }
 abbrev pub moved_back : ℕ → State → State
 moved_back k s = record s { position = s.position - k }
 
--- a cut before the position is not noticed
 pub cut_unnoticed : (k : ℕ) (e : Environment) (s : State) → k ≤ s.position → GoesUnnoticed (λ p. p - k) (λ o. o) e (cut k e) s
 cut_unnoticed k e s l = record {
   unread = (let back : k + (s.position - k) ≡ s.position = omega arith in drop-drop (s.position - k) k e.tape.bytes ∙ ap (λ p. drop p e.tape.bytes) back);
@@ -302,14 +279,12 @@ cut_unnoticed k e s l = record {
   printed = λ x y. refl;
 }
 
--- a step on a cut tape
 pub step-cut : (k : ℕ) (e : Environment) (s : State) → k ≤ s.position → step (cut k e) (moved_back k s) ≡ seen_as (moved_back k) (step e s)
 unfolding step
 step-cut k e s l =
     ap (limited texts_fit) (scanned_out-changed (λ p. p - k) (λ o. o) e (cut k e) s (cut_unnoticed k e s l))
     ∙ limited-moved (λ p. p - k) (carried_out e (scan s))
 
--- a run goes on from a cut tape as from the whole one
 pub output_from-cut : (n k : ℕ) (e : Environment) (s : State) → k ≤ s.position → output_from n (cut k e) (moved_back k s) ≡ output_from n e s
 unfolding output_from
 output_from-cut zero k e s l = refl

@@ -189,7 +189,6 @@ without_copies held replaced storage =
     let left : Forms = without (names_in held) storage.forms in
     then_some (are_there (names_in held) storage.forms && (are_there (names_in replaced) storage.forms && are_free (names_in replaced) left)) (keeping (with_all replaced left) storage)
 
--- the block that was put last is the last one, and without it the blocks are as before
 last_put : (blocks : List Block) (held : Held) → last_block (blocks ++ Some held ∷ []) ≡ Some held
 last_put blocks held =
     get_or_at blocks (Some held) [] None (length (blocks ++ Some held ∷ []) - 1) (omega (arith, length-append blocks (Some held ∷ [])))
@@ -261,7 +260,6 @@ erased_back number name address storage live there =
       blocks = held_again storage.blocks number live i;
     } in Some before)
 
--- the block of an address is not erased
 addressed_is_live : (form : Form) (blocks : List Block) (number : ℕ) → number_addressed form blocks ≡ Some number → is_some (block_at number blocks) ≡ true
 addressed_is_live form blocks number found =
     let is = first_place_passes (is_address form blocks) (length blocks) number found in

@@ -20,18 +20,15 @@ use Rattle.trac_rules.proofs.Steps.{cut, step_onward}
 
 -- ---- steps over another tape
 
--- where each of these steps is the same over another tape
 same_steps : (e f : Environment) (earlier : List State) (t : State) → ((s u : State) → step e s ≡ Ok u → step f s ≡ Ok u) → AreSteps e earlier t → AreSteps f earlier t
 same_steps e f [] t same all = tt
 same_steps e f (s ∷ earlier) t same all = (same s t all.0, same_steps e f earlier s same all.1)
 
--- a step that was taken did not wait for input
 took_no_input : (x : Result State Refusal) (t : State) → x ≡ Ok t → x ≡ Err NeedInput → ⊥
 took_no_input x t taken short = let both : Ok t ≡ Err NeedInput = sym taken ∙ short in absurd (cc)
 
 -- ---- each command
 
--- whatever is refused leaves the session as it was
 refused_leaves : (command : Command) (p q : PlainSession) (refusal : Refusal) → answer command p ≡ refused refusal q → q ≡ p
 refused_leaves (Feed bytes) p q refusal h = (Feed_refused bytes p q refusal h).0
 refused_leaves End p q refusal h = absurd (done_of_refused refusal q (with_end p) (sym h ∙ answer_End p))
@@ -39,7 +36,6 @@ refused_leaves Step p q refusal h = (Step_refused p q refusal h).0
 refused_leaves Back p q refusal h = (Back_refused p q refusal h).0
 refused_leaves (Commit keep) p q refusal h = absurd (done_of_refused refusal q (committed keep p) (sym h ∙ answer_Commit keep p))
 
--- also for memory
 not_done_leaves : (refusal : Refusal) (command : Command) (p q : PlainSession) → Answers command p (Refused refusal) q → q ≡ p
 not_done_leaves Memory command p q h = h.1
 not_done_leaves other command p q h = refused_leaves command p q other h
@@ -82,7 +78,6 @@ after_back p s rest is trail = record {
 
 -- ---- a commit
 
--- the last of the steps are steps
 last_steps : (e : Environment) (n : ℕ) (earlier : List State) (t : State) → AreSteps e earlier t → AreSteps e (take n earlier) t
 last_steps e zero earlier t all = tt
 last_steps e (suc n) [] t all = tt
@@ -144,7 +139,6 @@ run_trail (command ∷ commands) (reply ∷ replies) p q trail run = run_trail c
 run_trail [] (reply ∷ replies) p q trail run = absurd run
 run_trail (command ∷ commands) [] p q trail run = absurd run
 
--- a walk of accepted commands leads to a trail
 pub repeated_trail : (command : Command) (n : ℕ) (p q : PlainSession) → IsTrail p → repeated command n p ≡ Some q → IsTrail q
 repeated_trail command zero p q trail h = let same : p ≡ q = cc in subst IsTrail same trail
 repeated_trail command (suc n) p q trail h =
@@ -162,7 +156,6 @@ step_again p q trail h =
     subst (λ (r : PlainSession). answer Step r ≡ done p) (sym at.3)
     (answer_Step_Ok back p.last (omega (arith, ap length at.2, trail.within)) taken ∙ ap (λ (earlier : List State). done (record p { earlier = earlier })) (sym at.2))
 
--- one command, and then so many more
 pub repeated_after_one : (command : Command) (n : ℕ) (p q : PlainSession) → answer command p ≡ done q → repeated command (suc n) p ≡ repeated command n q
 repeated_after_one command zero p q h = ap accepted_by h
 repeated_after_one command (suc n) p q h = ap (option_and_then (λ (m : PlainSession). accepted_by (answer command m))) (repeated_after_one command n p q h)

@@ -85,7 +85,6 @@ step_waits e more s l none h =
 
 -- ---- sessions
 
--- where a step waits there is room in the journal
 room_of_wanted : (p : PlainSession) → answer Step p ≡ refused NeedInput p → length p.earlier < p.limit
 room_of_wanted p h =
     ⊎_elim
@@ -102,7 +101,6 @@ Feed_waits p q bytes some none h fed =
     let still : answer Step (with_more p bytes) ≡ refused NeedInput (with_more p bytes) = answer_Step_Err (with_more p bytes) NeedInput (room_of_wanted p h) fed_step in
     rw (Feed_done bytes p q fed).0 still
 
--- a step of a session that waits goes on waiting after a commit
 pub Commit_waits : (p q : PlainSession) → 1 ≤ p.limit → answer Step p ≡ refused NeedInput p → answer (Commit 0) p ≡ done q → answer Step q ≡ refused NeedInput q
 Commit_waits p q some h committing =
     let k = p.last.position in

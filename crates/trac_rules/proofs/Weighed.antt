@@ -10,7 +10,6 @@ use Rattle.trac_rules.specs.State.{Frame, State}
 use Rattle.trac_rules.specs.Stepping.{call_at, name_called}
 use Rattle.trac_rules.specs.Weights.{closing_loss, comma_loss, frames_weight, loss, loss_at, weight}
 
--- frames weigh their bytes and their marks
 frames_weight_is : (fs : List Frame) → frames_weight fs ≡ argument_bytes fs + marks fs
 frames_weight_is [] = refl
 frames_weight_is (f ∷ fs) = omega (arith, frames_weight_is fs)

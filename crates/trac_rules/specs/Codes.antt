@@ -1,5 +1,5 @@
 -- The code of a state, by which a proof tells two states apart. Nothing of the language stands here.
-use Rattle.std.specs.Prelude.{◌≡◌, ℕ, List, refl, ◌⊎◌, Bool, true, false}
+use Rattle.std.specs.Prelude.{◌≡◌, ℕ, List, refl, ◌⊎◌, Bool, true, false, if◌then◌else◌}
 use Rattle.std.proofs.Common.{inl, inr}
 use Rattle.std.specs.FinMap as map
 use Rattle.std.specs.Coded.{Coded, code_by, coded×, coded⊎, coded_list, coded_option, coded_bool, coded_ℕ}
@@ -33,35 +33,22 @@ form_code =
     code_by (List Item × List Item) (coded× (coded_list item_code) (coded_list item_code))
     (λ f. (f.before, f.after)) (λ p. record { before = p.0; after = p.1 }) (λ _. refl)
 
-abbrev bool_of_width : Width → Bool
-bool_of_width W64 = true
-bool_of_width W128 = false
-
-abbrev width_of_bool : Bool → Width
-width_of_bool true = W64
-width_of_bool false = W128
-
-pub width_from_bool : (width : Width) → width_of_bool (bool_of_width width) ≡ width
-width_from_bool W64 = refl
-width_from_bool W128 = refl
+-- a type of two values by a test of them
+abbrev code_of_two : {A : Type 0} (first second : A) (is_first : A → Bool) →
+    ((x : A) → (if is_first x then first else second) ≡ x) → Coded A
+code_of_two first second is_first told = code_by Bool coded_bool is_first (λ b. if b then first else second) told
 
 abbrev pub width_code : Coded Width
-width_code = code_by Bool coded_bool bool_of_width width_of_bool width_from_bool
-
-abbrev bool_of_kind : Kind → Bool
-bool_of_kind Active = true
-bool_of_kind Neutral = false
-
-abbrev kind_of_bool : Bool → Kind
-kind_of_bool true = Active
-kind_of_bool false = Neutral
-
-pub kind_from_bool : (kind : Kind) → kind_of_bool (bool_of_kind kind) ≡ kind
-kind_from_bool Active = refl
-kind_from_bool Neutral = refl
+width_code =
+    code_of_two W64 W128 (λ width. elim width [ W64 ↦ true | W128 ↦ false ])
+    (λ width. elim width as (λ w. (if elim w [ W64 ↦ true | W128 ↦ false ] then W64 else W128) ≡ w)
+    [ W64 ↦ refl | W128 ↦ refl ])
 
 abbrev pub kind_code : Coded Kind
-kind_code = code_by Bool coded_bool bool_of_kind kind_of_bool kind_from_bool
+kind_code =
+    code_of_two Active Neutral (λ kind. elim kind [ Active ↦ true | Neutral ↦ false ])
+    (λ kind. elim kind as (λ k. (if elim k [ Active ↦ true | Neutral ↦ false ] then Active else Neutral) ≡ k)
+    [ Active ↦ refl | Neutral ↦ refl ])
 
 abbrev pub text_code : Coded (List ℕ)
 text_code = coded_list coded_ℕ

@@ -1,4 +1,5 @@
--- Values made of arguments alone: decisions, decimals and bit strings.
+-- Values made of arguments alone: decisions, decimals and bit strings. A number of places that does not fit gives
+-- empty by this project's profile.
 use Rattle.std.specs.Prelude.{ℕ, ℤ, List, [], Bool, true, false, Option, None, Some}
 use Rattle.std.specs.Str.{bytes_eq}
 use Rattle.trac_rules.specs.declared.primitive.Computation.{Computation}
@@ -29,7 +30,7 @@ result_of Divide width a b = quotient_of width a b
 abbrev pub octal_argument : ℕ → List (List ℕ) → List Bool
 octal_argument k arguments = bits_of (octal_tail (argument k arguments))
 
--- bits moved by a number; empty where there is none, since it does not fit (this project's profile)
+-- bits moved by a number; empty where there is none, since it does not fit
 abbrev pub moved : (ℤ → List Bool → List Bool) → Option ℤ → List Bool → List ℕ
 moved by (Some n) bits = text_of (by n bits)
 moved by None bits = []

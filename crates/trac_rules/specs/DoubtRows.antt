@@ -5,12 +5,8 @@ use Rattle.trac_rules.specs.declared.width.Width.TheVariants.{W64}
 use Rattle.trac_rules.specs.Doubts.{doubts_of_call}
 use Rattle.trac_rules.specs.RecordRows.{stored}
 use Rattle.trac_rules.specs.Rows.{Named}
-use Rattle.trac_rules.specs.State.{Block, Frame, State, initial}
+use Rattle.trac_rules.specs.State.{Block}
 
 -- where there are these forms and blocks, a call of these arguments raises these doubts, numbers being of 64 bits
 abbrev pub Raises : List (List ℕ) → Named → List Block → List Doubt → Type 0
 Raises arguments forms blocks doubts = doubts_of_call W64 (Some arguments) (stored forms blocks) ≡ doubts
-
--- the first state with this left to scan, and with these functions begun
-abbrev pub standing : List ℕ → List Frame → State
-standing active frames = record initial { active = active; frames = frames }

@@ -1,4 +1,4 @@
--- Calling a form: its gaps are filled with the call's texts.
+-- Calling a form: its gaps are filled with the call's texts. It begins at the pointer by this project's profile.
 use Rattle.std.specs.Prelude.{ℕ, zero, suc, List, [], ◌∷◌, get_or}
 use Rattle.std.specs.List.{flat_map}
 use Rattle.trac_rules.specs.declared.item.Item.{Item}
@@ -20,6 +20,6 @@ filled texts (Gap ordinal width) = text_numbered ordinal texts
 abbrev pub all_filled : List (List ℕ) → List Item → List ℕ
 all_filled texts items = flat_map (filled texts) items
 
--- the value of a call with these texts: what stands after the pointer (that is this project's profile), its gaps filled
+-- the value of a call with these texts: what stands after the pointer, its gaps filled
 abbrev pub called : List (List ℕ) → Form → List ℕ
 called texts form = all_filled texts form.after

@@ -1,4 +1,5 @@
--- What the primitives do with forms.
+-- What the primitives do with forms. What they do without a form, and which names `dd` deletes, is this project's
+-- profile.
 use Rattle.std.specs.Prelude.{ℕ, List, [], ◌∷◌, drop, if◌then◌else◌, Option, None, Some, Result, Ok, Err}
 use Rattle.std.specs.FinMap as map
 use Rattle.trac_rules.specs.declared.primitive.FormAction.{FormAction}
@@ -34,8 +35,7 @@ abbrev pub without : List (List ℕ) → Forms → Forms
 without [] forms = forms
 without (name ∷ names) forms = without names (map.remove forms name)
 
--- a form, where there is one, acted upon; where there is none the value is empty and nothing
--- changes (this project's profile)
+-- a form, where there is one, acted upon; where there is none the value is empty and nothing changes
 abbrev pub on_form : Option Form → (Form → Result Effect Refusal) → Storage → Result Effect Refusal
 on_form None act storage = Ok (leaves storage)
 on_form (Some form) act storage = act form
@@ -75,7 +75,7 @@ form_read reading width arguments form storage = gives_piece (piece_read reading
     (default_argument reading arguments) (argument 1 arguments) form storage
 
 -- argument 0 is the primitive's own name. `ln` is given a text, `dd` names, and the others but `da` the name of a form,
--- then texts. A missing argument is empty; but `dd` deletes only the names that the call gives (this project's profile)
+-- then texts. A missing argument is empty; but `dd` deletes only the names that the call gives
 abbrev pub handled : FormAction → Width → List (List ℕ) → Storage → Result Effect Refusal
 handled Define width arguments storage = putting (argument 1 arguments) (defined (argument 2 arguments)) storage
 handled Delete width arguments storage = Ok (leaves (keeping (without (drop 1 arguments) storage.forms) storage))

@@ -1,4 +1,5 @@
--- Which `)` matches a protecting `(`. Every `(` and `)` is counted, and nothing else.
+-- Which `)` matches a protecting `(`. Every `(` and `)` is counted, and nothing else. What a `(` without a match
+-- protects is this project's profile.
 use Rattle.std.specs.Prelude.{◌≡◌, ℕ, ◌+◌, ◌≤◌, ◌==◌, ◌&&◌, List, [], length, take, drop, slice_index, Bool, Option}
 use Rattle.std.specs.Prelude.{None, Some}
 use Rattle.trac_rules.specs.declared.byte.TheConstants.{OPENING, CLOSING}
@@ -17,7 +18,7 @@ pub record Protected : Type 0 where
   pub inner : List ℕ
   pub rest : List ℕ
 
--- without a match the whole rest is protected (this project's profile)
+-- without a match the whole rest is protected
 abbrev pub protected_up_to : Option ℕ → List ℕ → Protected
 protected_up_to None text = record { inner = text; rest = [] }
 protected_up_to (Some k) text = record { inner = take k text; rest = drop (k + 1) text }

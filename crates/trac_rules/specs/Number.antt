@@ -1,5 +1,5 @@
--- Numbers: the numeral at the end of a text, the whole number that it writes, and arithmetic within
--- the range of numbers.
+-- Numbers: the numeral at the end of a text, the whole number that it writes, and arithmetic within the range of
+-- numbers. This range, how quotients are cut, and that numbers of any size are compared is this project's profile.
 use Rattle.std.specs.Prelude.{◌≡◌, ◌⊎◌, ◌<◌, ◌≤◌, ℕ, ◌-◌, ◌^◌, ℤ, pos, neg_ℤ, ◌+ℤ◌, ◌-ℤ◌, ◌*ℤ◌, int_lt, int_le, int_div}
 use Rattle.std.specs.Prelude.{unsigned_abs, List, [], ◌++◌, length, take, nat_lt, if◌then◌else◌, Bool, true, ◌&&◌}
 use Rattle.std.specs.Prelude.{Option, None, Some}
@@ -35,8 +35,7 @@ whole_number numeral = signed_digits_value 10 numeral
 
 -- ---- the range
 
--- the numbers of a width lie from minus this bound to one below it (this project's profile).
--- No other definition knows how wide a number is
+-- the numbers of a width lie from minus this bound to one below it; no other definition knows how wide a number is
 abbrev pub number_bound : Width → ℕ
 number_bound W64 = 2 ^ 63
 number_bound W128 = 2 ^ 127
@@ -63,7 +62,7 @@ difference_of width a b = if_fits width (a -ℤ b)
 unfoldable pub product_of : Width → ℤ → ℤ → Option ℤ
 product_of width a b = if_fits width (a *ℤ b)
 
--- cut toward zero (this project's profile); none for a divisor of 0
+-- cut toward zero; none for a divisor of 0
 unfoldable pub quotient_of : Width → ℤ → ℤ → Option ℤ
 quotient_of width a b = if int_eq b (pos 0) then None else if_fits width (int_div a b)
 
@@ -75,7 +74,7 @@ pub record IsCutQuotient (a b q : ℤ) : Type 0 where
   pub smaller : unsigned_abs remainder < unsigned_abs b
   pub within : unsigned_abs (q *ℤ b) ≤ unsigned_abs a
 
--- the number of the first numeral is the greater one, whether they fit or not (this project's profile)
+-- the number of the first numeral is the greater one, whether they fit or not
 unfoldable pub is_greater : List ℕ → List ℕ → Bool
 is_greater a b = int_lt (whole_number b) (whole_number a)
 

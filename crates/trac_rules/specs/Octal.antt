@@ -1,4 +1,5 @@
--- Octal strings: texts of the digits `0` to `7`, which stand for lists of bits.
+-- Octal strings: texts of the digits `0` to `7`, which stand for lists of bits. Which one a text has is this project's
+-- profile.
 use Rattle.std.specs.Prelude.{ℕ, suc, ◌+◌, ◌-◌, ◌/◌, ◌%◌, ◌==◌, ◌&&◌, ◌||◌, not, nat_le, min, max, ℤ, pos, negsuc, Bool}
 use Rattle.std.specs.Prelude.{false, List, [], ◌∷◌, ◌++◌, length, take, drop, replicate, map, zip, flat_map, IsTrue}
 use Rattle.std.specs.Prelude.{if◌then◌else◌}
@@ -18,7 +19,7 @@ is_octal text = list_all is_octal_digit text
 abbrev pub IsOctal : List ℕ → Type 0
 IsOctal text = IsTrue (is_octal text)
 
--- the octal string of a text: its longest tail of octal digits (this project's profile)
+-- the octal string of a text: its longest tail of octal digits
 abbrev pub octal_tail : List ℕ → List ℕ
 octal_tail text = longest_tail is_octal text
 

@@ -1,4 +1,5 @@
--- What the primitives do, and where their values go.
+-- What the primitives do, and where their values go. The case of names, unknown names, `cm` of an empty text, `hl`, the
+-- line of the trace, and that a neutral function's value may be forced is this project's profile.
 use Rattle.std.specs.Prelude.{ℕ, ◌+◌, List, [], ◌∷◌, ◌++◌, find, Bool, true, false, Option, None, Some, Result, Ok, Err}
 use Rattle.std.specs.Prelude.{codes}
 use Rattle.std.specs.List.{join_with_byte}
@@ -30,17 +31,17 @@ abbrev pub named_primitive : Option NamedPrimitive → Primitive
 named_primitive None = Unknown
 named_primitive (Some entry) = entry.primitive
 
--- what a name stands for by a table: the first entry of these letters, each in either case (this project's profile)
+-- what a name stands for by a table: the first entry of these letters, each in either case
 abbrev pub looked_up : List NamedPrimitive → List ℕ → Primitive
 looked_up table name = named_primitive (find (λ entry. str_eq_ignore_ascii_case name entry.letters) table)
 
--- what a name stands for; an unknown name is no primitive's (this project's profile)
+-- what a name stands for; an unknown name is no primitive's
 abbrev pub primitive_of : List ℕ → Primitive
 primitive_of name = looked_up NAMES name
 
 -- ---- primitives
 
--- the first byte of a text becomes the meta character; an empty text leaves it (this project's profile)
+-- the first byte of a text becomes the meta character; an empty text leaves it
 abbrev pub meta_set : List ℕ → Storage → Effect
 meta_set [] storage = leaves storage
 meta_set (b ∷ bytes) storage = sets_meta b storage
@@ -52,7 +53,7 @@ effect_of PrintString environment arguments s = Ok (prints (argument 1 arguments
 effect_of ReadString environment arguments s =
     string_read (unread environment.tape s) environment.tape.ended s.meta (storage_of s)
 effect_of ReadByte environment arguments s = byte_read (unread environment.tape s) environment.tape.ended (storage_of s)
--- the processor halts, whatever the tape (this project's profile)
+-- the processor halts, whatever the tape
 effect_of Halt environment arguments s = Err Ended
 effect_of SetMeta environment arguments s = Ok (meta_set (argument 1 arguments) (storage_of s))
 effect_of (SetTrace trace) environment arguments s = Ok (sets_trace trace (storage_of s))
@@ -70,7 +71,7 @@ beginning_of Active = codes "#("
 beginning_of Neutral = codes "##("
 
 -- the line of the trace, where the trace is on: the function's beginning, all its arguments with `*` between them, its
--- end, and a line feed (this project's profile)
+-- end, and a line feed
 abbrev pub trace_line : Bool → Kind → List (List ℕ) → List ℕ
 trace_line false kind arguments = []
 trace_line true kind arguments = beginning_of kind ++ join_with_byte STAR arguments ++ CLOSING ∷ LINE_FEED ∷ []
@@ -87,7 +88,7 @@ performed environment call =
     (effect_of (primitive_of (argument 0 call.arguments)) environment call.arguments call.state)
 
 -- where the value goes: that of an active function and every forced one before the active text, and any other to the
--- current text; that a neutral function's value may be forced is this project's profile
+-- current text
 abbrev pub placed : Kind → Bool → List ℕ → State → State
 placed Active forced value s = record s { active = value ++ s.active }
 placed Neutral true value s = record s { active = value ++ s.active }

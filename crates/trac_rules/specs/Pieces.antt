@@ -1,5 +1,6 @@
 -- Reading a form at its pointer: what is given, and where the pointer stands afterwards. The items of the form never
--- change. A pointer before a gap and one after it are two places.
+-- change. A pointer before a gap and one after it are two places. What gaps do to `cn`, `cc` and `in`, what a number of
+-- zero or one that does not fit gives, and where an empty text occurs is this project's profile.
 use Rattle.std.specs.Prelude.{ℕ, zero, suc, ◌+◌, ◌==◌, ◌&&◌, min, ℤ, pos, negsuc, List, [], ◌∷◌, length, take, drop}
 use Rattle.std.specs.Prelude.{position, Bool, true, false, Option, None, Some, option_map}
 use Rattle.std.specs.List.{flat_map}
@@ -56,7 +57,7 @@ segment_items None items = length items
 abbrev pub segment_read : Form → Option Piece
 segment_read form = where_any form.after (Some (read_on (segment_items (position is_gap form.after) form.after) form))
 
--- ---- `cn` and `cc`: gaps are passed (this project's profile)
+-- ---- `cn` and `cc`: gaps are passed
 
 -- the first place among items that has n bytes before it: right after the last of these bytes, where n is not 0
 abbrev pub place_after : ℕ → List Item → Option ℕ
@@ -87,13 +88,13 @@ abbrev pub char_read : Form → Option Piece
 char_read form = next_bytes 1 form
 
 -- `cn`: for a number above zero so many bytes after the pointer, for one below zero so many before it; for zero empty,
--- the pointer unmoved, whatever stands on its sides (this project's profile)
+-- the pointer unmoved, whatever stands on its sides
 abbrev pub count_read : ℤ → Form → Option Piece
 count_read (pos zero) form = Some (nothing_read form)
 count_read (pos (suc n)) form = next_bytes (suc n) form
 count_read (negsuc n) form = last_bytes (suc n) form
 
--- the same for the number of a call, if it fits; where it does not, empty, the pointer unmoved (this project's profile)
+-- the same for the number of a call, if it fits; where it does not, empty, the pointer unmoved
 abbrev pub fitting_count_read : Option ℤ → Form → Option Piece
 fitting_count_read None form = Some (nothing_read form)
 fitting_count_read (Some n) form = count_read n form
@@ -108,7 +109,7 @@ begin_with (b ∷ text) (Byte c ∷ items) = b == c && begin_with text items
 begin_with (b ∷ text) (Gap ordinal width ∷ items) = false
 
 -- the first place among items at which a text occurs; no occurrence crosses a gap, and an empty text occurs at once,
--- also at the end (both this project's profile)
+-- also at the end
 abbrev pub place_of_text : List ℕ → List Item → Option ℕ
 place_of_text text items = first_place (λ k. begin_with text (drop k items)) (length items + 1)
 

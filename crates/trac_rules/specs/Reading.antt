@@ -1,4 +1,4 @@
--- Reading the input.
+-- Reading the input. What is read at its end is this project's profile.
 use Rattle.std.specs.Prelude.{ℕ, ◌+◌, ◌==◌, List, [], ◌∷◌, length, take, drop, Bool, true, false, Option, None, Some}
 use Rattle.std.specs.Prelude.{Result, Ok, Err, position}
 use Rattle.trac_rules.specs.declared.refusal.Refusal.{Refusal}
@@ -11,7 +11,7 @@ abbrev pub unread : Tape → State → List ℕ
 unread tape s = drop s.position tape.bytes
 
 -- the rest of the input, in which no meta character stands: more is needed where the input has not ended; where it has,
--- the whole rest is given (this project's profile), and where nothing is left, it is the end
+-- the whole rest is given, and where nothing is left, it is the end
 abbrev pub rest_read : List ℕ → Bool → Storage → Result Effect Refusal
 rest_read rest false storage = Err NeedInput
 rest_read [] true storage = Err Ended

@@ -1,11 +1,13 @@
 -- Words for the worked rows of records.
 use Rattle.std.specs.Prelude.{◌≡◌, ℕ, ◌+◌, max, List, [], ◌∷◌, true, false, None, Some}
+use Prim.Native.String.{String}
 use Rattle.std.specs.FinMap as finite
 use Rattle.trac_rules.specs.declared.kind.Kind.TheVariants.{Active}
+use Rattle.trac_rules.specs.declared.width.Width.TheVariants.{W128}
 use Rattle.trac_rules.specs.Effect.{argument}
 use Rattle.trac_rules.specs.Performing.{primitive_of}
-use Rattle.trac_rules.specs.Records.{CallRecord, Record, records_from}
-use Rattle.trac_rules.specs.Rows.{Named}
+use Rattle.trac_rules.specs.Records.{CallRecord, Called, Record, record_of, records_from, restored}
+use Rattle.trac_rules.specs.Rows.{Named, texts_of}
 use Rattle.trac_rules.specs.Session.{PlainSession, over}
 use Rattle.trac_rules.specs.State.{Block, State, Storage, Tape}
 use Rattle.trac_rules.specs.Undone.{Undone, storage_before, undone_by}
@@ -75,3 +77,11 @@ GivesBack arguments undone forms blocks before blocks_before =
 -- no call of these arguments that left these forms and blocks destroyed this
 abbrev pub GivesNothingBack : List (List ℕ) → Undone → Named → List Block → Type 0
 GivesNothingBack arguments undone forms blocks = storage_before arguments undone (stored forms blocks) ≡ None
+
+-- the record of such a call that destroys this weighs so much
+abbrev pub Weighs : String → Undone → ℕ → Type 0
+Weighs text undone n = weight (Called (silent_call (texts_of text) undone)) ≡ n
+
+-- the step from the first state, over an empty tape, has this record, which leads from the second one back to the first
+abbrev pub IsLedBack : State → Record → State → Type 0
+IsLedBack s r t = (record_of (over W128 no_tape) s ≡ Some r) × (restored r t ≡ Some s)

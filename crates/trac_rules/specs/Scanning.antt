@@ -1,4 +1,5 @@
--- One case for each rule of scanning: what the active text begins with decides.
+-- One case for each rule of scanning: what the active text begins with decides. What a `,` and a `)` do outside any
+-- function is this project's profile.
 use Rattle.std.specs.Prelude.{ℕ, ◌==◌, ◌||◌, List, [], ◌∷◌, ◌++◌, take, drop, if◌then◌else◌, Bool, nat_eq, codes}
 use Rattle.std.specs.List.{starts_with}
 use Rattle.trac_rules.specs.declared.byte.TheConstants.{OPENING, CLOSING, COMMA, SHARP, CARRIAGE_RETURN, LINE_FEED, TAB}
@@ -71,13 +72,13 @@ pub data Scanned : Type 0 where
   Calls : Call → Scanned
 
 -- after a deleted `,`, the first argument being the state's frames: an argument is ended, or, outside any function,
--- nothing more happens (this project's profile)
+-- nothing more happens
 abbrev pub comma_in : List Frame → State → State
 comma_in [] s = s
 comma_in (f ∷ fs) s = record s { frames = with_next_argument f ∷ fs }
 
 -- after a deleted `)`, the first argument being the state's frames: the innermost function is ended, or, outside any
--- function, nothing more happens (this project's profile)
+-- function, nothing more happens
 abbrev pub closing_in : List Frame → State → Scanned
 closing_in [] s = Moves s
 closing_in (f ∷ fs) s =

@@ -1,5 +1,6 @@
 -- Segmenting: how texts are cut out of a form, the leftmost occurrences that do not overlap each leaving a gap. That
--- occurrences are the leftmost, what empty texts do and that none crosses a gap is this project's profile.
+-- occurrences are the leftmost, what empty texts do, that none crosses a gap, and where the pointer goes is this
+-- project's profile.
 use Rattle.std.specs.Prelude.{ℕ, zero, suc, ◌+◌, List, [], ◌∷◌, ◌++◌, length, take, drop, Bool, Option, None, Some}
 use Rattle.std.specs.List.{flat_map}
 use Rattle.std.specs.Str.{bytes_eq}
@@ -36,7 +37,7 @@ unfoldable pub part : ℕ → List ℕ → List ℕ → List Item
 part k [] run = as_items run
 part k (b ∷ text) run = cut_up_to (length run) k (b ∷ text) run
 
--- ---- one text in a form: no occurrence crosses a gap (this project's profile)
+-- ---- one text in a form: no occurrence crosses a gap
 
 -- items as runs of bytes between gaps: the first run, and each gap with the run after it
 pub record Runs : Type 0 where
@@ -73,6 +74,6 @@ abbrev pub segmented_from : ℕ → List (List ℕ) → List Item → List Item
 segmented_from k [] items = items
 segmented_from k (text ∷ texts) items = segmented_from (k + 1) texts (cut_out k text items)
 
--- the form with these texts cut out; its pointer is at the start, also where nothing was cut (this project's profile)
+-- the form with these texts cut out; its pointer is at the start, also where nothing was cut
 abbrev pub segmented : List (List ℕ) → Form → Form
 segmented texts form = at_start (segmented_from 1 texts (all_items form))

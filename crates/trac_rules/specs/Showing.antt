@@ -1,4 +1,4 @@
--- How a form is printed.
+-- How a form is printed. That its pointer is shown is this project's profile.
 use Rattle.std.specs.Prelude.{ℕ, List, [], ◌∷◌, ◌++◌, codes, decimal}
 use Rattle.std.specs.List.{flat_map}
 use Rattle.trac_rules.specs.declared.item.Item.{Item}
@@ -14,6 +14,6 @@ shown_item (Gap ordinal width) = codes "<" ++ (decimal ordinal ++ codes ">")
 abbrev pub shown_items : List Item → List ℕ
 shown_items items = flat_map shown_item items
 
--- a form's items, with `<^>` at the place of its pointer, wherever that is (this project's profile)
+-- a form's items, with `<^>` at the place of its pointer, wherever that is
 abbrev pub shown : Form → List ℕ
 shown form = shown_items form.before ++ (codes "<^>" ++ shown_items form.after)

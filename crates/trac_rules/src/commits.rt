@@ -4,7 +4,7 @@ ghost use Rattle.std.specs.Prelude.{Some, ℕ};
 ghost use Rattle.std.specs.List.{flat_map};
 ghost use Rattle.trac_rules.specs.Fronts.{IsFrontOf};
 ghost use Rattle.trac_rules.specs.Records.{Record, state_before};
-ghost use Rattle.trac_rules.specs.Rows.{after_nineteen, replies_to};
+ghost use Rattle.trac_rules.specs.Rows.{after_nineteen, begun, replies_to, texts_of};
 ghost use Rattle.trac_rules.specs.Session.{Back, Commit, Feed, PlainSession, Step, answer, committed, done, first_kept};
 ghost use Rattle.trac_rules.specs.Session.{first_of, new_session, over, released, settled};
 ghost use Rattle.trac_rules.specs.State.{State, Tape};
@@ -75,7 +75,7 @@ pub fn worked_windows()
         ≡ replicate 10 Done ++ Refused AtStart ∷ [] }
     ensures first_active { (after_nineteen (Commit 10 ∷ replicate 10 Back)).last.active ≡ codes "B)" }
     ensures first_frames { (after_nineteen (Commit 10 ∷ replicate 10 Back)).last.frames
-        ≡ record { kind = Active; arguments = codes "ps" ∷ []; gathered = codes "A" } ∷ [] }
+        ≡ begun Active (texts_of "ps") (codes "A") ∷ [] }
     ensures first_position { (after_nineteen (Commit 10 ∷ replicate 10 Back)).last.position ≡ 0 }
     ensures first_output { (after_nineteen (Commit 10 ∷ replicate 10 Back)).last.output ≡ [] }
     ensures ten_released { (first_kept 10 (after_nineteen [])).output ≡ [] }

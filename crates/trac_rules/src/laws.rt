@@ -23,6 +23,7 @@ use crate::limit::{
 /// The match of a protecting `(`, which is found as the first place that fits, is the one of balanced texts:
 /// what is protected is the text before a `)` that has as many `(` as `)`, and no front of it has more `)` than `(`.
 /// Where there is no such text, the whole rest is protected.
+#[tactic(auto, using(crate::proofs::Balanced::protected_of_balanced, crate::proofs::Balanced::protected_of_unbalanced))]
 pub fn match_is_balanced()
     ensures found { (text inner rest : List ℕ) → IsBalanced inner → text ≡ inner ++ CLOSING ∷ rest →
         protected text ≡ record { inner = inner; rest = rest } }
@@ -64,6 +65,7 @@ pub fn one_block_is_addressed()
 {}
 
 /// What a block holds when it is made: each form as it stood under its name, and no name twice.
+#[tactic(auto, using(crate::proofs::ProperBlocks::moved_out_among, crate::proofs::ProperBlocks::moved_out_distinct))]
 pub fn moved_forms_stand_as_before()
     ensures forms { (names : List (List ℕ)) (forms : Forms) →
         All (λ entry. finite.get forms entry.0 ≡ Some entry.1) (moved_out names forms) }
@@ -92,6 +94,7 @@ pub fn limits_are_as_stated()
 {}
 
 /// Whatever is asked of a session, it has numbers of the width that it began with.
+#[tactic(auto, using(crate::proofs::Replies::answer_width))]
 pub fn widths_stay()
     ensures { (command : Command) (p : PlainSession) → (answer command p).session.width ≡ p.width }
 {}

@@ -1,6 +1,6 @@
 //! Laws of numerals and numbers, each the contract of a function that does nothing, and worked rows,
 //! computed from the definitions.
-ghost use Rattle.std.specs.Prelude.{◌≡◌, ◌≤◌, ◌++◌, [], List, ℕ, length, codes, true, false, None, Some, ℤ, pos, neg_ℤ};
+ghost use Rattle.std.specs.Prelude.{◌≡◌, ◌≤◌, ◌++◌, List, ℕ, length, codes, true, false, None, Some, ℤ, pos, neg_ℤ};
 ghost use Rattle.trac_rules.specs.Computing.{result_of};
 ghost use Rattle.trac_rules.specs.Number.{IsCutQuotient, IsNumeralOrNull, calculated, difference_of, fits, is_greater};
 ghost use Rattle.trac_rules.specs.Number.{is_numeral, number_of, number_text, numeral_of, prefix_of, product_of};
@@ -8,6 +8,7 @@ ghost use Rattle.trac_rules.specs.Number.{quotient_of, sum_of};
 ghost use Rattle.trac_rules.specs.declared.primitive.Operation.{Operation};
 ghost use Rattle.trac_rules.specs.declared.width.Width.{Width};
 ghost use Rattle.trac_rules.specs.declared.width.Width.TheVariants.{W64, W128};
+ghost use Rattle.trac_rules.specs.Rows.{Calculates, ProductsEnd, QuotientsEnd, ReadsAs, SumsEnd};
 
 /// The numeral of a text, which is found as the first tail of the form, is its longest one: a tail of the form or
 /// empty, with the prefix before it, and no tail of the form is longer.
@@ -33,6 +34,7 @@ pub fn quotient_is_cut()
 {}
 
 /// A number of the range that is printed is a numeral, and is read back as the same number.
+#[tactic(auto, using(crate::proofs::Calculated::printed_form, crate::proofs::Calculated::printed_number))]
 pub fn printed_is_read_back()
     ensures form { (width : Width) (n : ℤ) → fits width n ≡ true → is_numeral (number_text n) ≡ true }
     ensures number { (width : Width) (n : ℤ) → fits width n ≡ true → number_of width (number_text n) ≡ Some n }
@@ -41,37 +43,25 @@ pub fn printed_is_read_back()
 /// What stands at the end of texts, and what is calculated from it.
 pub fn worked_numerals()
     // A numeral with and without a sign, after a prefix.
-    ensures plain { numeral_of (codes "apples5") ≡ codes "5" }
-    ensures plain_prefix { prefix_of (codes "apples5") ≡ codes "apples" }
-    ensures plain_number { number_of W128 (numeral_of (codes "apples5")) ≡ Some (pos 5) }
-    ensures minus { numeral_of (codes "a-5") ≡ codes "-5" }
-    ensures minus_prefix { prefix_of (codes "a-5") ≡ codes "a" }
-    ensures minus_number { number_of W128 (numeral_of (codes "a-5")) ≡ Some (neg_ℤ (pos 5)) }
+    ensures plain { ReadsAs "apples5" "apples" "5" (pos 5) }
+    ensures minus { ReadsAs "a-5" "a" "-5" (neg_ℤ (pos 5)) }
     // A numeral has one sign at most.
-    ensures two_signs { numeral_of (codes "--4") ≡ codes "-4" }
-    ensures two_signs_prefix { prefix_of (codes "--4") ≡ codes "-" }
-    ensures two_signs_number { number_of W128 (numeral_of (codes "--4")) ≡ Some (neg_ℤ (pos 4)) }
+    ensures two_signs { ReadsAs "--4" "-" "-4" (neg_ℤ (pos 4)) }
     // Leading zeros are allowed.
-    ensures zeros { numeral_of (codes "+0012") ≡ codes "+0012" }
-    ensures zeros_prefix { prefix_of (codes "+0012") ≡ [] }
-    ensures zeros_number { number_of W128 (numeral_of (codes "+0012")) ≡ Some (pos 12) }
+    ensures zeros { ReadsAs "+0012" "" "+0012" (pos 12) }
     // Without a numeral the whole text is the prefix, and the number is 0.
-    ensures sign_last { numeral_of (codes "5-") ≡ [] }
-    ensures sign_last_prefix { prefix_of (codes "5-") ≡ codes "5-" }
-    ensures sign_last_number { number_of W128 (numeral_of (codes "5-")) ≡ Some (pos 0) }
-    ensures null { numeral_of [] ≡ [] }
-    ensures null_prefix { prefix_of [] ≡ [] }
-    ensures null_number { number_of W128 (numeral_of []) ≡ Some (pos 0) }
+    ensures sign_last { ReadsAs "5-" "5-" "" (pos 0) }
+    ensures null { ReadsAs "" "" "" (pos 0) }
     // Minus zero is zero.
     ensures minus_zero { number_of W128 (codes "-0") ≡ Some (pos 0) }
     // The prefix of the first text stands before the result.
-    ensures difference { calculated difference_of W128 (codes "a-5") (codes "b2") ≡ Some (codes "a-7") }
-    ensures after_a_sign { calculated sum_of W128 (codes "--4") (codes "1") ≡ Some (codes "--3") }
-    ensures after_all { calculated sum_of W128 (codes "5-") (codes "3") ≡ Some (codes "5-3") }
-    ensures times_zero { calculated product_of W128 (codes "x") (codes "3") ≡ Some (codes "x0") }
+    ensures difference { Calculates difference_of W128 "a-5" "b2" "a-7" }
+    ensures after_a_sign { Calculates sum_of W128 "--4" "1" "--3" }
+    ensures after_all { Calculates sum_of W128 "5-" "3" "5-3" }
+    ensures times_zero { Calculates product_of W128 "x" "3" "x0" }
     // A quotient is cut toward zero.
-    ensures cut { calculated quotient_of W128 (codes "7") (codes "-2") ≡ Some (codes "-3") }
-    ensures cut_negative { calculated quotient_of W128 (codes "-7") (codes "2") ≡ Some (codes "-3") }
+    ensures cut { Calculates quotient_of W128 "7" "-2" "-3" }
+    ensures cut_negative { Calculates quotient_of W128 "-7" "2" "-3" }
     // Whole numbers are compared, of any length.
     ensures minus_zero_first { is_greater (codes "-0") (codes "0") ≡ false }
     ensures minus_zero_second { is_greater (codes "0") (codes "-0") ≡ false }
@@ -90,38 +80,14 @@ pub fn worked_widths()
     ensures narrow_above_greatest { number_of W64 (codes "9223372036854775808") ≡ None }
     ensures narrow_zeros { number_of W64 (codes "-000000000000000000000000000000000000000009223372036854775808")
         ≡ Some (neg_ℤ (pos 9223372036854775808)) }
-    // Results at the ends of 64 bits, and one past them.
-    ensures narrow_sum { calculated sum_of W64 (codes "9223372036854775806") (codes "1")
-        ≡ Some (codes "9223372036854775807") }
-    ensures narrow_sum_past { calculated sum_of W64 (codes "9223372036854775807") (codes "1") ≡ None }
-    ensures narrow_sum_at_least { calculated sum_of W64 (codes "-9223372036854775807") (codes "-1")
-        ≡ Some (codes "-9223372036854775808") }
-    ensures narrow_sum_below { calculated sum_of W64 (codes "-9223372036854775808") (codes "-1") ≡ None }
-    ensures narrow_difference { calculated difference_of W64 (codes "9223372036854775806") (codes "-1")
-        ≡ Some (codes "9223372036854775807") }
-    ensures narrow_difference_past { calculated difference_of W64 (codes "9223372036854775807") (codes "-1") ≡ None }
-    ensures narrow_difference_at_least { calculated difference_of W64 (codes "-9223372036854775807") (codes "1")
-        ≡ Some (codes "-9223372036854775808") }
-    ensures narrow_difference_below { calculated difference_of W64 (codes "-9223372036854775808") (codes "1") ≡ None }
-    ensures narrow_product { calculated product_of W64 (codes "9223372036854775807") (codes "1")
-        ≡ Some (codes "9223372036854775807") }
-    ensures narrow_product_past { calculated product_of W64 (codes "4294967296") (codes "2147483648") ≡ None }
-    ensures narrow_product_at_least { calculated product_of W64 (codes "-4294967296") (codes "2147483648")
-        ≡ Some (codes "-9223372036854775808") }
-    ensures narrow_product_below { calculated product_of W64 (codes "-9223372036854775808") (codes "2") ≡ None }
-    ensures narrow_least_turned_by_a_product { calculated product_of W64 (codes "-9223372036854775808") (codes "-1")
-        ≡ None }
-    ensures narrow_quotient { calculated quotient_of W64 (codes "9223372036854775807") (codes "-1")
-        ≡ Some (codes "-9223372036854775807") }
-    ensures narrow_quotient_at_least { calculated quotient_of W64 (codes "-9223372036854775808") (codes "1")
-        ≡ Some (codes "-9223372036854775808") }
-    ensures narrow_least_turned { calculated quotient_of W64 (codes "-9223372036854775808") (codes "-1") ≡ None }
-    ensures narrow_by_zero { calculated quotient_of W64 (codes "1") (codes "0") ≡ None }
-    // An operand that does not fit has no result, whatever would be made of it.
-    ensures narrow_operand_past { calculated sum_of W64 (codes "9223372036854775808") (codes "-1") ≡ None }
-    ensures narrow_operand_below { calculated difference_of W64 (codes "0") (codes "-9223372036854775809") ≡ None }
-    ensures narrow_operand_times_zero { calculated product_of W64 (codes "9223372036854775808") (codes "0") ≡ None }
-    ensures narrow_divisor_past { calculated quotient_of W64 (codes "0") (codes "9223372036854775808") ≡ None }
+    // Results at the ends of 64 bits, and one past them; an operand that does not fit has no result, whatever would be
+    // made of it.
+    ensures narrow_sums { SumsEnd W64 "9223372036854775806" "9223372036854775807" "9223372036854775808"
+        "-9223372036854775807" "-9223372036854775808" "-9223372036854775809" }
+    ensures narrow_products { ProductsEnd W64 "4294967296" "2147483648" "-4294967296" "9223372036854775807"
+        "9223372036854775808" "-9223372036854775808" }
+    ensures narrow_quotients { QuotientsEnd W64 "9223372036854775807" "9223372036854775808" "-9223372036854775807"
+        "-9223372036854775808" }
     // The ends of the range of 128 bits, and what lies one past them; leading zeros do not count.
     ensures wide_least { number_of W128 (codes "-170141183460469231731687303715884105728")
         ≡ Some (neg_ℤ (pos 170141183460469231731687303715884105728)) }
@@ -132,54 +98,20 @@ pub fn worked_widths()
     ensures wide_zeros { number_of W128
         (codes "-00000000000000000000000000000000000000000170141183460469231731687303715884105728")
         ≡ Some (neg_ℤ (pos 170141183460469231731687303715884105728)) }
-    // Results at the ends of 128 bits, and one past them.
-    ensures wide_sum { calculated sum_of W128 (codes "170141183460469231731687303715884105726") (codes "1")
-        ≡ Some (codes "170141183460469231731687303715884105727") }
-    ensures wide_sum_past { calculated sum_of W128 (codes "170141183460469231731687303715884105727") (codes "1")
-        ≡ None }
-    ensures wide_sum_at_least { calculated sum_of W128 (codes "-170141183460469231731687303715884105727") (codes "-1")
-        ≡ Some (codes "-170141183460469231731687303715884105728") }
-    ensures wide_sum_below { calculated sum_of W128 (codes "-170141183460469231731687303715884105728") (codes "-1")
-        ≡ None }
-    ensures wide_difference { calculated difference_of W128 (codes "170141183460469231731687303715884105726")
-        (codes "-1") ≡ Some (codes "170141183460469231731687303715884105727") }
-    ensures wide_difference_past { calculated difference_of W128 (codes "170141183460469231731687303715884105727")
-        (codes "-1") ≡ None }
-    ensures wide_difference_at_least { calculated difference_of W128 (codes "-170141183460469231731687303715884105727")
-        (codes "1") ≡ Some (codes "-170141183460469231731687303715884105728") }
-    ensures wide_difference_below { calculated difference_of W128 (codes "-170141183460469231731687303715884105728")
-        (codes "1") ≡ None }
-    ensures wide_product { calculated product_of W128 (codes "170141183460469231731687303715884105727") (codes "1")
-        ≡ Some (codes "170141183460469231731687303715884105727") }
-    ensures wide_product_past { calculated product_of W128 (codes "18446744073709551616") (codes "9223372036854775808")
-        ≡ None }
-    ensures wide_product_at_least { calculated product_of W128 (codes "-18446744073709551616")
-        (codes "9223372036854775808") ≡ Some (codes "-170141183460469231731687303715884105728") }
-    ensures wide_product_below { calculated product_of W128 (codes "-170141183460469231731687303715884105728")
-        (codes "2") ≡ None }
-    ensures wide_least_turned_by_a_product { calculated product_of W128
-        (codes "-170141183460469231731687303715884105728") (codes "-1") ≡ None }
-    ensures wide_quotient { calculated quotient_of W128 (codes "170141183460469231731687303715884105727") (codes "-1")
-        ≡ Some (codes "-170141183460469231731687303715884105727") }
-    ensures wide_quotient_at_least { calculated quotient_of W128 (codes "-170141183460469231731687303715884105728")
-        (codes "1") ≡ Some (codes "-170141183460469231731687303715884105728") }
-    ensures wide_least_turned { calculated quotient_of W128 (codes "-170141183460469231731687303715884105728")
-        (codes "-1") ≡ None }
-    ensures wide_by_zero { calculated quotient_of W128 (codes "1") (codes "0") ≡ None }
-    // An operand that does not fit has no result, whatever would be made of it.
-    ensures wide_operand_past { calculated sum_of W128 (codes "170141183460469231731687303715884105728") (codes "-1")
-        ≡ None }
-    ensures wide_operand_below { calculated difference_of W128 (codes "0")
-        (codes "-170141183460469231731687303715884105729") ≡ None }
-    ensures wide_operand_times_zero { calculated product_of W128 (codes "170141183460469231731687303715884105728")
-        (codes "0") ≡ None }
-    ensures wide_divisor_past { calculated quotient_of W128 (codes "0")
-        (codes "170141183460469231731687303715884105728") ≡ None }
+    // Results at the ends of 128 bits, and one past them; an operand that does not fit has no result, whatever would be
+    // made of it.
+    ensures wide_sums { SumsEnd W128 "170141183460469231731687303715884105726" "170141183460469231731687303715884105727"
+        "170141183460469231731687303715884105728" "-170141183460469231731687303715884105727"
+        "-170141183460469231731687303715884105728" "-170141183460469231731687303715884105729" }
+    ensures wide_products { ProductsEnd W128 "18446744073709551616" "9223372036854775808" "-18446744073709551616"
+        "170141183460469231731687303715884105727" "170141183460469231731687303715884105728"
+        "-170141183460469231731687303715884105728" }
+    ensures wide_quotients { QuotientsEnd W128 "170141183460469231731687303715884105727"
+        "170141183460469231731687303715884105728" "-170141183460469231731687303715884105727"
+        "-170141183460469231731687303715884105728" }
     // What does not fit 64 bits may fit 128.
-    ensures wider_operand { calculated sum_of W128 (codes "9223372036854775808") (codes "-1")
-        ≡ Some (codes "9223372036854775807") }
-    ensures wider_product { calculated product_of W128 (codes "9223372036854775808") (codes "9223372036854775808")
-        ≡ Some (codes "85070591730234615865843651857942052864") }
-    ensures wider_quotient { calculated quotient_of W128 (codes "-9223372036854775808") (codes "-1")
-        ≡ Some (codes "9223372036854775808") }
+    ensures wider_operand { Calculates sum_of W128 "9223372036854775808" "-1" "9223372036854775807" }
+    ensures wider_product { Calculates product_of W128 "9223372036854775808" "9223372036854775808"
+        "85070591730234615865843651857942052864" }
+    ensures wider_quotient { Calculates quotient_of W128 "-9223372036854775808" "-1" "9223372036854775808" }
 {}

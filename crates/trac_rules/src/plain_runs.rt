@@ -8,6 +8,7 @@ ghost use Rattle.trac_rules.specs.State.{State};
 
 /// So many plain bytes are as many steps: all are accepted where the journal has room for them, and together they move
 /// the bytes to the current text. And as many records of moved bytes lead back, whatever the bytes are.
+#[tactic(auto, using(crate::proofs::MovedOn::plain_bytes_there, crate::proofs::MovedOn::moved_bytes_back))]
 pub fn plain_bytes_move_on()
     ensures there { (n : ℕ) (p : PlainSession) →
         IsProper p.last → BeginsPlain n p.last → length p.earlier + n ≤ p.limit →

@@ -129,141 +129,49 @@ pub struct NamedPrimitive {
     pub primitive: Primitive,
 }
 
+// The rows of a table of names.
+macro_rules! named {
+    ($($letters:literal => $primitive:expr,)*) => {
+        [$(NamedPrimitive { letters: *$letters, primitive: $primitive }),*]
+    };
+}
+
 /// The names of the primitives. Any other name is unknown.
-pub const NAMES: [NamedPrimitive; 33] = [
-    NamedPrimitive {
-        letters: *b"ps",
-        primitive: Primitive::PrintString,
-    },
-    NamedPrimitive {
-        letters: *b"rs",
-        primitive: Primitive::ReadString,
-    },
-    NamedPrimitive {
-        letters: *b"rc",
-        primitive: Primitive::ReadByte,
-    },
-    NamedPrimitive {
-        letters: *b"hl",
-        primitive: Primitive::Halt,
-    },
-    NamedPrimitive {
-        letters: *b"cm",
-        primitive: Primitive::SetMeta,
-    },
-    NamedPrimitive {
-        letters: *b"tn",
-        primitive: Primitive::SetTrace(true),
-    },
-    NamedPrimitive {
-        letters: *b"tf",
-        primitive: Primitive::SetTrace(false),
-    },
-    NamedPrimitive {
-        letters: *b"eq",
-        primitive: Primitive::Compute(Computation::Equal),
-    },
-    NamedPrimitive {
-        letters: *b"gr",
-        primitive: Primitive::Compute(Computation::Greater),
-    },
-    NamedPrimitive {
-        letters: *b"ad",
-        primitive: Primitive::Compute(Computation::Calculate(Operation::Add)),
-    },
-    NamedPrimitive {
-        letters: *b"su",
-        primitive: Primitive::Compute(Computation::Calculate(Operation::Subtract)),
-    },
-    NamedPrimitive {
-        letters: *b"ml",
-        primitive: Primitive::Compute(Computation::Calculate(Operation::Multiply)),
-    },
-    NamedPrimitive {
-        letters: *b"dv",
-        primitive: Primitive::Compute(Computation::Calculate(Operation::Divide)),
-    },
-    NamedPrimitive {
-        letters: *b"bu",
-        primitive: Primitive::Compute(Computation::Union),
-    },
-    NamedPrimitive {
-        letters: *b"bi",
-        primitive: Primitive::Compute(Computation::Meet),
-    },
-    NamedPrimitive {
-        letters: *b"bc",
-        primitive: Primitive::Compute(Computation::Complement),
-    },
-    NamedPrimitive {
-        letters: *b"bs",
-        primitive: Primitive::Compute(Computation::Shift),
-    },
-    NamedPrimitive {
-        letters: *b"br",
-        primitive: Primitive::Compute(Computation::Rotate),
-    },
-    NamedPrimitive {
-        letters: *b"ds",
-        primitive: Primitive::Handle(FormAction::Define),
-    },
-    NamedPrimitive {
-        letters: *b"dd",
-        primitive: Primitive::Handle(FormAction::Delete),
-    },
-    NamedPrimitive {
-        letters: *b"da",
-        primitive: Primitive::Handle(FormAction::DeleteAll),
-    },
-    NamedPrimitive {
-        letters: *b"ss",
-        primitive: Primitive::Handle(FormAction::Segment),
-    },
-    NamedPrimitive {
-        letters: *b"cr",
-        primitive: Primitive::Handle(FormAction::Restore),
-    },
-    NamedPrimitive {
-        letters: *b"cl",
-        primitive: Primitive::Handle(FormAction::Call),
-    },
-    NamedPrimitive {
-        letters: *b"cs",
-        primitive: Primitive::Handle(FormAction::Read(FormReading::ReadSegment)),
-    },
-    NamedPrimitive {
-        letters: *b"cc",
-        primitive: Primitive::Handle(FormAction::Read(FormReading::ReadChar)),
-    },
-    NamedPrimitive {
-        letters: *b"cn",
-        primitive: Primitive::Handle(FormAction::Read(FormReading::ReadCount)),
-    },
-    NamedPrimitive {
-        letters: *b"in",
-        primitive: Primitive::Handle(FormAction::Read(FormReading::ReadUntil)),
-    },
-    NamedPrimitive {
-        letters: *b"ln",
-        primitive: Primitive::Handle(FormAction::ListNames),
-    },
-    NamedPrimitive {
-        letters: *b"pf",
-        primitive: Primitive::Handle(FormAction::PrintForm),
-    },
-    NamedPrimitive {
-        letters: *b"sb",
-        primitive: Primitive::HandleBlock(BlockAction::StoreBlock),
-    },
-    NamedPrimitive {
-        letters: *b"fb",
-        primitive: Primitive::HandleBlock(BlockAction::FetchBlock),
-    },
-    NamedPrimitive {
-        letters: *b"eb",
-        primitive: Primitive::HandleBlock(BlockAction::EraseBlock),
-    },
-];
+pub const NAMES: [NamedPrimitive; 33] = named! {
+    b"ps" => Primitive::PrintString,
+    b"rs" => Primitive::ReadString,
+    b"rc" => Primitive::ReadByte,
+    b"hl" => Primitive::Halt,
+    b"cm" => Primitive::SetMeta,
+    b"tn" => Primitive::SetTrace(true),
+    b"tf" => Primitive::SetTrace(false),
+    b"eq" => Primitive::Compute(Computation::Equal),
+    b"gr" => Primitive::Compute(Computation::Greater),
+    b"ad" => Primitive::Compute(Computation::Calculate(Operation::Add)),
+    b"su" => Primitive::Compute(Computation::Calculate(Operation::Subtract)),
+    b"ml" => Primitive::Compute(Computation::Calculate(Operation::Multiply)),
+    b"dv" => Primitive::Compute(Computation::Calculate(Operation::Divide)),
+    b"bu" => Primitive::Compute(Computation::Union),
+    b"bi" => Primitive::Compute(Computation::Meet),
+    b"bc" => Primitive::Compute(Computation::Complement),
+    b"bs" => Primitive::Compute(Computation::Shift),
+    b"br" => Primitive::Compute(Computation::Rotate),
+    b"ds" => Primitive::Handle(FormAction::Define),
+    b"dd" => Primitive::Handle(FormAction::Delete),
+    b"da" => Primitive::Handle(FormAction::DeleteAll),
+    b"ss" => Primitive::Handle(FormAction::Segment),
+    b"cr" => Primitive::Handle(FormAction::Restore),
+    b"cl" => Primitive::Handle(FormAction::Call),
+    b"cs" => Primitive::Handle(FormAction::Read(FormReading::ReadSegment)),
+    b"cc" => Primitive::Handle(FormAction::Read(FormReading::ReadChar)),
+    b"cn" => Primitive::Handle(FormAction::Read(FormReading::ReadCount)),
+    b"in" => Primitive::Handle(FormAction::Read(FormReading::ReadUntil)),
+    b"ln" => Primitive::Handle(FormAction::ListNames),
+    b"pf" => Primitive::Handle(FormAction::PrintForm),
+    b"sb" => Primitive::HandleBlock(BlockAction::StoreBlock),
+    b"fb" => Primitive::HandleBlock(BlockAction::FetchBlock),
+    b"eb" => Primitive::HandleBlock(BlockAction::EraseBlock),
+};
 
 /// What each name stands for: the table, read by the definitions.
 pub fn names_stand_for()

@@ -2,16 +2,16 @@
 ghost use Rattle.std.specs.List.{All};
 ghost use Rattle.std.specs.Prelude.{◌≡◌, ◌≤◌, ◌*◌, ◌^◌, ◌++◌, ◌∷◌, [], codes, length, is_some, option_map, replicate};
 ghost use Rattle.std.specs.Prelude.{take, List, None, Ok, Some, false, true, ℕ};
-ghost use Rattle.trac_rules.specs.Form.{defined, pointed_at};
 ghost use Rattle.trac_rules.specs.Limits.{marks, text_bytes};
 ghost use Rattle.trac_rules.specs.Proper.{IsProper};
 ghost use Rattle.trac_rules.specs.Records.{Begun, CallRecord, Called, Comma, Deleted, Idle, IsOfScanning, Moved};
 ghost use Rattle.trac_rules.specs.Records.{Quoted, Record, call_record_of, further_on, led_back, record_of};
 ghost use Rattle.trac_rules.specs.Records.{records_from, rest_before, rest_of, restored, state_before, texts_before};
 ghost use Rattle.trac_rules.specs.Records.{texts_in};
-ghost use Rattle.trac_rules.specs.RecordRows.{Costs, losses_of, most_in, no_tape, records_of};
-ghost use Rattle.trac_rules.specs.Rows.{replies_to, session_after, state_after, texts_of};
-ghost use Rattle.trac_rules.specs.Session.{Feed, PlainSession, Step, new_session, over, repeated};
+ghost use Rattle.trac_rules.specs.RecordRows.{Costs, IsLedBack, losses_of, most_in, no_tape, records_of};
+ghost use Rattle.trac_rules.specs.Rows.{begun, fed, named, pointing_at, replies_of, session_of, standing, state_of};
+ghost use Rattle.trac_rules.specs.Rows.{texts_of};
+ghost use Rattle.trac_rules.specs.Session.{PlainSession, Step, over, repeated};
 ghost use Rattle.trac_rules.specs.State.{Environment, State, initial, storage_of};
 ghost use Rattle.trac_rules.specs.Stepping.{step};
 ghost use Rattle.trac_rules.specs.Undone.{storage_before};
@@ -63,6 +63,7 @@ pub fn records_name_no_place()
 {}
 
 /// The record of a step weighs no more than the step may lose.
+#[tactic(auto, using(crate::proofs::CallsWeighed::record_within))]
 pub fn records_weigh_no_more()
     ensures { (environment : Environment) (s : State) (r : Record) → record_of environment s ≡ Some r →
         weight r ≤ loss s }
@@ -84,112 +85,78 @@ pub fn weights_are_told_by_states()
 pub fn worked_records()
     // The stray `)` of the input ends the idle program's `ps`; then `b` and `c` go to the base text, and
     // the fifteenth step empties it.
-    ensures steps { replies_to (Feed (codes "a)b,c'") ∷ replicate 23 Step) (new_session 64 W128)
-        ≡ replicate 23 Done ++ Refused NeedInput ∷ [] }
-    ensures first_seven { records_of (session_after (Feed (codes "a)b,c'") ∷ replicate 7 Step) (new_session 64 W128))
+    ensures steps { replies_of (fed "a)b,c'" 23) ≡ replicate 23 Done ++ Refused NeedInput ∷ [] }
+    ensures first_seven { records_of (session_of (fed "a)b,c'" 7))
         ≡ Moved ∷ Moved ∷ Begun ∷ Comma ∷ Moved ∷ Moved ∷ Begun ∷ [] }
-    ensures eleventh_to_fifteenth { take 5
-        (records_of (session_after (Feed (codes "a)b,c'") ∷ replicate 15 Step) (new_session 64 W128)))
+    ensures eleventh_to_fifteenth { take 5 (records_of (session_of (fed "a)b,c'" 15)))
         ≡ Idle (codes "bc") [] ∷ Deleted CLOSING ∷ Moved ∷ Deleted COMMA ∷ Moved ∷ [] }
-    ensures all_back { led_back
-        (records_of (session_after (Feed (codes "a)b,c'") ∷ replicate 22 Step) (new_session 64 W128)))
-        (state_after (Feed (codes "a)b,c'") ∷ replicate 22 Step) (new_session 64 W128)) ≡ Some initial }
+    ensures all_back { led_back (records_of (session_of (fed "a)b,c'" 22))) (state_of (fed "a)b,c'" 22))
+        ≡ Some initial }
     // Functions that are begun and never ended are emptied with the base text.
-    ensures begun_functions { record_of (over W128 no_tape)
-        (state_after (Feed (codes ")x##(a,b#(c,d#(e'") ∷ replicate 21 Step) (new_session 64 W128))
-        ≡ Some (Idle (codes "x") (record { kind = Active; arguments = codes "c" ∷ []; gathered = codes "d" }
-        ∷ record { kind = Neutral; arguments = codes "a" ∷ []; gathered = codes "b" } ∷ [])) }
-    ensures begun_functions_weight { weight (Idle (codes "x") (record {
-      kind = Active;
-      arguments = codes "c" ∷ [];
-      gathered = codes "d";
-    } ∷ record { kind = Neutral; arguments = codes "a" ∷ []; gathered = codes "b" } ∷ [])) ≡ 9 }
+    ensures begun_functions { record_of (over W128 no_tape) (state_of (fed ")x##(a,b#(c,d#(e'" 21))
+        ≡ Some (Idle (codes "x")
+        (begun Active (texts_of "c") (codes "d") ∷ begun Neutral (texts_of "a") (codes "b") ∷ [])) }
+    ensures begun_functions_weight { weight
+        (Idle (codes "x") (begun Active (texts_of "c") (codes "d") ∷ begun Neutral (texts_of "a") (codes "b") ∷ []))
+        ≡ 9 }
     // The room that a machine needs for the first eleven steps over `AB'`, and back.
-    ensures text_room { most_in text_bytes
-        (session_after (Feed (codes "AB'") ∷ replicate 11 Step) (new_session 64 W128)) ≡ 11 }
-    ensures mark_room { most_in (λ s. marks s.frames)
-        (session_after (Feed (codes "AB'") ∷ replicate 11 Step) (new_session 64 W128)) ≡ 3 }
-    ensures output_room { most_in (λ s. length s.output)
-        (session_after (Feed (codes "AB'") ∷ replicate 11 Step) (new_session 64 W128)) ≡ 2 }
+    ensures text_room { most_in text_bytes (session_of (fed "AB'" 11)) ≡ 11 }
+    ensures mark_room { most_in (λ s. marks s.frames) (session_of (fed "AB'" 11)) ≡ 3 }
+    ensures output_room { most_in (λ s. length s.output) (session_of (fed "AB'" 11)) ≡ 2 }
     // A protected text, with a match and without one.
-    ensures matched { record_of (over W128 no_tape) (record initial { active = codes "(a,(b))c"; base = codes "x" })
-        ≡ Some (Quoted 5 true) }
-    ensures matched_back { restored (Quoted 5 true) (record initial { active = codes "c"; base = codes "xa,(b)" })
-        ≡ Some (record initial { active = codes "(a,(b))c"; base = codes "x" }) }
-    ensures unmatched { record_of (over W128 no_tape) (record initial { active = codes "((a)"; base = codes "x" })
-        ≡ Some (Quoted 3 false) }
-    ensures unmatched_back { restored (Quoted 3 false) (record initial { active = []; base = codes "x(a)" })
-        ≡ Some (record initial { active = codes "((a)"; base = codes "x" }) }
+    ensures matched { IsLedBack (standing "(a,(b))c" "x" []) (Quoted 5 true) (standing "c" "xa,(b)" []) }
+    ensures unmatched { IsLedBack (standing "((a)" "x" []) (Quoted 3 false) (standing "" "x(a)" []) }
     ensures layout { record_of (over W128 no_tape) (record initial { active = TAB ∷ codes "a" }) ≡ Some (Deleted TAB) }
     ensures layout_weight { weight (Deleted TAB) ≡ 1 }
     // An argument that is gathered again, and a neutral function that is no longer begun.
-    ensures argument_back { restored Comma (record initial {
-      active = codes "b";
-      frames = record { kind = Neutral; arguments = codes "x" ∷ codes "a" ∷ []; gathered = [] } ∷ [];
-    }) ≡ Some (record initial {
-      active = codes ",b";
-      frames = record { kind = Neutral; arguments = codes "x" ∷ []; gathered = codes "a" } ∷ [];
-    }) }
-    ensures beginning_back { restored Begun
-        (record initial { active = codes "b"; frames = record { kind = Neutral; arguments = []; gathered = [] } ∷ [] })
-        ≡ Some (record initial { active = codes "##(b" }) }
+    ensures argument_back { restored Comma (standing "b" "" (begun Neutral (texts_of "x,a") [] ∷ []))
+        ≡ Some (standing ",b" "" (begun Neutral (texts_of "x") (codes "a") ∷ [])) }
+    ensures beginning_back { restored Begun (standing "b" "" (begun Neutral [] [] ∷ []))
+        ≡ Some (standing "##(b" "" []) }
     // A state that does not show what the record names.
     ensures nothing_moved { state_before Moved initial ≡ None }
-    ensures too_little_protected { state_before (Quoted 3 true) (record initial { active = []; base = codes "ab" })
-        ≡ None }
+    ensures too_little_protected { state_before (Quoted 3 true) (standing "" "ab" []) ≡ None }
     ensures no_function { state_before Comma initial ≡ None }
-    ensures no_argument { state_before Comma
-        (record initial { frames = record { kind = Active; arguments = []; gathered = [] } ∷ [] }) ≡ None }
-    ensures further_argument { state_before Comma (record initial {
-      frames = record { kind = Active; arguments = codes "a" ∷ []; gathered = codes "b" } ∷ [];
-    }) ≡ None }
-    ensures begun_with_text { state_before Begun
-        (record initial { frames = record { kind = Active; arguments = []; gathered = codes "b" } ∷ [] }) ≡ None }
-    ensures begun_with_argument { state_before Begun
-        (record initial { frames = record { kind = Active; arguments = codes "a" ∷ []; gathered = [] } ∷ [] }) ≡ None }
-    ensures not_idle { state_before (Idle (codes "b") []) (record initial { base = codes "a" }) ≡ None }
+    ensures no_argument { state_before Comma (standing "" "" (begun Active [] [] ∷ [])) ≡ None }
+    ensures further_argument { state_before Comma (standing "" "" (begun Active (texts_of "a") (codes "b") ∷ []))
+        ≡ None }
+    ensures begun_with_text { state_before Begun (standing "" "" (begun Active [] (codes "b") ∷ [])) ≡ None }
+    ensures begun_with_argument { state_before Begun (standing "" "" (begun Active (texts_of "a") [] ∷ [])) ≡ None }
+    ensures not_idle { state_before (Idle (codes "b") []) (standing "" "a" []) ≡ None }
 {}
 
 /// What steps may cost the journal.
 pub fn worked_losses()
     // Whole sessions: scanning, `rs`, `ps` and the idle step.
-    ensures text { losses_of (session_after (Feed (codes "AB'") ∷ replicate 19 Step) (new_session 64 W128)) ≡ 7 }
-    ensures stray { losses_of (session_after (Feed (codes "a)b,c'") ∷ replicate 22 Step) (new_session 64 W128)) ≡ 10 }
-    ensures begun_functions { loss
-        (state_after (Feed (codes ")x##(a,b#(c,d#(e'") ∷ replicate 21 Step) (new_session 64 W128)) ≡ 9 }
+    ensures text { losses_of (session_of (fed "AB'" 19)) ≡ 7 }
+    ensures stray { losses_of (session_of (fed "a)b,c'" 22)) ≡ 10 }
+    ensures begun_functions { loss (state_of (fed ")x##(a,b#(c,d#(e'" 21)) ≡ 9 }
     // Scanning loses a byte of layout, and nothing where it begins a function, protects a text or passes a `#`.
     ensures layout { loss (record initial { active = TAB ∷ codes "a" }) ≡ 1 }
-    ensures beginning { loss (record initial { active = codes "##(a" }) ≡ 0 }
-    ensures protecting { loss (record initial { active = codes "(a)b" }) ≡ 0 }
-    ensures sharp { loss (record initial { active = codes "#a" }) ≡ 0 }
+    ensures beginning { loss (standing "##(a" "" []) ≡ 0 }
+    ensures protecting { loss (standing "(a)b" "" []) ≡ 0 }
+    ensures sharp { loss (standing "#a" "" []) ≡ 0 }
     // A call loses its arguments and the commas between them, and a meta character that it sets.
-    ensures reading { Costs (texts_of (codes "rs")) [] [] 2 }
-    ensures printing { Costs (texts_of (codes "ps,")) [] [] 3 }
-    ensures meta { Costs (texts_of (codes "cm,;x")) [] [] 6 }
-    ensures null_meta { Costs (texts_of (codes "cm,")) [] [] 3 }
-    ensures calling { Costs (texts_of (codes "cl,F")) ((codes "F", defined (codes "abc")) ∷ []) [] 4 }
+    ensures reading { Costs (texts_of "rs") [] [] 2 }
+    ensures printing { Costs (texts_of "ps,") [] [] 3 }
+    ensures meta { Costs (texts_of "cm,;x") [] [] 6 }
+    ensures null_meta { Costs (texts_of "cm,") [] [] 3 }
+    ensures calling { Costs (texts_of "cl,F") (named "F" "abc") [] 4 }
     // Forms that are replaced or deleted: their items, their names, and one for each.
-    ensures defining { Costs (texts_of (codes "ds,a,1")) [] [] 6 }
-    ensures defining_again { Costs (texts_of (codes "ds,a,1")) ((codes "a", defined (codes "xyz")) ∷ []) [] 11 }
-    ensures deleting { Costs (texts_of (codes "dd,a")) ((codes "a", defined (codes "1")) ∷ []) [] 7 }
-    ensures deleting_twice { Costs (texts_of (codes "dd,a,c,a"))
-        ((codes "a", defined (codes "1")) ∷ (codes "b", defined (codes "2")) ∷ []) [] 11 }
-    ensures deleting_all { Costs (texts_of (codes "da"))
-        ((codes "a", defined (codes "1")) ∷ (codes "bc", defined (codes "xy")) ∷ []) [] 10 }
+    ensures defining { Costs (texts_of "ds,a,1") [] [] 6 }
+    ensures defining_again { Costs (texts_of "ds,a,1") (named "a" "xyz") [] 11 }
+    ensures deleting { Costs (texts_of "dd,a") (named "a" "1") [] 7 }
+    ensures deleting_twice { Costs (texts_of "dd,a,c,a") (named "a" "1" ++ named "b" "2") [] 11 }
+    ensures deleting_all { Costs (texts_of "da") (named "a" "1" ++ named "bc" "xy") [] 10 }
     // Segmenting costs one for each gap that it makes.
-    ensures segmenting { Costs (texts_of (codes "ss,F,b")) ((codes "F", defined (codes "abcb")) ∷ []) [] 8 }
-    ensures segmenting_again { Costs (texts_of (codes "ss,F,b"))
-        ((codes "F", pointed_at 1 (Gap 1 2 ∷ Byte 98 ∷ [])) ∷ []) [] 7 }
-    ensures segmenting_nothing { Costs (texts_of (codes "ss,F,b")) [] [] 6 }
+    ensures segmenting { Costs (texts_of "ss,F,b") (named "F" "abcb") [] 8 }
+    ensures segmenting_again { Costs (texts_of "ss,F,b") (pointing_at 1 "F" (Gap 1 2 ∷ Byte 98 ∷ [])) [] 7 }
+    ensures segmenting_nothing { Costs (texts_of "ss,F,b") [] [] 6 }
     // A form that is put aside is not lost; of the forms that a block's copies replace, all are.
-    ensures storing { Costs (texts_of (codes "sb,G,A"))
-        ((codes "A", defined (codes "1")) ∷ (codes "G", defined (codes "xy")) ∷ []) [] 10 }
-    ensures storing_itself { Costs (texts_of (codes "sb,G,G")) ((codes "G", defined (codes "xy")) ∷ []) [] 6 }
-    ensures fetching { Costs (texts_of (codes "fb,G"))
-        ((codes "A", defined (codes "9xx")) ∷ (codes "G", defined (codes "0")) ∷ [])
-        (Some ((codes "A", defined (codes "1")) ∷ (codes "B", defined (codes "2")) ∷ []) ∷ []) 9 }
-    ensures erasing { Costs (texts_of (codes "eb,G")) ((codes "G", defined (codes "0")) ∷ [])
-        (Some ((codes "A", defined (codes "1")) ∷ (codes "BB", defined (codes "2")) ∷ []) ∷ []) 14 }
-    ensures erasing_nothing { Costs (texts_of (codes "eb,G")) ((codes "G", defined (codes "1")) ∷ [])
-        (Some ((codes "A", defined (codes "1")) ∷ []) ∷ []) 4 }
+    ensures storing { Costs (texts_of "sb,G,A") (named "A" "1" ++ named "G" "xy") [] 10 }
+    ensures storing_itself { Costs (texts_of "sb,G,G") (named "G" "xy") [] 6 }
+    ensures fetching { Costs (texts_of "fb,G") (named "A" "9xx" ++ named "G" "0")
+        (Some (named "A" "1" ++ named "B" "2") ∷ []) 9 }
+    ensures erasing { Costs (texts_of "eb,G") (named "G" "0") (Some (named "A" "1" ++ named "BB" "2") ∷ []) 14 }
+    ensures erasing_nothing { Costs (texts_of "eb,G") (named "G" "1") (Some (named "A" "1") ∷ []) 4 }
 {}

@@ -9,6 +9,7 @@ ghost use Rattle.trac_rules.specs.Weights.{gap_count, gaps_made};
 ghost use Rattle.trac_rules.specs.declared.item.CutGap.{CutGap};
 ghost use Rattle.trac_rules.specs.declared.item.Item.{Item};
 ghost use Rattle.trac_rules.specs.declared.item.Item.TheVariants.{Byte, Gap};
+ghost use Rattle.trac_rules.specs.Rows.{gap_at, text_at, texts_of};
 
 /// Of a run the leftmost occurrence of a text is cut out first, and what stands after it is cut in the same way.
 /// A run without an occurrence stays, and so does each run where the text is empty.
@@ -56,45 +57,37 @@ pub fn cuts_are_filled_again()
 {}
 
 /// Which gaps segmenting makes, and how they are filled again.
+#[tactic(auto, unfolding(crate::specs::Segmenting::cut_out, crate::specs::Segmenting::part))]
 pub fn worked_cuts()
     // A text that stands twice.
-    ensures twice { cut_of (codes "b" ∷ []) (defined (codes "abcb"))
-        ≡ record { place = 1; ordinal = 1 } ∷ record { place = 3; ordinal = 1 } ∷ [] }
-    ensures twice_back { joined (codes "b" ∷ []) (record { place = 1; ordinal = 1 } ∷ record {
-      place = 3;
-      ordinal = 1;
-    } ∷ []) (Byte 97 ∷ Gap 1 1 ∷ Byte 99 ∷ Gap 1 1 ∷ []) ≡ Some (as_items (codes "abcb")) }
+    ensures twice { cut_of (texts_of "b") (defined (codes "abcb")) ≡ gap_at 1 1 ∷ gap_at 3 1 ∷ [] }
+    ensures twice_back { joined (texts_of "b") (gap_at 1 1 ∷ gap_at 3 1 ∷ [])
+        (Byte 97 ∷ Gap 1 1 ∷ Byte 99 ∷ Gap 1 1 ∷ []) ≡ Some (as_items (codes "abcb")) }
     // Two texts, the second one searched in what the first one left.
-    ensures two_texts { cut_of (codes "b" ∷ codes "ca" ∷ []) (defined (codes "abcabc")) ≡
-        record { place = 1; ordinal = 1 } ∷ record { place = 2; ordinal = 2 } ∷ record { place = 3; ordinal = 1 } ∷ [] }
-    ensures two_texts_back { joined (codes "b" ∷ codes "ca" ∷ [])
-        (record { place = 1; ordinal = 1 } ∷ record { place = 2; ordinal = 2 } ∷ record { place = 3; ordinal = 1 } ∷ [])
+    ensures two_texts { cut_of (texts_of "b,ca") (defined (codes "abcabc"))
+        ≡ gap_at 1 1 ∷ gap_at 2 2 ∷ gap_at 3 1 ∷ [] }
+    ensures two_texts_back { joined (texts_of "b,ca") (gap_at 1 1 ∷ gap_at 2 2 ∷ gap_at 3 1 ∷ [])
         (Byte 97 ∷ Gap 1 1 ∷ Gap 2 2 ∷ Gap 1 1 ∷ Byte 99 ∷ []) ≡ Some (as_items (codes "abcabc")) }
     // An empty text makes no gap, and uses up its number.
-    ensures null_text { cut_of ([] ∷ codes "na" ∷ []) (defined (codes "ban")) ≡ [] }
-    ensures after_null_text { cut_of ([] ∷ codes "an" ∷ []) (defined (codes "ban"))
-        ≡ record { place = 1; ordinal = 2 } ∷ [] }
+    ensures null_text { cut_of (texts_of ",na") (defined (codes "ban")) ≡ [] }
+    ensures after_null_text { cut_of (texts_of ",an") (defined (codes "ban")) ≡ gap_at 1 2 ∷ [] }
     // An earlier gap is none of them, though it is like them in all, and stays when they are filled.
-    ensures beside_an_earlier_gap { cut_of (codes "x" ∷ []) (segmented (codes "y" ∷ []) (defined (codes "yxb")))
-        ≡ record { place = 1; ordinal = 1 } ∷ [] }
-    ensures earlier_gap_stays { joined (codes "x" ∷ []) (record { place = 1; ordinal = 1 } ∷ [])
-        (Gap 1 1 ∷ Gap 1 1 ∷ Byte 98 ∷ []) ≡ Some (Gap 1 1 ∷ Byte 120 ∷ Byte 98 ∷ []) }
-    ensures earlier_gaps_alone { cut_of (codes "y" ∷ []) (pointed_at 1 (Gap 1 1 ∷ Gap 2 3 ∷ [])) ≡ [] }
+    ensures beside_an_earlier_gap { cut_of (texts_of "x") (segmented (texts_of "y") (defined (codes "yxb")))
+        ≡ gap_at 1 1 ∷ [] }
+    ensures earlier_gap_stays { joined (texts_of "x") (gap_at 1 1 ∷ []) (Gap 1 1 ∷ Gap 1 1 ∷ Byte 98 ∷ [])
+        ≡ Some (Gap 1 1 ∷ Byte 120 ∷ Byte 98 ∷ []) }
+    ensures earlier_gaps_alone { cut_of (texts_of "y") (pointed_at 1 (Gap 1 1 ∷ Gap 2 3 ∷ [])) ≡ [] }
     ensures nothing_to_fill { joined [] [] (Byte 97 ∷ Gap 1 1 ∷ []) ≡ Some (Byte 97 ∷ Gap 1 1 ∷ []) }
     // The pointer bounds no run.
-    ensures across_the_pointer { cut_of (codes "bc" ∷ []) (pointed_at 2 (as_items (codes "abc")))
-        ≡ record { place = 1; ordinal = 1 } ∷ [] }
+    ensures across_the_pointer { cut_of (texts_of "bc") (text_at 2 "abc") ≡ gap_at 1 1 ∷ [] }
     // There is nothing to fill where no gap stands, or one of another ordinal or width; nor at a place that
     // does not rise or is past the end.
-    ensures byte_there { joined (codes "x" ∷ []) (record { place = 0; ordinal = 1 } ∷ []) (Byte 120 ∷ Gap 1 1 ∷ [])
-        ≡ None }
-    ensures other_ordinal { joined (codes "x" ∷ codes "y" ∷ []) (record { place = 0; ordinal = 2 } ∷ []) (Gap 1 1 ∷ [])
-        ≡ None }
-    ensures narrower { joined (codes "xy" ∷ []) (record { place = 0; ordinal = 1 } ∷ []) (Gap 1 1 ∷ []) ≡ None }
-    ensures wider { joined (codes "x" ∷ []) (record { place = 0; ordinal = 1 } ∷ []) (Gap 1 2 ∷ []) ≡ None }
-    ensures no_width { joined ([] ∷ []) (record { place = 0; ordinal = 1 } ∷ []) (Gap 1 0 ∷ []) ≡ None }
-    ensures missing_text { joined [] (record { place = 0; ordinal = 1 } ∷ []) (Gap 1 1 ∷ []) ≡ None }
-    ensures same_place { joined (codes "x" ∷ [])
-        (record { place = 0; ordinal = 1 } ∷ record { place = 0; ordinal = 1 } ∷ []) (Gap 1 1 ∷ Gap 1 1 ∷ []) ≡ None }
-    ensures past_the_end { joined (codes "x" ∷ []) (record { place = 1; ordinal = 1 } ∷ []) (Gap 1 1 ∷ []) ≡ None }
+    ensures byte_there { joined (texts_of "x") (gap_at 0 1 ∷ []) (Byte 120 ∷ Gap 1 1 ∷ []) ≡ None }
+    ensures other_ordinal { joined (texts_of "x,y") (gap_at 0 2 ∷ []) (Gap 1 1 ∷ []) ≡ None }
+    ensures narrower { joined (texts_of "xy") (gap_at 0 1 ∷ []) (Gap 1 1 ∷ []) ≡ None }
+    ensures wider { joined (texts_of "x") (gap_at 0 1 ∷ []) (Gap 1 2 ∷ []) ≡ None }
+    ensures no_width { joined ([] ∷ []) (gap_at 0 1 ∷ []) (Gap 1 0 ∷ []) ≡ None }
+    ensures missing_text { joined [] (gap_at 0 1 ∷ []) (Gap 1 1 ∷ []) ≡ None }
+    ensures same_place { joined (texts_of "x") (gap_at 0 1 ∷ gap_at 0 1 ∷ []) (Gap 1 1 ∷ Gap 1 1 ∷ []) ≡ None }
+    ensures past_the_end { joined (texts_of "x") (gap_at 1 1 ∷ []) (Gap 1 1 ∷ []) ≡ None }
 {}

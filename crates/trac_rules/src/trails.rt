@@ -18,6 +18,7 @@ pub fn sessions_are_trails()
 
 /// Steps that are gone back over and taken again give the same states: so many steps back and as many forward
 /// lead to the session as it was.
+#[tactic(auto, using(crate::proofs::TakenAgain::steps_again))]
 pub fn steps_are_taken_again()
     ensures { (n : ℕ) (p q : PlainSession) → IsTrail p → repeated Back n p ≡ Some q → repeated Step n q ≡ Some p }
 {}

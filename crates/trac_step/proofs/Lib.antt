@@ -16,6 +16,7 @@ pub mod Ended
 pub mod Planned
 pub mod Recorded
 pub mod Fitting
+pub mod Stepped
 pub mod ScanningBack
 pub mod CallsUndone
 pub mod Counted

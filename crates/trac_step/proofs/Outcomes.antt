@@ -32,12 +32,7 @@ pub if_err_always : {R : Type 0} (r : Result R Refusal) (Q : Refusal → Type 0)
 if_err_always (Ok x) Q h = tt
 if_err_always (Err e) Q h = h e
 
--- what is refused over every tape is refused over this one
-pub refused_over : {R : Type 0} (r : Result R Refusal) (environment : Environment) (s : State) → IfErr r (λ e. (others : Environment) → MayRefuse (step others s) e) → IfErr r (λ e. MayRefuse (step environment s) e)
-refused_over (Ok x) environment s h = tt
-refused_over (Err e) environment s h = h environment
-
--- which it may where a step leads on
+-- memory may be refused where a step leads on
 pub taken_lacks : (outcome : Result State Refusal) (t : State) → outcome ≡ Ok t → MayLackMemory outcome
 taken_lacks outcome t is = subst MayLackMemory (sym is) tt
 

@@ -85,10 +85,6 @@ pub lacks_a_mark : (m : Shown) (t : State) → m.mark_room ≤ marks m.state.fra
 lacks_a_mark m t full more moves other =
     subst (λ x. IfMoves x (λ u. HasRoom m u → ⊥)) (sym moves) (λ room. absurd (omega (arith, full, more, room.marks)))
 
--- the step that empties all texts says nothing of room
-pub lacks_nothing : (m : Shown) → front_of m.state.active ≡ front.Nothing → LacksRoomAhead m
-lacks_nothing m is other = absurd (other is)
-
 -- a further argument is one mark more
 pub argument_marks : (fs : List Frame) (s : State) → 0 < length fs → marks (comma_in fs s).frames ≡ marks fs + 1
 argument_marks [] s h = absurd (omega arith)

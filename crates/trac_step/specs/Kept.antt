@@ -1,17 +1,23 @@
 -- Steps whose records go into a journal, and the way back over them.
 use Rattle.std.specs.Prelude.{◌≡◌, ◌≤◌, ℕ, List, [], ◌∷◌, length, Option, None, Some, IsSomeAnd}
+use Rattle.std.specs.Prelude.{Result, Ok, IfErr, IsOkUnless, OnErr, OnOk}
 use Rattle.std.specs.List.{concat}
 use Rattle.trac_journal.specs.declared.called.Called.{Called}
-use Rattle.trac_journal.specs.Journaled.{IsLight}
+use Rattle.trac_journal.specs.Journaled.{IsLight, Journaled}
 use Rattle.trac_journal.specs.Listed.{AreSmall}
 use Rattle.trac_journal.specs.Told.{record_with}
-use Rattle.trac_rules.specs.Records.{Record, record_of, state_before}
+use Rattle.trac_rules.specs.declared.refusal.Refusal.{Refusal}
+use Rattle.trac_rules.specs.declared.refusal.Refusal.TheVariants.{Memory}
+use Rattle.trac_rules.specs.Outcomes.{MayRefuse}
+use Rattle.trac_rules.specs.Records.{Record, record_of, recorded, state_before}
 use Rattle.trac_rules.specs.Records.{Called as CallOf}
+use Rattle.trac_rules.specs.Scanning.{Moves, scan}
 use Rattle.trac_rules.specs.State.{Environment, State}
+use Rattle.trac_rules.specs.Stepping.{step}
 use Rattle.trac_rules.specs.Undone.{Undone}
 use Rattle.trac_rules.specs.Weights.{loss, weight}
 use Rattle.trac_step.specs.Layout.{Shown}
-use Rattle.trac_step.specs.Room.{HasRoom}
+use Rattle.trac_step.specs.Room.{HasRoom, IsNoLess, LacksRoomAhead}
 
 -- the record of a call with this beside its arguments, these, and what it destroyed of forms and
 -- blocks, fits the entries of a journal
@@ -32,6 +38,27 @@ pub record IsKept (environment : Environment) (before after : State) (old new : 
   pub leads_back : state_before newest after ≡ Some before
   pub weighs : weight newest ≤ loss before
   pub added : new ≡ newest ∷ old
+
+-- the rule for the front of a machine's active text is carried out, which asks for no call, and its record is added; or
+-- memory is refused, and nothing but rooms changes
+pub record IsCarriedOut {R : Type 0} (result : Result R Refusal) (before after : Shown) (old new : Journaled) : Type 0 where
+  pub ok : OnOk result (scan before.state ≡ Moves after.state)
+  pub kept : OnOk result (new.records ≡ recorded before.state ∷ old.records)
+  pub unchanged : OnErr result ((after ≡ before) × (new.records ≡ old.records))
+  pub lacking : OnErr result (1 ≤ old.places → LacksRoomAhead before)
+  pub err : IsOkUnless result Memory
+  pub room : IsNoLess before after
+
+-- a machine takes its next step and its record is added, or the step is refused, and nothing but rooms changes; a step
+-- of scanning is refused memory only where the machine or the journal lacks room
+pub record IsStepped {R : Type 0} (environment : Environment) (result : Result R Refusal) (before after : Shown)
+    (old new : Journaled) : Type 0 where
+  pub taken : OnOk result (step environment before.state ≡ Ok after.state)
+  pub kept : OnOk result (IsAdded (record_of environment before.state) old.records new.records)
+  pub refused : IfErr result (MayRefuse (step environment before.state))
+  pub unchanged : OnErr result ((after.state ≡ before.state) × (new.records ≡ old.records))
+  pub lacking : IfErr result (λ e. e ≡ Memory → 1 ≤ old.places → LacksRoomAhead before)
+  pub room : IsNoLess before after
 
 -- the newest of the records, where there is one, leads back to a state for which a machine has room
 abbrev pub CanGoBack : Shown → List Record → Type 0

@@ -13,7 +13,7 @@ use trac_text::Mark;
 
 impl<E: TwoEnds<u8, A>, M: TwoEnds<Mark, A>, A: Allocator + Copy> Core<E, M, A> {
     // Goes back over a step that performed no function, and did not empty the texts.
-    fn undo_short(&mut self, short: Short)
+    pub(crate) fn undo_short(&mut self, short: Short)
         requires { IsSomeAnd (state_before (said_by short) self.old.state) (λ s. HasRoom self.old s) }
         ensures state { state_before (said_by short) self.old.state ≡ Some self.new.state }
         ensures room { IsNoLess self.old self.new }

@@ -23,7 +23,7 @@ ghost use Rattle.trac_change.specs.Undone.{undone_in};
 ghost use Rattle.trac_step.specs.Calling.{BeginsInnermost, HasRoomFor, IsBegun, arguments_in, state_after, state_ended};
 ghost use Rattle.trac_step.specs.Calling.{with_storage};
 ghost use Rattle.trac_text.specs.Moving.{with_value};
-ghost use Rattle.trac_step.specs.Kept.{FitsJournal, IsAdded};
+ghost use Rattle.trac_step.specs.Kept.{FitsJournal, IsStepped};
 ghost use Rattle.trac_step.specs.Ready.{CanChange, CanEnd, IsPlanned, IsReady, recorded_after};
 ghost use Rattle.trac_step.specs.Record.{recorded_by};
 ghost use Rattle.trac_step.specs.Room.{IsNoLess, LacksRoomAhead};
@@ -160,15 +160,6 @@ impl<E: TwoEnds<u8, A>, M: TwoEnds<Mark, A>, A: Allocator + Copy> Core<E, M, A> 
         })
     }
 
-    // The arguments of the call that the next step performs, whose function begins here.
-    fn arguments(&self, beginning: Beginning) -> Args<'_>
-        requires front { front_of self.now.state.active ≡ Front.Closing }
-        requires begins { BeginsInnermost self.now.state beginning }
-        ensures { result ≡ arguments_in (scan self.now.state) }
-    {
-        arguments_at(&self.text, &self.marks, beginning)
-    }
-
     // Makes room for the texts that the call adds, so that ending it needs no memory. The state stays.
     fn make_room(&mut self, made: &Made<A>) -> Result<(), Refusal>
         ensures ok { OnOk result (HasRoomFor made.now self.new) }
@@ -232,7 +223,7 @@ impl<E: TwoEnds<u8, A>, M: TwoEnds<Mark, A>, A: Allocator + Copy> Core<E, M, A> 
         ensures same { IfOk result (λ p. all_texts p ≡ arguments_in (scan self.now.state)) }
         ensures err { IsOkUnless result Refusal.Memory }
     {
-        let arguments = self.arguments(beginning);
+        let arguments = arguments_at(&self.text, &self.marks, beginning);
         Pieces::of(*self.output.allocator(), &arguments)
     }
 
@@ -291,7 +282,7 @@ impl<E: TwoEnds<u8, A>, M: TwoEnds<Mark, A>, A: Allocator + Copy> Core<E, M, A> 
             ≡ rules.Called (record_with plan.now.called (arguments_in (scan self.now.state)) (undone_in undone))
             ∷ journal.old.records }
     {
-        let arguments = self.arguments(plan.beginning);
+        let arguments = arguments_at(&self.text, &self.marks, plan.beginning);
         journal.push_call(plan.called, &arguments, undone);
     }
 
@@ -398,15 +389,7 @@ impl<E: TwoEnds<u8, A>, M: TwoEnds<Mark, A>, A: Allocator + Copy> Core<E, M, A> 
         requires short { length tape.bytes.now < 2 ^ 32 }
         requires proper { IsProper self.old.state }
         requires not_full { length journal.old.records < JOURNAL_LIMIT }
-        ensures taken { OnOk result
-            (step (environment_of self.old.width tape.entry) self.old.state ≡ Ok self.new.state) }
-        ensures kept { OnOk result (IsAdded (record_of (environment_of self.old.width tape.entry) self.old.state)
-            journal.old.records journal.new.records) }
-        ensures refused { IfErr result (MayRefuse (step (environment_of self.old.width tape.entry) self.old.state)) }
-        ensures unchanged { OnErr result
-            ((self.new.state ≡ self.old.state) × (journal.new.records ≡ journal.old.records)) }
-        ensures lacking { LacksRoomAhead self.old }
-        ensures room { IsNoLess self.old self.new }
+        ensures { IsStepped (environment_of self.old.width tape.entry) result self.old self.new journal.old journal.new }
     {
         let mut change = Change::Keep;
         let plan = self.planned(tape, made, &mut change)?;

@@ -1,13 +1,14 @@
 //! The steps that perform no function.
-ghost use Rattle.std.specs.Prelude.{◌≡◌, ◌≢◌, IfOk, IfErr, IsOkUnless, OnErr, OnOk, Ok, true, ◌<◌, ◌≤◌, ◌∷◌, length};
-ghost use Rattle.trac_rules.specs.Scanning.{front_of, scan, Moves};
+ghost use Rattle.std.specs.Prelude.{◌≡◌, ◌≢◌, ◌<◌, ◌≤◌, get_or, length, true, None, Ok, IfErr, IfOk, IsOkUnless, OnErr, OnOk};
+ghost use Rattle.trac_rules.specs.Scanning.{deleted, front_of, scan, Moves};
 ghost use Rattle.trac_rules.specs.declared.limit.TheConstants.{JOURNAL_LIMIT};
 ghost use Rattle.trac_rules.specs.Limits.{texts_fit};
 ghost use Rattle.trac_rules.specs.Outcomes.{MayRefuse};
 ghost use Rattle.trac_rules.specs.Proper.{IsProper};
-ghost use Rattle.trac_rules.specs.Records.{recorded};
+ghost use Rattle.trac_rules.specs.Records.{Deleted, recorded};
 ghost use Rattle.trac_rules.specs.Stepping.{step};
-ghost use Rattle.trac_step.specs.Calling.{IfMoves, IsMove};
+ghost use Rattle.trac_step.specs.Calling.{IfMoves, IsMove, with_mark};
+ghost use Rattle.trac_step.specs.Kept.{IsCarriedOut};
 ghost use Rattle.trac_text.specs.Moving.{adds_mark};
 ghost use Rattle.trac_step.specs.Record.{recorded_by};
 ghost use Rattle.trac_journal.specs.Told.{said_by};
@@ -25,7 +26,7 @@ use trac_text::{Kind, Mark, Refusal};
 
 impl<E: TwoEnds<u8, A>, M: TwoEnds<Mark, A>, A: Allocator + Copy> Core<E, M, A> {
     // Whether the state that scanning moves on to is within the limits: only a further mark can be one too many.
-    fn move_fits(&self, front: Front) -> bool
+    pub(crate) fn move_fits(&self, front: Front) -> bool
         requires front { front ≡ front_of self.now.state.active }
         ensures { IfMoves (scan self.now.state) (λ t. result ≡ texts_fit t) }
     {
@@ -111,63 +112,91 @@ impl<E: TwoEnds<u8, A>, M: TwoEnds<Mark, A>, A: Allocator + Copy> Core<E, M, A> 
         self.move_on(front)
     }
 
-    // The next step, where it performs no function, and its record is kept.
+    // Carries out the rule for this front, which asks for no call, and keeps what it destroys.
     #[inline(always)]
-    pub(crate) fn move_step_into(
+    pub(crate) fn carry_out(
         &mut self,
         journal: &mut Journal<A>,
         front: Front,
     ) -> Result<(), Refusal>
         requires front { front ≡ front_of self.old.state.active }
         requires moves { IsMove (scan self.old.state) }
+        requires fits { IfMoves (scan self.old.state) (λ t. texts_fit t ≡ true) }
         requires proper { IsProper self.old.state }
         requires not_full { length journal.old.records < JOURNAL_LIMIT }
-        ensures taken { OnOk result ((environment : _) → step environment self.old.state ≡ Ok self.new.state) }
-        ensures kept { OnOk result (journal.new.records ≡ recorded self.old.state ∷ journal.old.records) }
-        ensures refused { IfErr result (λ e. (environment : _) → MayRefuse (step environment self.old.state) e) }
-        ensures unchanged { OnErr result
-            ((self.new.state ≡ self.old.state) × (journal.new.records ≡ journal.old.records)) }
-        ensures lacking { IfErr result (λ e. e ≡ Refusal.Memory → 1 ≤ journal.old.places → LacksRoomAhead self.old) }
-        ensures room { IsNoLess self.old self.new }
+        ensures { IsCarriedOut result self.old self.new journal.old journal.new }
     {
-        if !self.move_fits(front) {
-            return Err(Refusal::TooLong);
-        }
         match front {
             Front::Nothing => self.empty_into(journal),
+            Front::Opening => self.protect_into(journal),
+            Front::Layout | Front::Closing => self.delete_into(journal),
+            Front::ActiveCall => self.mark_into(journal, 2, Some(Kind::Active), Short::Begun),
+            Front::NeutralCall => self.mark_into(journal, 3, Some(Kind::Neutral), Short::Begun),
+            Front::Comma => {
+                if self.neutral().is_outside() {
+                    return self.delete_into(journal);
+                }
+                self.mark_into(journal, 1, None, Short::Comma)
+            }
             Front::Sharp | Front::Plain => {
                 self.gather_first();
                 journal.push_moved(1);
                 Ok(())
             }
-            Front::Opening
-            | Front::Comma
-            | Front::Layout
-            | Front::Closing
-            | Front::ActiveCall
-            | Front::NeutralCall => self.move_briefly_into(journal, front),
         }
     }
 
-    // Carries out the rule for this front, which asks for no call and does not empty all texts, and
-    // keeps what it destroys.
-    fn move_briefly_into(&mut self, journal: &mut Journal<A>, front: Front) -> Result<(), Refusal>
-        requires front { front ≡ front_of self.old.state.active }
-        requires moves { IsMove (scan self.old.state) }
+    // The first n bytes of the active text are deleted, and a function of this kind is begun, or, where none is named,
+    // a further argument of the innermost one; this is kept of it.
+    #[inline(always)]
+    fn mark_into(
+        &mut self,
+        journal: &mut Journal<A>,
+        n: usize,
+        frame: Option<Kind>,
+        short: Short,
+    ) -> Result<(), Refusal>
+        requires moves { scan self.old.state ≡ Moves (with_mark frame (deleted n self.old.state)) }
         requires fits { IfMoves (scan self.old.state) (λ t. texts_fit t ≡ true) }
-        requires some { front ≢ Front.Nothing }
+        requires front { n ≤ length self.old.state.active }
+        requires inside { frame ≡ None → 0 < length self.old.state.frames }
+        requires told { said_by short ≡ recorded self.old.state }
         requires proper { IsProper self.old.state }
         requires not_full { length journal.old.records < JOURNAL_LIMIT }
-        ensures ok { OnOk result (scan self.old.state ≡ Moves self.new.state) }
-        ensures kept { OnOk result (journal.new.records ≡ recorded self.old.state ∷ journal.old.records) }
-        ensures unchanged { OnErr result ((self.new ≡ self.old) × (journal.new.records ≡ journal.old.records)) }
-        ensures lacking { OnErr result (1 ≤ journal.old.places → LacksRoomAhead self.old) }
-        ensures err { IsOkUnless result Refusal.Memory }
-        ensures room { IsNoLess self.old self.new }
+        ensures { IsCarriedOut result self.old self.new journal.old journal.new }
     {
         journal.reserve_short()?;
-        let short = self.move_briefly(front)?;
+        self.mark(n, frame)?;
         journal.push_short(short);
+        Ok(())
+    }
+
+    // The first byte of the active text is deleted, and kept.
+    #[inline(never)]
+    fn delete_into(&mut self, journal: &mut Journal<A>) -> Result<(), Refusal>
+        requires moves { scan self.old.state ≡ Moves (deleted 1 self.old.state) }
+        requires some { 0 < length self.old.state.active }
+        requires told { recorded self.old.state ≡ Deleted (get_or self.old.state.active 0 0) }
+        requires not_full { length journal.old.records < JOURNAL_LIMIT }
+        ensures { IsCarriedOut result self.old self.new journal.old journal.new }
+    {
+        journal.reserve_short()?;
+        let byte = self.delete_first();
+        journal.push_short(Short::Deleted(byte));
+        Ok(())
+    }
+
+    // A `(`: what it protects goes to the current text, and how much that is is kept.
+    #[inline(never)]
+    fn protect_into(&mut self, journal: &mut Journal<A>) -> Result<(), Refusal>
+        requires front { front_of self.old.state.active ≡ Front.Opening }
+        requires proper { IsProper self.old.state }
+        requires not_full { length journal.old.records < JOURNAL_LIMIT }
+        ensures { IsCarriedOut result self.old self.new journal.old journal.new }
+    {
+        journal.reserve_short()?;
+        let (inner, closed) = self.protect();
+        journal.push_short(Short::Quoted { inner, closed });
         Ok(())
     }
 
@@ -177,11 +206,7 @@ impl<E: TwoEnds<u8, A>, M: TwoEnds<Mark, A>, A: Allocator + Copy> Core<E, M, A> 
         requires front { front_of self.old.state.active ≡ Front.Nothing }
         requires proper { IsProper self.old.state }
         requires not_full { length journal.old.records < JOURNAL_LIMIT }
-        ensures ok { OnOk result (scan self.old.state ≡ Moves self.new.state) }
-        ensures kept { OnOk result (journal.new.records ≡ recorded self.old.state ∷ journal.old.records) }
-        ensures unchanged { OnErr result ((self.new ≡ self.old) × (journal.new.records ≡ journal.old.records)) }
-        ensures err { IsOkUnless result Refusal.Memory }
-        ensures room { IsNoLess self.old self.new }
+        ensures { IsCarriedOut result self.old self.new journal.old journal.new }
     {
         journal.reserve_idle()?;
         let (base, frames) = self.reload()?;

@@ -131,11 +131,11 @@ impl<E: TwoEnds<u8, A>, M: TwoEnds<Mark, A>, A: Allocator + Copy> Core<E, M, A> 
         ensures room { IsNoLess self.old self.new }
     {
         match taken {
-            Record::Moved => self.move_back(1),
-            Record::Comma => self.gather_again(),
-            Record::Begun => self.take_beginning_back(),
-            Record::Quoted { inner, closed } => self.unprotect(inner, closed),
-            Record::Deleted(byte) => self.undelete(byte),
+            Record::Moved => self.undo_short(Short::Moved),
+            Record::Comma => self.undo_short(Short::Comma),
+            Record::Begun => self.undo_short(Short::Begun),
+            Record::Quoted { inner, closed } => self.undo_short(Short::Quoted { inner, closed }),
+            Record::Deleted(byte) => self.undo_short(Short::Deleted(byte)),
             Record::Idle { base, frames } => self.unload(base.as_slice(), frames),
             Record::Call {
                 kind,

@@ -11,7 +11,7 @@ ghost use Rattle.trac_rules.specs.Undone.{storage_before};
 ghost use Rattle.trac_rules.specs.Weights.{loss, weight};
 ghost use Rattle.trac_prims.specs.Tape.{environment_of};
 ghost use Rattle.trac_step.specs.Calling.{IsMove};
-ghost use Rattle.trac_step.specs.Kept.{IsAdded, IsKept};
+ghost use Rattle.trac_step.specs.Kept.{IsKept, IsStepped};
 ghost use Rattle.trac_step.specs.Record.{before, recorded_by};
 ghost use Rattle.trac_step.specs.Room.{HasRoom, IsNoLess, LacksRoomAhead};
 
@@ -96,7 +96,8 @@ impl<E: TwoEnds<u8, A>, M: TwoEnds<Mark, A>, A: Allocator + Copy> Core<E, M, A> 
         self.next_step_into(journal, tape, made)
     }
 
-    // The next step, by whether it performs a function, with its record kept.
+    // Takes the next step and keeps its record, or changes nothing but rooms. A `)` inside a function performs that one.
+    // Whatever else the active text begins with has a rule of scanning, which only one mark too many can refuse.
     #[inline(always)]
     fn next_step_into(
         &mut self,
@@ -108,21 +109,16 @@ impl<E: TwoEnds<u8, A>, M: TwoEnds<Mark, A>, A: Allocator + Copy> Core<E, M, A> 
         requires short { length tape.bytes.now < 2 ^ 32 }
         requires proper { IsProper self.old.state }
         requires not_full { length journal.old.records < JOURNAL_LIMIT }
-        ensures taken { OnOk result
-            (step (environment_of self.old.width tape.entry) self.old.state ≡ Ok self.new.state) }
-        ensures kept { OnOk result (IsAdded (record_of (environment_of self.old.width tape.entry) self.old.state)
-            journal.old.records journal.new.records) }
-        ensures refused { IfErr result (MayRefuse (step (environment_of self.old.width tape.entry) self.old.state)) }
-        ensures unchanged { OnErr result
-            ((self.new.state ≡ self.old.state) × (journal.new.records ≡ journal.old.records)) }
-        ensures lacking { IfErr result (λ e. e ≡ Refusal.Memory → 1 ≤ journal.old.places → LacksRoomAhead self.old) }
-        ensures room { IsNoLess self.old self.new }
+        ensures { IsStepped (environment_of self.old.width tape.entry) result self.old self.new journal.old journal.new }
     {
         let front = front_at(self.text.right());
         if self.performs(front) {
             return self.call_step_into(journal, tape, made);
         }
-        self.move_step_into(journal, front)
+        if !self.move_fits(front) {
+            return Err(Refusal::TooLong);
+        }
+        self.carry_out(journal, front)
     }
 
     // A machine shows a proper state, for which it has room. It does nothing: it is called for what it says.
@@ -134,7 +130,7 @@ impl<E: TwoEnds<u8, A>, M: TwoEnds<Mark, A>, A: Allocator + Copy> Core<E, M, A> 
         self.store.knows_its_forms();
     }
 
-    // Whether the next step performs a function, where the active text has this front.
+    // Whether the next step performs a function, where the active text has this front: a `)` inside a function.
     fn performs(&self, front: Front) -> bool
         requires { front ≡ front_of self.now.state.active }
         ensures closing { IsTrue result → front_of self.now.state.active ≡ Front.Closing }
@@ -147,7 +143,7 @@ impl<E: TwoEnds<u8, A>, M: TwoEnds<Mark, A>, A: Allocator + Copy> Core<E, M, A> 
         !self.neutral().is_outside()
     }
 
-    // The next step, by whether it performs a function.
+    // The same, with the record returned.
     fn next_step(&mut self, tape: Tape<'_>) -> Result<Record<A>, Refusal>
         requires { self.old.state.position ≤ length tape.bytes.now }
         ensures taken { OnOk result

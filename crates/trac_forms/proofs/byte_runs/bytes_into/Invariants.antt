@@ -1,4 +1,3 @@
--- The bytes so far, and room for the others.
 use Rattle.std.proofs.Common.{◌≡◌, ◌+◌, ◌++◌, take}
 use Rattle.std.specs.Prelude.{vec_len, vec_capacity}
 use Rattle.trac_rules.specs.Pieces.{bytes_in}

@@ -1,4 +1,3 @@
--- The bytes so far.
 use Rattle.std.proofs.Common.{◌≡◌, length, take}
 use Rattle.trac_rules.specs.Form.{as_items}
 use Rattle.trac_forms.specs.declared.byte_runs.TheConstants.{CHUNK}

@@ -1,4 +1,3 @@
--- The bytes so far.
 use Rattle.std.proofs.Common.{◌≡◌, ◌++◌, take}
 use Rattle.trac_rules.specs.Form.{as_items}
 use Rattle.trac_forms.proofs.byte_runs.put_bytes.Given as goal

@@ -1,4 +1,3 @@
--- What is left of the text comes after the items so far.
 use Rattle.std.proofs.Common.{◌≡◌, ◌+◌, ◌++◌, ◌≤◌, length}
 use Rattle.trac_gap.specs.Ends.{item_count}
 use Rattle.trac_rules.specs.Form.{as_items}

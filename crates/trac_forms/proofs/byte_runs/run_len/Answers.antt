@@ -2,8 +2,7 @@
 use Rattle.std.proofs.Common.{◌+◌, ap, arith, sym, ◌∙◌}
 use Rattle.std.specs.Prelude.{Some}
 use Rattle.std.proofs.lemmas.Option.{slice_get-get_or}
-use Rattle.trac_forms.proofs.ByteRuns.{byte_passed}
-use Rattle.trac_forms.proofs.Segments.{gap_there}
+use Rattle.trac_forms.proofs.ByteRuns.{byte_passed, gap_there}
 use Rattle.trac_forms.proofs.byte_runs.run_len.Goals as goal
 
 pub items-preserved : goal.items-preserved

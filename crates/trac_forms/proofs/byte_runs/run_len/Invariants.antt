@@ -1,4 +1,3 @@
--- The items so far are bytes.
 use Rattle.std.proofs.Common.{length, ◌-◌, ◌≡◌, ◌≤◌, take}
 use Rattle.trac_rules.specs.Weights.{gap_count}
 use Rattle.trac_forms.proofs.byte_runs.run_len.Given as goal

@@ -1,4 +1,3 @@
--- No item is a gap.
 use Rattle.std.proofs.Common.{ap, ◌∙◌, arith}
 use Rattle.trac_rules.specs.Pieces.{is_gap}
 use Rattle.trac_forms.proofs.ByteRuns.{no_gap_at}

@@ -1,4 +1,3 @@
--- The bytes so far.
 use Rattle.std.proofs.Common.{◌≡◌, length, take}
 use Rattle.trac_rules.specs.Pieces.{bytes_in}
 use Rattle.trac_forms.proofs.byte_runs.unpacked.Given as goal

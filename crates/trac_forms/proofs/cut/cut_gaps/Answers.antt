@@ -1,4 +1,3 @@
--- Gap by gap.
 use Rattle.std.proofs.Common.{ap, arith, length, ◌∙◌}
 use Rattle.trac_gap.specs.Ends.{Ends}
 use Rattle.trac_rules.specs.declared.item.Item.{Item}

@@ -1,4 +1,3 @@
--- The gaps so far are made, and there are as many places.
 use Rattle.std.proofs.Common.{◌≡◌, drop}
 use Rattle.trac_rules.specs.Form.{all_items}
 use Rattle.trac_rules.specs.Segmenting.{segmented}

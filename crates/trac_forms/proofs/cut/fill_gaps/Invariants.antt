@@ -1,4 +1,3 @@
--- The gaps so far are filled.
 use Rattle.std.proofs.Common.{[], drop}
 use Rattle.std.specs.Prelude.{unwrap_or}
 use Rattle.trac_rules.specs.Cuts.{joined}

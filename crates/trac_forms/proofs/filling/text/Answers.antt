@@ -1,4 +1,4 @@
-use Rattle.std.proofs.Common.{◌≡◌, ℕ, zero, suc, ◌-◌, List, [], get_or, refl, ap, ◌∙◌, arith}
+use Rattle.std.proofs.Common.{◌≡◌, ℕ, zero, suc, ◌-◌, List, [], get_or, refl, ap, arith}
 use Rattle.trac_rules.specs.Filling.{text_numbered}
 use Rattle.trac_forms.proofs.filling.text.Goals as goal
 
@@ -6,6 +6,3 @@ use Rattle.trac_forms.proofs.filling.text.Goals as goal
 numbered : (n : ℕ) (texts : List (List ℕ)) → (n ≡ 0 → ⊥) → get_or texts (n - 1) [] ≡ text_numbered n texts
 numbered zero texts some = absurd (some refl)
 numbered (suc k) texts some = ap (λ (j : ℕ). get_or texts j []) (omega arith)
-
-pub returns : goal.returns
-returns g c = c.get.ensures ∙ numbered c.args.number (g.T.Texts.texts c.args.texts.now) c.if-number-eq0.false

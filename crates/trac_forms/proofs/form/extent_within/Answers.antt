@@ -1,4 +1,3 @@
--- Each item adds its width.
 use Rattle.std.proofs.Common.{◌+◌, arith}
 use Rattle.trac_rules.specs.declared.item.Item.TheVariants.{Byte}
 use Rattle.trac_forms.proofs.Extents.{extent_more, extent-take}

@@ -1,4 +1,3 @@
--- What was added up so far.
 use Rattle.std.proofs.Common.{◌≡◌, ◌≤◌, take}
 use Rattle.trac_rules.specs.Form.{extent}
 use Rattle.trac_forms.proofs.form.extent_within.Given as goal

@@ -30,10 +30,6 @@ put_items-requires-2-clause-room g c =
 pub put_items-requires-2-clause-wide : goal.put_items-requires-2-clause-wide
 put_items-requires-2-clause-wide g c = All-append_right IsWide c.args.before.now c.args.after.now c.requires.wide
 
-pub shift_right-requires : goal.shift_right-requires
-shift_right-requires g c =
-    omega (arith, ap (λ (e : Ends Item). length e.left) c.put_items-2.ensures, length-append c.put_items.new.items.left c.args.after.now)
-
 pub returns-clause-items : goal.returns-clause-items
 returns-clause-items g c =
     divided_put c.reserve.new.self c.put_items.new.items c.put_items-2.new.items c.shift_right.new.self c.args.before.now c.args.after.now

@@ -1,4 +1,3 @@
--- The items so far.
 use Rattle.std.proofs.Common.{◌≡◌, ◌++◌, take}
 use Rattle.trac_forms.proofs.form.put_items.Given as goal
 

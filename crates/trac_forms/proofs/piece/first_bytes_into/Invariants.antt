@@ -1,4 +1,3 @@
--- The bytes so far, and room for the others.
 use Rattle.std.proofs.Common.{◌≡◌, ◌+◌, ◌++◌, ◌≤◌, length, min, take}
 use Rattle.std.specs.Vec.{vec_capacity, vec_len}
 use Rattle.trac_rules.specs.Pieces.{bytes_in}

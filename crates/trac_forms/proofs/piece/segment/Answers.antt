@@ -1,4 +1,3 @@
--- Without a gap the segment is all.
 use Rattle.std.proofs.Common.{◌∙◌, arith}
 use Rattle.trac_forms.proofs.TextsAlone.{text_alone, text_length, text_passed, text_segment}
 use Rattle.trac_forms.proofs.piece.segment.Goals as goal

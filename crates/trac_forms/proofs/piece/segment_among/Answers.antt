@@ -1,23 +1,19 @@
--- The first gap ends the segment.
+use Rattle.std.proofs.Common.{arith}
 use Rattle.trac_forms.proofs.RunLengths.{ended_count, run_count, segment_all, segment_ended}
 use Rattle.trac_forms.proofs.piece.segment_among.Goals as goal
 
-pub returns-then-bytes-items-clause-items : goal.returns-then-bytes-items-clause-items
-returns-then-bytes-items-clause-items c =
-    let run = c.run_len-bytes.ensures in
-    segment_ended c.args.items.now c.run_len-bytes.result run.within run.bytes run.gap c.if-bytes-items.true
+pub returns-then-bytes-items : goal.returns-then-bytes-items
+returns-then-bytes-items c =
+    let run = c.run_len-bytes.ensures in record {
+      items = segment_ended c.args.items.now c.run_len-bytes.result run.within run.bytes run.gap c.if-bytes-items.true;
+      bytes = ended_count c.args.items.now c.run_len-bytes.result run.within run.bytes run.gap c.if-bytes-items.true;
+      within = omega arith;
+    }
 
-pub returns-then-bytes-items-clause-bytes : goal.returns-then-bytes-items-clause-bytes
-returns-then-bytes-items-clause-bytes c =
-    let run = c.run_len-bytes.ensures in
-    ended_count c.args.items.now c.run_len-bytes.result run.within run.bytes run.gap c.if-bytes-items.true
-
-pub returns-else-bytes-items-clause-items : goal.returns-else-bytes-items-clause-items
-returns-else-bytes-items-clause-items c =
-    let run = c.run_len-bytes.ensures in
-    segment_all c.args.items.now c.run_len-bytes.result run.within run.bytes run.gap c.if-bytes-items.false
-
-pub returns-else-bytes-items-clause-bytes : goal.returns-else-bytes-items-clause-bytes
-returns-else-bytes-items-clause-bytes c =
-    let run = c.run_len-bytes.ensures in
-    run_count c.args.items.now c.run_len-bytes.result run.within run.bytes run.gap
+pub returns-else-bytes-items : goal.returns-else-bytes-items
+returns-else-bytes-items c =
+    let run = c.run_len-bytes.ensures in record {
+      items = segment_all c.args.items.now c.run_len-bytes.result run.within run.bytes run.gap c.if-bytes-items.false;
+      bytes = run_count c.args.items.now c.run_len-bytes.result run.within run.bytes run.gap;
+      within = run.within;
+    }

@@ -1,4 +1,3 @@
--- The gaps so far, the rest of the run, and the gaps that stand in it.
 use Rattle.std.proofs.Common.{drop}
 use Rattle.trac_forms.proofs.RunGaps.{IsMixedSoFar}
 use Rattle.trac_forms.proofs.run_gaps.gaps_into.Given as goal

@@ -1,4 +1,3 @@
--- The gaps so far, and the rest of the run.
 use Rattle.std.proofs.Common.{length}
 use Rattle.trac_forms.proofs.RunGaps.{IsCutSoFar}
 use Rattle.trac_forms.proofs.run_gaps.new_gaps_into.Given as goal

@@ -1,4 +1,3 @@
--- A text alone is printed as it is.
 use Rattle.std.proofs.Common.{◌≡◌, ◌++◌, ℕ, List, ap, ◌∙◌, refl}
 use Rattle.trac_rules.specs.Showing.{shown_item, shown_items}
 use Rattle.trac_forms.proofs.TextsAlone.{given_alone}

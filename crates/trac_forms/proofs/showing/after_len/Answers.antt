@@ -1,4 +1,3 @@
--- A text alone is printed as it is.
 use Rattle.std.proofs.Common.{◌≡◌, ◌≤◌, ℕ, List, length, subst, refl}
 use Rattle.std.specs.Prelude.{SomeIff}
 use Rattle.trac_rules.specs.Showing.{shown_item, shown_items}

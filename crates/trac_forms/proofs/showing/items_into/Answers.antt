@@ -1,4 +1,3 @@
--- Each item adds what it is printed as.
 use Rattle.trac_forms.proofs.Going.{on_err, goes_on}
 use Rattle.trac_forms.proofs.showing.items_into.Goals as goal
 

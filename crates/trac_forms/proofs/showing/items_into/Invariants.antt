@@ -1,4 +1,3 @@
--- What was printed so far.
 use Rattle.std.proofs.Common.{◌≡◌, ◌++◌, take}
 use Rattle.trac_rules.specs.Showing.{shown_items}
 use Rattle.trac_forms.proofs.showing.items_into.Given as goal

@@ -1,4 +1,3 @@
--- What was counted so far.
 use Rattle.std.proofs.Common.{◌≡◌, ◌≤◌, length, take}
 use Rattle.trac_rules.specs.Showing.{shown_items}
 use Rattle.trac_forms.proofs.showing.items_len.Given as goal

@@ -1,4 +1,3 @@
--- A new key goes last.
 use Rattle.std.proofs.Common.{◌∙◌, ◌++◌, ◌∷◌, [], List, ℕ, ap}
 use Rattle.std.specs.Prelude.{None}
 use Rattle.std.specs.Map.{lookup}

@@ -1,4 +1,3 @@
--- The laws are those of `Unchanged`.
 use Rattle.trac_origins.proofs.Unchanged.{calls_held, calls_unchanged, moves_held, moves_unchanged}
 use Rattle.trac_origins.proofs.lengths.forms_hold_what_they_held.Goals as goal
 

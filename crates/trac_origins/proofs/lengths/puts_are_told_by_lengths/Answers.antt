@@ -1,4 +1,3 @@
--- The laws are those of `ToldPut`.
 use Rattle.trac_origins.proofs.ToldPut.{address_told, defined_told, fetched_told, segmented_told, stored_told, unaddressed_told, unfetched_told}
 use Rattle.trac_origins.proofs.lengths.puts_are_told_by_lengths.Goals as goal
 

@@ -1,11 +1,7 @@
 -- Each clause is computed from the definitions.
 use Rattle.std.proofs.Common.{rules}
-use Rattle.std.specs.Fmt.{digits}
 use Rattle.trac_origins.specs.Stepping.{origins}
-use Rattle.trac_rules.specs.Matching.{match_of}
-use Rattle.trac_rules.specs.Number.{calculated, difference_of, is_greater, number_of, numeral_of, prefix_of, product_of, quotient_of, sum_of, whole_number}
-use Rattle.trac_rules.specs.Performing.{performed}
-use Rattle.trac_rules.specs.Scanning.{scan}
+use Rattle.trac_rules.proofs.Opened.{calculated, difference_of, digits, is_greater, match_of, number_of, numeral_of, performed, prefix_of, product_of, quotient_of, scan, sum_of, whole_number}
 use Rattle.trac_origins.proofs.rows.worked_scanning.Goals as goal
 
 pub returns : goal.returns

@@ -1,21 +1,16 @@
-use Rattle.std.proofs.Common.{◌≡◌, ℕ, List, sym, ap, ◌∙◌, to_z, of_z}
+use Rattle.std.proofs.Common.{List, ℕ, sym, ap, ◌∙◌, to_z, of_z}
 use Rattle.std.specs.Int.{w128}
 use Rattle.std.proofs.lemmas.Int.{to_z-of_z}
 use Rattle.trac_rules.specs.Computing.{moved, octal_argument}
 use Rattle.trac_rules.specs.Effect.{gives}
-use Rattle.trac_rules.specs.Octal.{bits_of, shift}
-use Rattle.trac_rules.proofs.OctalTexts.{text_from_bits}
+use Rattle.trac_rules.specs.Octal.{shift}
+use Rattle.trac_prims.proofs.OctalCalls.{gives_moved}
 use Rattle.trac_prims.proofs.bits.shift_of.Goals as goal
 
 pub returns-in_ok-shift-in-Some-clause-made : goal.returns-in_ok-shift-in-Some-clause-made
 returns-in_ok-shift-in-Some-clause-made g c = λ storage.
-    let read_back : to_z w128 (of_z w128 c.in-Some.by) ≡ c.in-Some.by = to_z-of_z w128 c.in-Some.by search in
-    let bits = octal_argument 2 c.args.args.now in
-    let text = text_from_bits c.in_ok-shift-in-Some.field-0.items (shift c.in-Some.by bits) c.in_ok-shift-in-Some.ensures.octal
-    (c.in_ok-shift-in-Some.ensures.bits
-    ∙ ap (λ n. shift n (bits_of c.octal_at.result.now)) read_back
-    ∙ ap (λ (text : List ℕ). shift c.in-Some.by (bits_of text)) c.octal_at.ensures.value) in
-    ap (λ (t : List ℕ). gives t storage) (sym (text ∙ ap (λ n. moved shift n bits) c.in-Some.ensures))
+    gives_moved shift c.args.args.now c.in_ok-shift-in-Some.field-0.items c.octal_at.result.now (to_z w128 (of_z w128 c.in-Some.by)) c.in-Some.by _ storage c.in_ok-shift-in-Some.ensures.octal c.in_ok-shift-in-Some.ensures.bits
+    (to_z-of_z w128 c.in-Some.by search) c.octal_at.ensures.value c.in-Some.ensures
 
 pub returns-in-None-clause-made : goal.returns-in-None-clause-made
 returns-in-None-clause-made g c = λ storage.

@@ -1,4 +1,4 @@
-use Rattle.std.proofs.Common.{◌≡◌, ℕ, List, ap, arith, drop, length, sym, true, ◌<◌, ◌≤◌, ◌∙◌}
+use Rattle.std.proofs.Common.{◌≡◌, ℕ, List, ap, arith, drop, length, sym, true, ◌<◌, ◌≤◌, ◌∙◌, refl}
 use Rattle.std.specs.Prelude.{Vec, decimal}
 use Rattle.std.proofs.lemmas.List.{length-map}
 use Rattle.trac_forms.specs.Stored.{storage_in}
@@ -40,7 +40,7 @@ returns-clause-outcome g c = λ texts.
     changed_so c.args.args.now storage texts (MoveIn c.in_ok-held.held c.in_ok-name.name c.in_ok-address.address)
     (stored_so name names storage (texts_of c.in_ok-held.held.items) c.in_ok-name.name.items c.in_ok-address.address held (c.in_ok-name.ensures.items ∙ c.get-name.ensures)
     (c.in_ok-address.ensures.made ∙ ap (λ (n : ℕ). defined (decimal n)) c.block_count-number.ensures.count) few more may)
-    c.nothing.ensures
+    refl
 
 pub returns-clause-change : goal.returns-clause-change
 returns-clause-change g c =

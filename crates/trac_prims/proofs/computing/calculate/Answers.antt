@@ -7,7 +7,7 @@ use Rattle.trac_rules.specs.Effect.{argument, forces, gives_or_forces}
 use Rattle.trac_rules.specs.Number.{number_text, prefix_of}
 use Rattle.trac_change.specs.declared.change.Change.TheVariants.{Keep}
 use Rattle.trac_prims.specs.declared.effect.Deed.{Deed}
-use Rattle.trac_prims.specs.Effects.{IsDone}
+use Rattle.trac_prims.specs.Effects.{IsDone, nothing}
 use Rattle.trac_prims.proofs.Calculated.{calculated-None, calculated-Some}
 use Rattle.trac_prims.proofs.Kept.{as_said, given}
 use Rattle.trac_prims.proofs.computing.calculate.Goals as goal
@@ -19,9 +19,9 @@ returns-in_default g c = λ storage.
     let new = record old { value = c.extend_from_slice.new.self } in
     let other = argument 3 c.args.args.now in
     let added = c.in_ok-extend_from_slice.ensures.items ∙ ap (λ (text : List ℕ). old.value.items ++ text) c.get.ensures in
-    subst (λ o. IsDone c.args.args.now storage (Ok (gives_or_forces o other storage)) old new Keep (Ok (record c.nothing.result { forced = true }))) none
-    (as_said c.args.args.now storage old new (forces other storage) Keep (record c.nothing.result { forced = true }) added (sym (append-nil old.print.items)) refl
-    (ap (λ (d : Deed). record d { forced = true }) c.nothing.ensures))
+    subst (λ o. IsDone c.args.args.now storage (Ok (gives_or_forces o other storage)) old new Keep (Ok (record nothing { forced = true }))) none
+    (as_said c.args.args.now storage old new (forces other storage) Keep (record nothing { forced = true }) added (sym (append-nil old.print.items)) refl
+    refl)
 
 pub returns : goal.returns
 returns g c = λ storage.
@@ -32,9 +32,9 @@ returns g c = λ storage.
     let text = prefix_of first ++ number_text c.in-Some.n in
     let added : c.print_into.new.out.items ≡ old.value.items ++ text =
     c.in_ok-print_into.ensures.ok
-    ∙ ap (λ n. c.extend_from_slice-2.new.self.items ++ number_text n) read_back
-    ∙ ap (λ (before : List ℕ). before ++ number_text c.in-Some.n) (c.in_ok-extend_from_slice-2.ensures.items ∙ ap (λ (prefix : List ℕ). old.value.items ++ prefix) (c.read_tail.ensures.prefix ∙ ap prefix_of c.get-2.ensures))
+    ∙ ap (λ n. c.put_prefix.new.out.items ++ number_text n) read_back
+    ∙ ap (λ (before : List ℕ). before ++ number_text c.in-Some.n) (c.in_ok-put_prefix.ensures.items ∙ ap (λ (prefix : List ℕ). old.value.items ++ prefix) (c.read_tail.ensures.prefix ∙ ap prefix_of c.get-2.ensures))
     ∙ append_assoc old.value.items (prefix_of first) (number_text c.in-Some.n) in
     let some = calculated-Some (result_of c.args.operation) c.args.width first (argument 2 c.args.args.now) text c.in-Some.n c.in-Some.ensures refl in
-    subst (λ o. IsDone c.args.args.now storage (Ok (gives_or_forces o (argument 3 c.args.args.now) storage)) old new Keep (Ok c.nothing-2.result)) some
-    (given c.args.args.now storage old new text c.nothing-2.result added refl c.nothing-2.ensures)
+    subst (λ o. IsDone c.args.args.now storage (Ok (gives_or_forces o (argument 3 c.args.args.now) storage)) old new Keep (Ok nothing)) some
+    (given c.args.args.now storage old new text nothing added refl refl)

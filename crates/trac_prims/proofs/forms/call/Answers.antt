@@ -6,7 +6,7 @@ use Rattle.trac_rules.specs.Filling.{called}
 use Rattle.trac_rules.specs.Handling.{named_form, on_form}
 use Rattle.trac_rules.specs.Outcomes.{limited}
 use Rattle.trac_forms.specs.Stored.{storage_in}
-use Rattle.trac_prims.specs.Effects.{IsDone, pieces_fit}
+use Rattle.trac_prims.specs.Effects.{IsDone, pieces_fit, nothing}
 use Rattle.trac_change.specs.declared.change.Change.TheVariants.{Keep}
 use Rattle.trac_prims.proofs.Kept.{changed_so, given, value_beyond}
 use Rattle.trac_prims.proofs.forms.call.Goals as goal
@@ -25,7 +25,7 @@ returns-in_default g c = λ width.
     let missing : named_form c.args.args.now storage ≡ None = ap (finite.get storage.forms) (sym c.get.ensures) ∙ sym c.in_default.ensures.value in
     changed_so c.args.args.now storage c.args.made.now Keep
     (ap (λ h. on_form h (λ form. Ok (gives (called (drop 2 c.args.args.now) form) storage)) storage) missing)
-    c.nothing.ensures
+    refl
 
 pub returns : goal.returns
 returns g c = λ width.
@@ -37,6 +37,6 @@ returns g c = λ width.
     ∙ ap (λ (before : List ℕ). before ++ called c.after-texts.result c.in-Some.form.now) c.in_ok-reserve.ensures.items
     ∙ ap (λ (texts : List (List ℕ)). c.args.made.now.value.items ++ called texts c.in-Some.form.now) c.after-texts.ensures in
     let new = record c.args.made.now { value = c.call_into.new.out } in
-    subst (λ o. IsDone c.args.args.now storage o c.args.made.now new Keep (Ok c.nothing-2.result))
+    subst (λ o. IsDone c.args.args.now storage o c.args.made.now new Keep (Ok nothing))
     (sym (ap (λ h. on_form h (λ form. Ok (gives (called (drop 2 c.args.args.now) form) storage)) storage) held))
-    (given c.args.args.now storage c.args.made.now new text c.nothing-2.result added refl c.nothing-2.ensures)
+    (given c.args.args.now storage c.args.made.now new text nothing added refl refl)

@@ -3,6 +3,7 @@ use Rattle.trac_rules.specs.declared.limit.TheConstants.{TEXT_LIMIT}
 use Rattle.trac_rules.specs.Effect.{argument}
 use Rattle.trac_rules.specs.Listing.{listed}
 use Rattle.trac_forms.specs.Stored.{storage_in}
+use Rattle.trac_prims.specs.Effects.{nothing}
 use Rattle.trac_prims.proofs.Listed.{listed_names}
 use Rattle.trac_prims.proofs.Kept.{given, value_beyond}
 use Rattle.trac_prims.proofs.forms.list_names.Goals as goal
@@ -27,4 +28,4 @@ returns g c = λ width.
     c.in_ok-list_into.ensures.ok
     ∙ ap (λ (before : List ℕ). before ++ flat_map (λ name. c.get-text.result.now ++ name.now) c.as_slice-2.result.now) c.in_ok-reserve.ensures.items
     ∙ ap (λ (text : List ℕ). old.value.items ++ text) same in
-    given c.args.args.now storage old (record old { value = c.list_into.new.out }) all c.nothing.result added refl c.nothing.ensures
+    given c.args.args.now storage old (record old { value = c.list_into.new.out }) all nothing added refl refl

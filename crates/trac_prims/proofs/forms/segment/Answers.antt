@@ -1,4 +1,4 @@
-use Rattle.std.proofs.Common.{◌≡◌, ℕ, List, Ok, Some, drop, sym, ap, ◌∙◌}
+use Rattle.std.proofs.Common.{◌≡◌, ℕ, List, Ok, Some, drop, sym, ap, ◌∙◌, refl}
 use Rattle.std.specs.FinMap as finite
 use Rattle.trac_forms.specs.Stored.{storage_in}
 use Rattle.trac_rules.specs.Effect.{argument, leaves}
@@ -34,4 +34,4 @@ returns-clause-outcome g c = λ width texts.
     (is_segmented (argument 1 c.args.args.now) given (named_form c.args.args.now storage) form storage held
     (ap (λ (name : List ℕ). may_be_put name (segmented given form) storage.forms) (sym c.get-name.ensures) ∙ sym may)
     ∙ ap (λ (name : List ℕ). Ok (leaves (cut_in name given (finite.get storage.forms name) storage))) named)
-    c.nothing-2.ensures
+    refl

@@ -27,4 +27,13 @@ pub returns-in-PrintForm-clause-change : goal.returns-in-PrintForm-clause-change
 returns-in-PrintForm-clause-change g c = rw c.in-PrintForm.is (keeps_so (Handle action.PrintForm) c.args.args.now (storage_in c.args.store.now) c.args.change.now c.print_form.result refl c.requires.keeps)
 
 pub returns-in-Define : goal.returns-in-Define
-returns-in-Define g c = record { outcome = c.plan_form_change.ensures.outcome c.args.width c.args.made.now; change = c.plan_form_change.ensures.change }
+returns-in-Define g c = rw c.in-Define.is (record { outcome = c.define.ensures.outcome c.args.width c.args.made.now; change = c.define.ensures.change })
+
+pub returns-in-Delete : goal.returns-in-Delete
+returns-in-Delete g c = rw c.in-Delete.is (record { outcome = c.delete.ensures.outcome (storage_in c.args.store.now) c.args.width c.args.made.now; change = c.delete.ensures.change (storage_in c.args.store.now) })
+
+pub returns-in-Segment : goal.returns-in-Segment
+returns-in-Segment g c = rw c.in-Segment.is (record { outcome = c.segment.ensures.outcome c.args.width c.args.made.now; change = c.segment.ensures.change })
+
+pub returns-in-Restore : goal.returns-in-Restore
+returns-in-Restore g c = rw c.in-Restore.is (record { outcome = c.restore.ensures.outcome c.args.width c.args.made.now; change = c.restore.ensures.change })

@@ -11,7 +11,7 @@ use Rattle.trac_rules.proofs.Steps.{effect_within}
 use Rattle.trac_forms.specs.Stored.{storage_in}
 use Rattle.trac_change.specs.declared.change.Change.TheVariants.{Keep}
 use Rattle.trac_prims.specs.declared.effect.Deed.{Deed}
-use Rattle.trac_prims.specs.Effects.{IsDone}
+use Rattle.trac_prims.specs.Effects.{IsDone, nothing}
 use Rattle.trac_prims.proofs.Kept.{changed_so, keeps_so, left_so, meta_given}
 use Rattle.trac_prims.proofs.ReadCounts.{done_unread}
 use Rattle.trac_prims.proofs.planning.perform.Goals as goal
@@ -51,15 +51,15 @@ returns-in-SetMeta-clause-outcome g c = λ s known.
     let text = argument 1 c.args.args.now in
     let first = c.copied.ensures ∙ c.first.ensures.value ∙ ap (λ (t : List ℕ). slice_get t 0) c.get.ensures in
     rw (c.in-SetMeta.is, c.requires.keeps)
-    (subst (λ (e : Effect). IsDone c.args.args.now (storage_of s) (Ok e) c.args.made.now c.args.made.now Keep (Ok (record c.nothing.result { meta = c.copied.result }))) (sym (meta_given text (storage_of s)))
-    (left_so c.args.args.now (storage_of s) c.args.made.now (record (leaves (storage_of s)) { meta = slice_get text 0 }) Keep (record c.nothing.result { meta = c.copied.result }) refl refl refl
-    (ap (λ (d : Deed). record d { meta = c.copied.result }) c.nothing.ensures ∙ ap (λ meta. record { forced = false; read = 0; meta = meta; trace = None }) first)))
+    (subst (λ (e : Effect). IsDone c.args.args.now (storage_of s) (Ok e) c.args.made.now c.args.made.now Keep (Ok (record nothing { meta = c.copied.result }))) (sym (meta_given text (storage_of s)))
+    (left_so c.args.args.now (storage_of s) c.args.made.now (record (leaves (storage_of s)) { meta = slice_get text 0 }) Keep (record nothing { meta = c.copied.result }) refl refl refl
+    (ap (λ meta. record { forced = false; read = 0; meta = meta; trace = None }) first)))
 
 pub returns-in-SetTrace-clause-outcome : goal.returns-in-SetTrace-clause-outcome
 returns-in-SetTrace-clause-outcome g c = λ s known.
     rw (c.in-SetTrace.is, c.requires.keeps)
-    (left_so c.args.args.now (storage_of s) c.args.made.now (sets_trace c.in-SetTrace.trace (storage_of s)) Keep (record c.nothing-in-SetTrace.result { trace = Some c.in-SetTrace.trace }) refl refl refl
-    (ap (λ (d : Deed). record d { trace = Some c.in-SetTrace.trace }) c.nothing-in-SetTrace.ensures))
+    (left_so c.args.args.now (storage_of s) c.args.made.now (sets_trace c.in-SetTrace.trace (storage_of s)) Keep (record nothing { trace = Some c.in-SetTrace.trace }) refl refl refl
+    refl)
 
 pub returns-in-Compute-clause-outcome : goal.returns-in-Compute-clause-outcome
 returns-in-Compute-clause-outcome g c = λ s known. rw (c.in-Compute.is, c.requires.keeps) (c.compute.ensures (storage_of s))
@@ -96,4 +96,4 @@ returns-in-HandleBlock-clause-change g c = rw c.in-HandleBlock.is c.plan_block_c
 
 pub returns-in-Unknown-clause-outcome : goal.returns-in-Unknown-clause-outcome
 returns-in-Unknown-clause-outcome g c = λ s known.
-    rw (c.in-Unknown.is, c.requires.keeps) (changed_so c.args.args.now (storage_of s) c.args.made.now Keep refl c.nothing-in-Unknown.ensures)
+    rw (c.in-Unknown.is, c.requires.keeps) (changed_so c.args.args.now (storage_of s) c.args.made.now Keep refl refl)

@@ -1,4 +1,4 @@
-use Rattle.std.proofs.Common.{◌≡◌, ℕ, List, Ok, Some, None, sym, ap, subst, ◌∙◌}
+use Rattle.std.proofs.Common.{◌≡◌, ℕ, List, Ok, Some, None, sym, ap, subst, ◌∙◌, refl}
 use Rattle.std.specs.FinMap as finite
 use Rattle.std.specs.Prelude.{option_map}
 use Rattle.trac_forms.specs.Stored.{storage_in}
@@ -48,4 +48,4 @@ returns-in_default-clause-outcome g c =
     rw c.requires
     (changed_so c.args.args.now storage c.args.made.now Keep
     (ap (λ h. on_form h (λ form. Ok (form_read c.args.reading c.args.width c.args.args.now form storage)) storage) missing)
-    c.nothing.ensures)
+    refl)

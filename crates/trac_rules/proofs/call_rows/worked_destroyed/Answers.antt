@@ -1,8 +1,7 @@
 -- Each clause is computed with the forms in a list.
 use Rattle.std.proofs.Common.{rules}
-use Rattle.std.specs.Fmt.{digits}
-use Rattle.trac_rules.specs.Segmenting.{cut_out, part}
 use Rattle.trac_rules.proofs.CallRows.{destroys}
+use Rattle.trac_rules.proofs.Opened.{cut_out, digits, part}
 use Rattle.trac_rules.proofs.call_rows.worked_destroyed.Goals as goal
 
 pub returns : goal.returns

@@ -1,4 +1,4 @@
--- The laws are those of `Released`, and `GoingOn` says what a settled state is.
+-- `GoingOn` says what a settled state is.
 use Rattle.std.proofs.Common.{◌∙◌}
 use Rattle.trac_rules.specs.Session.{first_kept}
 use Rattle.trac_rules.proofs.GoingOn.{settled_is}

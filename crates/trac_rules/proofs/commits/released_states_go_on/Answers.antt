@@ -1,4 +1,3 @@
--- The laws are those of `Released`.
 use Rattle.trac_rules.specs.Session.{over}
 use Rattle.trac_rules.proofs.Released.{before-released, loss-released, refused-released, step-released, step_weight-released}
 use Rattle.trac_rules.proofs.commits.released_states_go_on.Goals as goal

@@ -1,13 +1,6 @@
 -- Each clause is computed from the definitions.
 use Rattle.std.proofs.Common.{rules}
-use Rattle.trac_rules.specs.Doubts.{doubts}
-use Rattle.trac_rules.specs.Limits.{texts_fit}
-use Rattle.trac_rules.specs.Matching.{match_of}
-use Rattle.trac_rules.specs.Number.{calculated, number_of, numeral_of, prefix_of, quotient_of, whole_number, sum_of, difference_of, product_of}
-use Rattle.trac_rules.specs.Performing.{performed}
-use Rattle.trac_rules.specs.Scanning.{scan}
-use Rattle.trac_rules.specs.Session.{answer}
-use Rattle.trac_rules.specs.Stepping.{step}
+use Rattle.trac_rules.proofs.Opened.{answer, calculated, difference_of, doubts, match_of, number_of, numeral_of, performed, prefix_of, product_of, quotient_of, scan, step, sum_of, texts_fit, whole_number}
 use Rattle.trac_rules.proofs.doubt_rows.worked_scanning_doubts.Goals as goal
 
 pub returns : goal.returns

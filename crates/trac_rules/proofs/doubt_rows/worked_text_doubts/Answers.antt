@@ -1,8 +1,7 @@
 -- Each clause is computed with the forms in a list.
 use Rattle.std.proofs.Common.{rules}
-use Rattle.std.specs.Fmt.{digits}
-use Rattle.trac_rules.specs.Number.{calculated, difference_of, number_of, numeral_of, prefix_of, product_of, quotient_of, sum_of, whole_number}
 use Rattle.trac_rules.proofs.DoubtRows.{raises}
+use Rattle.trac_rules.proofs.Opened.{calculated, difference_of, digits, number_of, numeral_of, prefix_of, product_of, quotient_of, sum_of, whole_number}
 use Rattle.trac_rules.proofs.doubt_rows.worked_text_doubts.Goals as goal
 
 pub returns : goal.returns

@@ -1,4 +1,3 @@
--- The law is that of `BlocksStay`.
 use Rattle.trac_rules.proofs.BlocksStay as stay
 use Rattle.trac_rules.proofs.laws.blocks_stay.Goals as goal
 

@@ -1,4 +1,3 @@
--- The law is that of `Addresses`.
 use Rattle.std.proofs.Common.{arith}
 use Rattle.trac_rules.proofs.Addresses.{addressed_alone}
 use Rattle.trac_rules.proofs.laws.one_block_is_addressed.Goals as goal

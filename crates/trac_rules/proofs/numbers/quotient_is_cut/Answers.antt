@@ -1,4 +1,3 @@
--- The law is that of `Calculated`.
 use Rattle.trac_rules.proofs.Calculated.{quotient_is_cut}
 use Rattle.trac_rules.proofs.numbers.quotient_is_cut.Goals as goal
 

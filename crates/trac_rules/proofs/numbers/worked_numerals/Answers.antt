@@ -1,7 +1,6 @@
 -- Each clause is computed from the definitions.
 use Rattle.std.proofs.Common.{rules}
-use Rattle.std.specs.Fmt.{digits}
-use Rattle.trac_rules.specs.Number.{calculated, difference_of, is_greater, number_of, numeral_of, prefix_of, product_of, quotient_of, sum_of, whole_number}
+use Rattle.trac_rules.proofs.Opened.{calculated, difference_of, digits, is_greater, number_of, numeral_of, prefix_of, product_of, quotient_of, sum_of, whole_number}
 use Rattle.trac_rules.proofs.numbers.worked_numerals.Goals as goal
 
 pub returns : goal.returns

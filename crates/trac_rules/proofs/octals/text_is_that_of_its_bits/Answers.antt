@@ -1,4 +1,3 @@
--- The law is that of `OctalTexts`.
 use Rattle.trac_rules.proofs.OctalTexts.{text_of-bits_of}
 use Rattle.trac_rules.proofs.octals.text_is_that_of_its_bits.Goals as goal
 

@@ -1,27 +1,21 @@
 -- Each clause is computed from the definitions; that a whole session is led back is the law.
-use Rattle.std.proofs.Common.{◌≡◌, [], ◌∷◌, ◌∙◌, ap, codes, length, refl, rules, replicate, subst, sym}
+use Rattle.std.proofs.Common.{◌≡◌, ◌∙◌, ap, length, refl, rules, subst, sym}
 use Rattle.std.specs.Prelude.{Some}
-use Rattle.trac_rules.specs.Limits.{texts_fit}
-use Rattle.trac_rules.specs.Matching.{match_of}
-use Rattle.trac_rules.specs.Performing.{performed}
-use Rattle.trac_rules.specs.Records.{state_before}
-use Rattle.trac_rules.specs.Rows.{session_after}
-use Rattle.trac_rules.specs.Scanning.{scan}
+use Rattle.trac_rules.specs.Rows.{fed, session_of}
 use Rattle.trac_rules.specs.Proper.{IsProper}
-use Rattle.trac_rules.specs.Session.{Feed, PlainSession, Step, answer, new_session, repeated}
+use Rattle.trac_rules.specs.Session.{PlainSession, Step, repeated}
 use Rattle.trac_rules.specs.State.{initial}
-use Rattle.trac_rules.specs.Stepping.{step}
-use Rattle.trac_rules.specs.declared.width.Width.TheVariants.{W128}
 use Rattle.trac_rules.proofs.ProperStates.{initial_proper}
 use Rattle.trac_rules.proofs.StepsBack.{all_go_back}
+use Rattle.trac_rules.proofs.Opened.{answer, match_of, performed, scan, state_before, step, texts_fit}
 use Rattle.trac_rules.proofs.records.worked_records.Goals as goal
 
 -- the session before its steps, and after them
 abbrev first : PlainSession
-first = session_after (Feed (codes "a)b,c'") ∷ []) (new_session 64 W128)
+first = session_of (fed "a)b,c'" 0)
 
 abbrev final : PlainSession
-final = session_after (Feed (codes "a)b,c'") ∷ replicate 22 Step) (new_session 64 W128)
+final = session_of (fed "a)b,c'" 22)
 
 begins : first.last ≡ initial
 unfolding answer

@@ -1,13 +1,6 @@
 -- Each clause is computed from the definitions.
 use Rattle.std.proofs.Common.{rules}
-use Rattle.std.specs.Fmt.{digits}
-use Rattle.trac_rules.specs.Limits.{texts_fit}
-use Rattle.trac_rules.specs.Matching.{match_of}
-use Rattle.trac_rules.specs.Number.{calculated, difference_of, is_greater, number_of, numeral_of, prefix_of, product_of, quotient_of, sum_of, whole_number}
-use Rattle.trac_rules.specs.Performing.{performed}
-use Rattle.trac_rules.specs.Running.{output_from}
-use Rattle.trac_rules.specs.Scanning.{scan}
-use Rattle.trac_rules.specs.Stepping.{step}
+use Rattle.trac_rules.proofs.Opened.{calculated, difference_of, digits, is_greater, match_of, number_of, numeral_of, output_from, performed, prefix_of, product_of, quotient_of, scan, step, sum_of, texts_fit, whole_number}
 use Rattle.trac_rules.proofs.rows.worked_calls.Goals as goal
 
 pub returns : goal.returns

@@ -1,8 +1,7 @@
 -- Each clause is computed with the forms in a list.
 use Rattle.std.proofs.Common.{rules}
-use Rattle.std.specs.Fmt.{digits}
-use Rattle.trac_rules.specs.Segmenting.{part, cut_out}
 use Rattle.trac_rules.proofs.FormCalls.{does}
+use Rattle.trac_rules.proofs.Opened.{cut_out, digits, part}
 use Rattle.trac_rules.proofs.rows.worked_form_calls.Goals as goal
 
 pub returns : goal.returns

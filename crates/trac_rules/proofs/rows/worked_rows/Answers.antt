@@ -1,12 +1,6 @@
 -- Each clause is computed from the definitions.
 use Rattle.std.proofs.Common.{rules}
-use Rattle.trac_rules.specs.Limits.{texts_fit}
-use Rattle.trac_rules.specs.Matching.{match_of}
-use Rattle.trac_rules.specs.Performing.{performed}
-use Rattle.trac_rules.specs.Running.{output_from}
-use Rattle.trac_rules.specs.Scanning.{scan}
-use Rattle.trac_rules.specs.Session.{answer}
-use Rattle.trac_rules.specs.Stepping.{step}
+use Rattle.trac_rules.proofs.Opened.{answer, match_of, output_from, performed, scan, step, texts_fit}
 use Rattle.trac_rules.proofs.rows.worked_rows.Goals as goal
 
 pub returns : goal.returns

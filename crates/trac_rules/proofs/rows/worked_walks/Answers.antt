@@ -1,30 +1,25 @@
 -- Each clause is computed from the definitions.
-use Rattle.std.proofs.Common.{◌≡◌, ◌++◌, ◌∷◌, [], codes, replicate, refl, sym, ◌∙◌, arith, inl}
-use Rattle.trac_rules.specs.Limits.{texts_fit}
-use Rattle.trac_rules.specs.Matching.{match_of}
-use Rattle.trac_rules.specs.Performing.{performed}
-use Rattle.trac_rules.specs.Rows.{state_after}
-use Rattle.trac_rules.specs.Scanning.{scan}
-use Rattle.trac_rules.specs.Session.{Back, Feed, Step, answer, new_session}
+use Rattle.std.proofs.Common.{◌≡◌, ◌++◌, ◌∷◌, [], codes, refl, sym, ◌∙◌, arith, inl}
+use Rattle.trac_rules.specs.Rows.{begun, fed, state_of}
+use Rattle.trac_rules.specs.Session.{Back, Feed, Step}
 use Rattle.trac_rules.specs.State.{State, initial}
-use Rattle.trac_rules.specs.Stepping.{step}
 use Rattle.trac_rules.specs.declared.kind.Kind.TheVariants.{Active}
-use Rattle.trac_rules.specs.declared.width.Width.TheVariants.{W128}
+use Rattle.trac_rules.proofs.Opened.{answer, match_of, performed, scan, step, texts_fit}
 use Rattle.trac_rules.proofs.rows.worked_walks.Goals as goal
 
 -- the state in which the text is read
 resumed : State
 resumed = record initial {
   active = codes "AB)";
-  frames = record { kind = Active; arguments = codes "ps" ∷ []; gathered = [] } ∷ [];
+  frames = begun Active (codes "ps" ∷ []) [] ∷ [];
   position = 3;
 }
 
-resumed-first : state_after (Feed (codes "AB") ∷ replicate 8 Step ++ Feed (codes "'") ∷ Step ∷ []) (new_session 64 W128) ≡ resumed
+resumed-first : state_of (fed "AB" 8 ++ Feed (codes "'") ∷ Step ∷ []) ≡ resumed
 unfolding match_of scan texts_fit performed step answer resumed
 resumed-first = refl
 
-resumed-second : state_after (Feed (codes "AB") ∷ replicate 8 Step ++ Feed (codes "'") ∷ Step ∷ Back ∷ Feed (codes "C'") ∷ Step ∷ []) (new_session 64 W128) ≡ resumed
+resumed-second : state_of (fed "AB" 8 ++ Feed (codes "'") ∷ Step ∷ Back ∷ Feed (codes "C'") ∷ Step ∷ []) ≡ resumed
 unfolding match_of scan texts_fit performed step answer resumed
 resumed-second = refl
 

@@ -1,4 +1,3 @@
--- The law is that of `Cutting`.
 use Rattle.trac_rules.proofs.Cutting.{filled-segmented}
 use Rattle.trac_rules.proofs.segmenting.filling_undoes_segmenting.Goals as goal
 

@@ -1,4 +1,3 @@
--- The law is that of `Cutting`.
 use Rattle.trac_rules.proofs.Cutting.{extent-segmented}
 use Rattle.trac_rules.proofs.segmenting.segmenting_keeps_the_extent.Goals as goal
 

@@ -1,4 +1,3 @@
--- The entry of this number, by its name.
 use Rattle.std.proofs.Common.{◌≡◌, sym, ap, ◌∙◌}
 use Rattle.std.specs.Prelude.{Some, slice_get}
 use Rattle.trac_forms.specs.Stored.{Gathered}

@@ -1,4 +1,3 @@
--- There are no names.
 use Rattle.std.proofs.Common.{ap, subst, sym}
 use Rattle.trac_forms.specs.Stored.{AreApart}
 use Rattle.trac_forms.specs.Table.{named}

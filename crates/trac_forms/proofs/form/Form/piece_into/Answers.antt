@@ -1,4 +1,3 @@
--- The bytes before the pointer, and then those after it.
 use Rattle.std.proofs.Common.{◌≡◌, ◌-◌, ◌++◌, ℕ, List, length, drop, min, take, ap, subst, ◌∙◌}
 use Rattle.std.specs.Prelude.{OnOk}
 use Rattle.trac_rules.specs.declared.item.Item.{Item}

@@ -1,4 +1,3 @@
--- The bytes up to the place that was reached.
 use Rattle.std.proofs.Common.{refl}
 use Rattle.trac_forms.proofs.Passing.{reads_next, there_on}
 use Rattle.trac_forms.proofs.form.Form.read_next.Goals as goal

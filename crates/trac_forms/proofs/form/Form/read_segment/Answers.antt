@@ -1,4 +1,3 @@
--- The bytes up to the first gap.
 use Rattle.std.proofs.Common.{refl, sym, ◌∙◌}
 use Rattle.std.proofs.lemmas.Bool.{eq-eqb, true≢false}
 use Rattle.trac_forms.proofs.Passing.{reads_segment, there_on}

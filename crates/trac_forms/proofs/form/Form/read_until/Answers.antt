@@ -1,4 +1,3 @@
--- The bytes up to the first occurrence.
 use Rattle.trac_forms.proofs.Passing.{reads_until, there_until}
 use Rattle.trac_forms.proofs.form.Form.read_until.Goals as goal
 

@@ -1,4 +1,3 @@
--- There is room for all bytes as items.
 use Rattle.trac_forms.proofs.Divided.{room_held}
 use Rattle.trac_forms.proofs.form.Form.segment.Goals as goal
 

@@ -1,6 +1,5 @@
--- The entries have no form any more.
 use Rattle.trac_forms.proofs.Tables.{cleared}
 use Rattle.trac_forms.proofs.store.Store.clear.Goals as goal
 
 pub returns : goal.returns
-returns g c = cleared (λ k. k) c.self.inside.table.entries _ c.args.self.now c.self.view_is _ c.take_values.ensures.taken
+returns g c = cleared c.self.inside.table.entries _ c.args.self.now c.self.view_is _ c.take_values.ensures.taken

@@ -7,5 +7,5 @@ use Rattle.trac_forms.proofs.store.Store.form_count.Goals as goal
 pub returns : goal.returns
 returns g c =
     sym
-    (counted (λ k. k) c.self.inside.table.entries _ c.args.self.now c.self.view_is c.len-len.ensures.unique
+    (counted c.self.inside.table.entries _ c.args.self.now c.self.view_is c.len-len.ensures.unique
     ∙ parted_count c.self.inside.table.entries c.self.inside.live c.self.invariant)

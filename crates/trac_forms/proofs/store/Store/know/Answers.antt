@@ -10,7 +10,7 @@ use Rattle.trac_forms.proofs.store.Store.know.Goals as goal
 pub returns-then-contains_key-clause-known : goal.returns-then-contains_key-clause-known
 returns-then-contains_key-clause-known g c =
     let there : set.contains c.args.self.now.known c.args.name.now ≡ true =
-    name_found (λ k. k) c.self.inside.table.entries _ c.args.self.now c.self.view_is c.args.name.now ∙ sym c.if-contains_key.ensures in
+    name_found c.self.inside.table.entries _ c.args.self.now c.self.view_is c.args.name.now ∙ sym c.if-contains_key.ensures in
     ap (λ names. record c.args.self.now { known = names }) (sym (known_again c.args.self.now.known c.args.name.now there))
 
 pub add_name-requires : goal.add_name-requires
@@ -19,12 +19,12 @@ add_name-requires g c = none_of_false _ (sym c.if-contains_key.ensures)
 pub returns-clause-known : goal.returns-clause-known
 returns-clause-known g c =
     on_ok_weaker c.add_name.result
-    (made_known (λ k. k) c.self.inside.table.entries _ c.args.self.now c.self.view_is c.args.name.now _)
+    (made_known c.self.inside.table.entries _ c.args.self.now c.self.view_is c.args.name.now _)
     c.add_name.ensures.added
 
 pub returns-clause-again : goal.returns-clause-again
 returns-clause-again g c = λ there.
-    absurd (false≢true (c.if-contains_key.ensures ∙ sym (name_found (λ k. k) c.self.inside.table.entries _ c.args.self.now c.self.view_is c.args.name.now) ∙ there))
+    absurd (false≢true (c.if-contains_key.ensures ∙ sym (name_found c.self.inside.table.entries _ c.args.self.now c.self.view_is c.args.name.now) ∙ there))
 
 pub invariant_of-self : goal.invariant_of-self
 invariant_of-self g c =

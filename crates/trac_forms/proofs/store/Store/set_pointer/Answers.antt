@@ -1,31 +1,28 @@
 -- The form of the name is changed in its entry, where it has one.
 use Rattle.std.proofs.Common.{length, sym, ap, ◌∙◌}
-use Rattle.std.specs.Prelude.{Option, None, option_map}
+use Rattle.std.specs.Prelude.{option_map}
 use Rattle.trac_rules.specs.Form.{Form, all_items, pointed_at}
-use Rattle.trac_forms.proofs.Tables.{changed_in_place, form_found, kept_parted, none_changed, none_of_false}
+use Rattle.trac_forms.proofs.Tables.{changed_in_place, form_found, kept_parted, no_form, none_changed}
 use Rattle.trac_forms.proofs.store.Store.set_pointer.Goals as goal
 
 pub returns-in_err-i-clause-old : goal.returns-in_err-i-clause-old
 returns-in_err-i-clause-old g c =
-    let none = form_found (λ k. k) c.self.inside.table.entries _ c.args.self.now c.self.view_is c.args.name.now None (sym (none_of_false _ (sym c.in_err-i.ensures.found))) in
-    c.from_residual.ensures ∙ ap (λ (found : Option Form). option_map (λ form. length form.before) found) (sym none)
+    c.from_residual.ensures ∙ ap (option_map (λ (form : Form). length form.before)) (sym (no_form c.self.inside.table.entries _ c.args.self.now c.self.view_is c.args.name.now (sym c.in_err-i.ensures.found)))
 
 pub returns-in_err-i-clause-set : goal.returns-in_err-i-clause-set
 returns-in_err-i-clause-set g c =
-    none_changed (λ k. k) c.self.inside.table.entries _ c.args.self.now c.self.view_is c.args.name.now (λ form. pointed_at c.args.place (all_items form))
-    (form_found (λ k. k) c.self.inside.table.entries _ c.args.self.now c.self.view_is c.args.name.now None (sym (none_of_false _ (sym c.in_err-i.ensures.found))))
+    none_changed c.self.inside.table.entries _ c.args.self.now c.self.view_is c.args.name.now (sym c.in_err-i.ensures.found) (λ form. pointed_at c.args.place (all_items form))
 
 pub invariant_of-self : goal.invariant_of-self
 invariant_of-self g c =
-    kept_parted c.self.inside.table.entries c.self.inside.live c.self.invariant c.in_ok-i.i (λ form. pointed_at c.args.place (all_items form)) c.point_at.new.table.entries c.in_ok-i.ensures.within c.point_at.ensures.set
+    kept_parted c.self.inside.table.entries c.self.inside.live c.self.invariant c.in_ok-i.i (λ form. pointed_at c.args.place (all_items form)) c.point_at.new.table.entries
+    c.in_ok-i.ensures.within c.point_at.ensures.set
 
 pub returns-clause-old : goal.returns-clause-old
 returns-clause-old g c =
-    let found = form_found (λ k. k) c.self.inside.table.entries _ c.args.self.now c.self.view_is c.args.name.now _ c.in_ok-i.ensures.value in
-    c.point_at.ensures.old ∙ ap (λ (found : Option Form). option_map (λ form. length form.before) found) (sym found)
+    c.point_at.ensures.old ∙ ap (option_map (λ (form : Form). length form.before)) (sym (form_found c.self.inside.table.entries _ c.args.self.now c.self.view_is c.args.name.now _ c.in_ok-i.ensures.value))
 
 pub returns-clause-set : goal.returns-clause-set
 returns-clause-set g c =
-    let found = form_found (λ k. k) c.self.inside.table.entries _ c.args.self.now c.self.view_is c.args.name.now _ c.in_ok-i.ensures.value in
-    changed_in_place (λ k. k) c.self.inside.table.entries _ c.args.self.now c.self.view_is c.args.name.now c.in_ok-i.i (λ form. pointed_at c.args.place (all_items form)) _ c.point_at.new.table.entries
-    (sym c.in_ok-i.ensures.index) c.in_ok-i.ensures.unique found c.point_at.ensures.set
+    changed_in_place c.self.inside.table.entries _ c.args.self.now c.self.view_is c.args.name.now c.in_ok-i.i (λ form. pointed_at c.args.place (all_items form)) _ c.point_at.new.table.entries
+    (sym c.in_ok-i.ensures.index) c.in_ok-i.ensures.unique c.in_ok-i.ensures.value c.point_at.ensures.set

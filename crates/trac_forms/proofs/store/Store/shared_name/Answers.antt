@@ -13,7 +13,7 @@ pub returns-in_err-key-clause-none : goal.returns-in_err-key-clause-none
 returns-in_err-key-clause-none g c =
     subst (λ shared. IfNone shared (IsTrue (set.contains c.args.self.now.known c.args.name.now) → length c.args.name.now ≤ 256)) (sym c.from_residual.ensures)
     (λ known.
-    absurd (false≢true (ap is_some c.in_err-key.ensures.value ∙ sym (name_found (λ k. k) c.self.inside.table.entries _ c.args.self.now c.self.view_is c.args.name.now) ∙ known)))
+    absurd (false≢true (ap is_some c.in_err-key.ensures.value ∙ sym (name_found c.self.inside.table.entries _ c.args.self.now c.self.view_is c.args.name.now) ∙ known)))
 
 pub returns-clause-none : goal.returns-clause-none
 returns-clause-none g c =
@@ -30,4 +30,4 @@ returns-clause-long g c = subst (λ k. IfSome c.shared.result (λ _. 256 < lengt
 pub returns-clause-known : goal.returns-clause-known
 returns-clause-known g c =
     if_some (IsTrue (set.contains c.args.self.now.known c.args.name.now)) c.shared.result
-    (name_found (λ k. k) c.self.inside.table.entries _ c.args.self.now c.self.view_is c.args.name.now ∙ ap is_some (sym c.in_ok-key.ensures.value))
+    (name_found c.self.inside.table.entries _ c.args.self.now c.self.view_is c.args.name.now ∙ ap is_some (sym c.in_ok-key.ensures.value))

@@ -1,6 +1,5 @@
--- The entries without a form are gone.
 use Rattle.trac_forms.proofs.Tables.{emptied}
 use Rattle.trac_forms.proofs.store.Store.sweep.Goals as goal
 
 pub returns : goal.returns
-returns g c = emptied (λ k. k) c.self.inside.table.entries _ c.args.self.now c.self.view_is _ c.drop_empty.ensures.kept c.drop_empty.ensures.unique
+returns g c = emptied c.self.inside.table.entries _ c.args.self.now c.self.view_is _ c.drop_empty.ensures.kept c.drop_empty.ensures.unique

@@ -15,11 +15,15 @@ push_idle-requires-clause-light g c =
     let same : Idle c.in_ok-base.base.items (frames_in c.in_ok-base.frames.items) ≡ Idle c.args.self.now.state.base c.args.self.now.state.frames = λ i. Idle (kept.0 i) (kept.1 i) in
     subst IsLight (sym same) (idle_light c.args.self.now.state c.requires.proper c.requires.front)
 
-pub returns-clause-ok : goal.returns-clause-ok
-returns-clause-ok g c = scan_front c.args.self.now.state Nothing c.requires.front ∙ ap Moves (sym c.in_ok-base.ensures.ok)
-
-pub returns-clause-kept : goal.returns-clause-kept
-returns-clause-kept g c =
+pub returns : goal.returns
+returns g c =
     let kept = c.in_ok-base.ensures.kept in
     let is = recorded_front c.args.self.now.state Nothing c.requires.front in
-    c.push_idle.ensures ∙ (λ i. Idle (kept.0 i) (kept.1 i) ∷ c.reserve_idle.ensures.same i) ∙ ap (λ r. r ∷ c.args.journal.now.records) (sym is)
+    record {
+      ok = scan_front c.args.self.now.state Nothing c.requires.front ∙ ap Moves (sym c.in_ok-base.ensures.ok);
+      kept = c.push_idle.ensures ∙ (λ i. Idle (kept.0 i) (kept.1 i) ∷ c.reserve_idle.ensures.same i) ∙ ap (λ r. r ∷ c.args.journal.now.records) (sym is);
+      unchanged = tt;
+      lacking = tt;
+      err = tt;
+      room = c.reload.ensures.room;
+    }

@@ -5,20 +5,29 @@ use Rattle.trac_journal.specs.Journaled.{HasPlaceForCall, IsLight}
 use Rattle.trac_journal.specs.Listed.{AreSmall}
 use Rattle.trac_journal.specs.Told.{record_with}
 use Rattle.trac_change.specs.Undone.{undone_in}
+use Rattle.trac_step.specs.Layout.{parts_of}
+use Rattle.trac_step.proofs.Finishing.{begun_here, given_here}
 use Rattle.trac_step.proofs.engine.Core.keep_call.Goals as goal
 
-pub push_call-requires-clause-small : goal.push_call-requires-clause-small
-push_call-requires-clause-small g c =
-    subst (λ (texts : List (List ℕ)). AreSmall c.args.plan.now.called (length (concat texts)) (length texts)) (sym c.arguments-arguments.ensures) c.requires.fits.small
+pub arguments_at-arguments-requires : goal.arguments_at-arguments-requires
+arguments_at-arguments-requires g c =
+    let i = c.self.inside in
+    begun_here (parts_of (g.E.TwoEnds.ends i.text) (g.M.TwoEnds.ends i.marks) i.store i.meta i.trace i.position i.output) c.args.self.now c.args.plan.now.beginning c.self.invariant.sound c.self.view_is c.requires.begins
 
-pub push_call-requires-clause-light : goal.push_call-requires-clause-light
-push_call-requires-clause-light g c =
-    subst (λ (texts : List (List ℕ)). IsLight (Called (record_with c.args.plan.now.called texts (undone_in c.args.undone)))) (sym c.arguments-arguments.ensures) c.requires.fits.light
-
-pub push_call-requires-clause-room : goal.push_call-requires-clause-room
-push_call-requires-clause-room g c =
-    subst (λ (texts : List (List ℕ)). HasPlaceForCall (length (concat texts)) (length texts - 1) c.args.journal.now) (sym c.arguments-arguments.ensures) c.requires.place
+pub push_call-requires : goal.push_call-requires
+push_call-requires g c =
+    let i = c.self.inside in
+    let called = c.args.plan.now.called in
+    let given = c.arguments_at-arguments.ensures ∙ given_here (parts_of (g.E.TwoEnds.ends i.text) (g.M.TwoEnds.ends i.marks) i.store i.meta i.trace i.position i.output) c.args.self.now c.args.plan.now.beginning c.self.invariant.sound c.self.view_is c.requires.begins c.requires.front in
+    record {
+      not_full = c.requires.not_full;
+      small = subst (λ (texts : List (List ℕ)). AreSmall called (length (concat texts)) (length texts)) (sym given) c.requires.fits.small;
+      light = subst (λ (texts : List (List ℕ)). IsLight (Called (record_with called texts (undone_in c.args.undone)))) (sym given) c.requires.fits.light;
+      room = subst (λ (texts : List (List ℕ)). HasPlaceForCall (length (concat texts)) (length texts - 1) c.args.journal.now) (sym given) c.requires.place;
+    }
 
 pub returns : goal.returns
 returns g c =
-    c.push_call.ensures ∙ ap (λ (texts : List (List ℕ)). Called (record_with c.args.plan.now.called texts (undone_in c.args.undone)) ∷ c.args.journal.now.records) c.arguments-arguments.ensures
+    let i = c.self.inside in
+    let given = c.arguments_at-arguments.ensures ∙ given_here (parts_of (g.E.TwoEnds.ends i.text) (g.M.TwoEnds.ends i.marks) i.store i.meta i.trace i.position i.output) c.args.self.now c.args.plan.now.beginning c.self.invariant.sound c.self.view_is c.requires.begins c.requires.front in
+    c.push_call.ensures ∙ ap (λ (texts : List (List ℕ)). Called (record_with c.args.plan.now.called texts (undone_in c.args.undone)) ∷ c.args.journal.now.records) given

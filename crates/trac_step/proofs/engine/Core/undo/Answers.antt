@@ -10,43 +10,38 @@ use Rattle.trac_journal.specs.Told.{record_with}
 use Rattle.trac_change.specs.Undone.{undone_in}
 use Rattle.trac_step.specs.Record.{recorded_by}
 use Rattle.trac_step.proofs.CallsUndone.{all_back, can_begin, can_restore, no_less_back}
-use Rattle.trac_step.proofs.ScanningBack.{can_show_known, known_goes_back, shown_is_some}
+use Rattle.trac_step.proofs.ScanningBack.{can_show_known, known_goes_back, leads_back, leads_to}
 use Rattle.trac_step.proofs.engine.Core.undo.Goals as goal
 
-pub move_back-requires : goal.move_back-requires
-move_back-requires g c = shown_is_some c.args.self.now _ (can_show_known (recorded_by c.args.taken) Moved (ap (λ x. recorded_by x) c.in-Moved.is) c.args.self.now c.requires)
+pub undo_short-requires : goal.undo_short-requires
+undo_short-requires g c = leads_back (recorded_by c.args.taken) Moved (ap (λ x. recorded_by x) c.in-Moved.is) c.args.self.now c.requires
 
 pub returns-in-Moved-clause-state : goal.returns-in-Moved-clause-state
-returns-in-Moved-clause-state g c =
-    known_goes_back (recorded_by c.args.taken) Moved (ap (λ x. recorded_by x) c.in-Moved.is) c.args.self.now c.requires c.move_back.new.self.state c.move_back.ensures.state
+returns-in-Moved-clause-state g c = leads_to (recorded_by c.args.taken) Moved (ap (λ x. recorded_by x) c.in-Moved.is) c.args.self.now c.requires _ c.undo_short.ensures.state
 
-pub gather_again-requires : goal.gather_again-requires
-gather_again-requires g c = can_show_known (recorded_by c.args.taken) Comma (ap (λ x. recorded_by x) c.in-Comma.is) c.args.self.now c.requires
+pub undo_short-requires-in-Comma : goal.undo_short-requires-in-Comma
+undo_short-requires-in-Comma g c = leads_back (recorded_by c.args.taken) Comma (ap (λ x. recorded_by x) c.in-Comma.is) c.args.self.now c.requires
 
 pub returns-in-Comma-clause-state : goal.returns-in-Comma-clause-state
-returns-in-Comma-clause-state g c =
-    known_goes_back (recorded_by c.args.taken) Comma (ap (λ x. recorded_by x) c.in-Comma.is) c.args.self.now c.requires c.gather_again.new.self.state c.gather_again.ensures.state
+returns-in-Comma-clause-state g c = leads_to (recorded_by c.args.taken) Comma (ap (λ x. recorded_by x) c.in-Comma.is) c.args.self.now c.requires _ c.undo_short-in-Comma.ensures.state
 
-pub take_beginning_back-requires : goal.take_beginning_back-requires
-take_beginning_back-requires g c = can_show_known (recorded_by c.args.taken) Begun (ap (λ x. recorded_by x) c.in-Begun.is) c.args.self.now c.requires
+pub undo_short-requires-in-Begun : goal.undo_short-requires-in-Begun
+undo_short-requires-in-Begun g c = leads_back (recorded_by c.args.taken) Begun (ap (λ x. recorded_by x) c.in-Begun.is) c.args.self.now c.requires
 
 pub returns-in-Begun-clause-state : goal.returns-in-Begun-clause-state
-returns-in-Begun-clause-state g c =
-    known_goes_back (recorded_by c.args.taken) Begun (ap (λ x. recorded_by x) c.in-Begun.is) c.args.self.now c.requires c.take_beginning_back.new.self.state c.take_beginning_back.ensures.state
+returns-in-Begun-clause-state g c = leads_to (recorded_by c.args.taken) Begun (ap (λ x. recorded_by x) c.in-Begun.is) c.args.self.now c.requires _ c.undo_short-in-Begun.ensures.state
 
-pub unprotect-requires : goal.unprotect-requires
-unprotect-requires g c = can_show_known (recorded_by c.args.taken) (Quoted c.in-Quoted.inner c.in-Quoted.closed) (ap (λ x. recorded_by x) c.in-Quoted.is) c.args.self.now c.requires
+pub undo_short-requires-in-Quoted : goal.undo_short-requires-in-Quoted
+undo_short-requires-in-Quoted g c = leads_back (recorded_by c.args.taken) (Quoted c.in-Quoted.inner c.in-Quoted.closed) (ap (λ x. recorded_by x) c.in-Quoted.is) c.args.self.now c.requires
 
 pub returns-in-Quoted-clause-state : goal.returns-in-Quoted-clause-state
-returns-in-Quoted-clause-state g c =
-    known_goes_back (recorded_by c.args.taken) (Quoted c.in-Quoted.inner c.in-Quoted.closed) (ap (λ x. recorded_by x) c.in-Quoted.is) c.args.self.now c.requires c.unprotect.new.self.state c.unprotect.ensures.state
+returns-in-Quoted-clause-state g c = leads_to (recorded_by c.args.taken) (Quoted c.in-Quoted.inner c.in-Quoted.closed) (ap (λ x. recorded_by x) c.in-Quoted.is) c.args.self.now c.requires _ c.undo_short-in-Quoted.ensures.state
 
-pub undelete-requires : goal.undelete-requires
-undelete-requires g c = can_show_known (recorded_by c.args.taken) (Deleted c.in-Deleted.byte) (ap (λ x. recorded_by x) c.in-Deleted.is) c.args.self.now c.requires
+pub undo_short-requires-in-Deleted : goal.undo_short-requires-in-Deleted
+undo_short-requires-in-Deleted g c = leads_back (recorded_by c.args.taken) (Deleted c.in-Deleted.byte) (ap (λ x. recorded_by x) c.in-Deleted.is) c.args.self.now c.requires
 
 pub returns-in-Deleted-clause-state : goal.returns-in-Deleted-clause-state
-returns-in-Deleted-clause-state g c =
-    known_goes_back (recorded_by c.args.taken) (Deleted c.in-Deleted.byte) (ap (λ x. recorded_by x) c.in-Deleted.is) c.args.self.now c.requires c.undelete.new.self.state c.undelete.ensures.state
+returns-in-Deleted-clause-state g c = leads_to (recorded_by c.args.taken) (Deleted c.in-Deleted.byte) (ap (λ x. recorded_by x) c.in-Deleted.is) c.args.self.now c.requires _ c.undo_short-in-Deleted.ensures.state
 
 -- the base text is lent
 lends_base : (r : Record) (base lent : List ℕ) (frames : List Frame) → r ≡ Idle base frames → lent ≡ base → r ≡ Idle lent frames

@@ -1,0 +1,136 @@
+-- A step whose record is kept, from the rule that is carried out.
+use Rattle.std.proofs.Common.{◌≡◌, ℕ, ◌+◌, ◌<◌, ◌≤◌, List, [], ◌++◌, ◌∷◌, get_or, length, ◌⊎◌, inl, inr, refl, sym, ap, ◌∙◌, subst, arith, true, false}
+use Rattle.std.specs.Prelude.{Result, Ok, Err, Option, None, Some, replicate}
+use Rattle.trac_rules.specs.declared.kind.Kind.{Kind}
+use Rattle.trac_rules.specs.declared.limit.TheConstants.{MARK_LIMIT}
+use Rattle.trac_rules.specs.declared.refusal.Refusal.{Refusal}
+use Rattle.trac_rules.specs.declared.refusal.Refusal.TheVariants.{Memory, TooLong}
+use Rattle.trac_rules.specs.declared.scan.Front.{Front}
+use Rattle.trac_rules.specs.declared.scan.Front.TheVariants.{Comma, Sharp, Plain}
+use Rattle.trac_rules.specs.Limits.{marks, texts_fit}
+use Rattle.trac_rules.specs.Records as told
+use Rattle.trac_rules.specs.Records.{Deleted, Moved, Record, comma_recorded, recorded, recorded_at}
+use Rattle.trac_rules.specs.Scanning.{Moves, comma_in, deleted, front_of, gather_first, scan, scan_at}
+use Rattle.trac_rules.specs.State.{Environment, Frame, State}
+use Rattle.trac_journal.specs.Journaled.{Journaled}
+use Rattle.trac_storage.proofs.Judged.{limits_kept}
+use Rattle.trac_storage.proofs.Outcomes.{refuses_memory}
+use Rattle.trac_step.specs.Calling.{IfMoves, IsMove, with_mark}
+use Rattle.trac_step.specs.Kept.{IsAdded, IsCarriedOut, IsStepped}
+use Rattle.trac_step.specs.Layout.{Shown}
+use Rattle.trac_step.specs.Room.{IsNoLess, LacksRoomAhead}
+use Rattle.trac_step.proofs.Moving.{of_moves}
+use Rattle.trac_step.proofs.Outcomes.{move_beyond, move_lacks, move_taken}
+use Rattle.trac_step.proofs.Recorded.{argument_marks, move_recorded, recorded_front}
+use Rattle.trac_step.proofs.Rooms.{no_less, no_less_state}
+use Rattle.trac_step.proofs.Scans.{scan_front}
+
+-- ---- what carries out a rule
+
+-- memory is refused
+pub not_carried_out : {R : Type 0} (r : Result R Refusal) (m n : Shown) (old new : Journaled) → r ≡ Err Memory → n ≡ m → new.records ≡ old.records → (1 ≤ old.places → LacksRoomAhead m) →
+    IsCarriedOut r m n old new
+not_carried_out r m n old new is same records lacks = subst (λ r. IsCarriedOut r m n old new) (sym is) (record {
+  ok = tt;
+  kept = tt;
+  unchanged = (same, records);
+  lacking = lacks;
+  err = refl;
+  room = subst (λ (k : Shown). IsNoLess m k) (sym same) (no_less m);
+})
+
+-- by the journal, which has no place
+pub no_place : {R : Type 0} (r : Result R Refusal) (m : Shown) (old new : Journaled) → r ≡ Err Memory → new.records ≡ old.records → old.places ≡ 0 → IsCarriedOut r m m old new
+no_place r m old new is same full = not_carried_out r m m old new is refl same (λ place. absurd (omega (arith, place, full)))
+
+-- or the state is that to which scanning moves on, and the record is added
+pub carried_out : {R : Type 0} (x : R) (m n : Shown) (old new : Journaled) (t : State) → scan m.state ≡ Moves t → n.state ≡ t → new.records ≡ recorded m.state ∷ old.records → IsNoLess m n →
+    IsCarriedOut (Ok x) m n old new
+carried_out x m n old new t moves same added room = record {
+  ok = moves ∙ ap Moves (sym same);
+  kept = added;
+  unchanged = tt;
+  lacking = tt;
+  err = tt;
+  room = room;
+}
+
+pub carried_so : {R : Type 0} (x : R) (m n : Shown) (old new : Journaled) (t : State) → scan m.state ≡ Moves t → n ≡ record m { state = t } → new.records ≡ recorded m.state ∷ old.records →
+    IsCarriedOut (Ok x) m n old new
+carried_so x m n old new t moves shown added =
+    carried_out x m n old new t moves (ap (λ (k : Shown). k.state) shown) added (subst (λ (k : Shown). IsNoLess m k) (sym shown) (no_less_state m t))
+
+-- a byte goes to the current text
+pub gathered : {R : Type 0} (x : R) (m n : Shown) (old new : Journaled) (at : Front) → (at ≡ Sharp) ⊎ (at ≡ Plain) → at ≡ front_of m.state.active →
+    n ≡ record m { state = gather_first m.state } → new ≡ record old { records = replicate 1 Moved ++ old.records } → IsCarriedOut (Ok x) m n old new
+gathered x m n old new at which front self_is journal_is = elim which [
+  | inl is ↦ by_front Sharp refl refl (sym front ∙ is)
+  | inr is ↦ by_front Plain refl refl (sym front ∙ is)
+]
+  where
+    by_front : (f : Front) → scan_at f m.state ≡ Moves (gather_first m.state) → recorded_at f m.state ≡ Moved → front_of m.state.active ≡ f → IsCarriedOut (Ok x) m n old new
+    by_front f scans records is =
+        carried_so x m n old new (gather_first m.state) (scan_front m.state f is ∙ scans) self_is
+        (ap (λ (j : Journaled). j.records) journal_is ∙ ap (λ (r : Record). r ∷ old.records) (sym (recorded_front m.state f is ∙ records)))
+
+-- ---- marks
+
+-- a further mark is one more
+pub one_mark_more : (frame : Option Kind) (n : ℕ) (s : State) → (frame ≡ None → 0 < length s.frames) → marks (with_mark frame (deleted n s)).frames ≡ marks s.frames + 1
+one_mark_more (Some kind) n s inside = omega arith
+one_mark_more None n s inside = argument_marks s.frames (deleted n s) (inside refl)
+
+-- where it is within the limits, there was room for it
+pub room_for_mark : (frame : Option Kind) (n : ℕ) (s : State) → (frame ≡ None → 0 < length s.frames) → scan s ≡ Moves (with_mark frame (deleted n s)) →
+    IfMoves (scan s) (λ t. texts_fit t ≡ true) → marks s.frames < MARK_LIMIT
+room_for_mark frame n s inside moves fits =
+    let kept = limits_kept (with_mark frame (deleted n s)) (of_moves s (with_mark frame (deleted n s)) (λ t. texts_fit t ≡ true) moves fits) in
+    omega (arith, kept.marked, one_mark_more frame n s inside)
+
+-- outside any function a `,` is deleted
+pub comma_deleted : (s : State) → front_of s.active ≡ Comma → s.frames ≡ [] → (scan s ≡ Moves (deleted 1 s)) × (recorded s ≡ Deleted (get_or s.active 0 0))
+comma_deleted s is none = (
+  scan_front s Comma is ∙ ap (λ (fs : List Frame). Moves (comma_in fs (deleted 1 s))) none,
+  recorded_front s Comma is ∙ ap (λ (fs : List Frame). comma_recorded fs s) none,
+)
+
+-- and inside one it ends an argument
+pub comma_told : (s : State) → front_of s.active ≡ Comma → 0 < length s.frames → told.Comma ≡ recorded s
+comma_told s is inside = by_frames s.frames inside ∙ sym (recorded_front s Comma is)
+  where
+    by_frames : (fs : List Frame) → 0 < length fs → told.Comma ≡ comma_recorded fs s
+    by_frames [] h = absurd (omega arith)
+    by_frames (f ∷ fs) h = refl
+
+-- ---- what that says of the step
+
+-- within the limits
+pub stepped : {R : Type 0} (e : Environment) (r : Result R Refusal) (m n : Shown) (old new : Journaled) → IsMove (scan m.state) → IfMoves (scan m.state) (λ t. true ≡ texts_fit t) →
+    IsCarriedOut r m n old new → IsStepped e r m n old new
+stepped e (Ok x) m n old new moves fits h = record {
+  taken = move_taken e m.state n.state h.ok fits;
+  kept = subst (λ (o : Option Record). IsAdded o old.records new.records) (sym (move_recorded e m.state moves)) h.kept;
+  refused = tt;
+  unchanged = tt;
+  lacking = tt;
+  room = h.room;
+}
+stepped e (Err refusal) m n old new moves fits h = record {
+  taken = tt;
+  kept = tt;
+  refused = refuses_memory _ refusal h.err (move_lacks e m.state moves);
+  unchanged = (ap (λ (k : Shown). k.state) h.unchanged.0, h.unchanged.1);
+  lacking = λ is place. h.lacking place;
+  room = h.room;
+}
+
+-- and beyond them
+pub not_stepped : {R : Type 0} (e : Environment) (m : Shown) (j : Journaled) → IsMove (scan m.state) → IfMoves (scan m.state) (λ t. false ≡ texts_fit t) → IsStepped {R = R} e (Err TooLong) m m j j
+not_stepped e m j moves beyond = record {
+  taken = tt;
+  kept = tt;
+  refused = move_beyond e m.state moves beyond;
+  unchanged = (refl, refl);
+  lacking = λ is. absurd (cc);
+  room = no_less m;
+}

@@ -1,0 +1,31 @@
+use Rattle.std.proofs.Common.{◌∷◌, ◌∙◌, ap, drop, sym}
+use Rattle.std.proofs.lemmas.Result.{err_from_is_err_and}
+use Rattle.std.specs.Prelude.{Err}
+use Rattle.trac_rules.specs.declared.scan.Front.TheVariants.{Opening}
+use Rattle.trac_rules.specs.Matching.{protected}
+use Rattle.trac_rules.specs.Records.{Quoted}
+use Rattle.trac_rules.specs.Scanning.{protect}
+use Rattle.trac_journal.specs.declared.called.Short.TheVariants as short
+use Rattle.trac_step.proofs.Fitting.{short_fits}
+use Rattle.trac_step.proofs.Recorded.{recorded_front}
+use Rattle.trac_step.proofs.Scans.{scan_front}
+use Rattle.trac_step.proofs.Stepped.{carried_so, no_place}
+use Rattle.trac_step.proofs.engine.Core.protect_into.Goals as goal
+
+pub push_short-requires-clause-fits : goal.push_short-requires-clause-fits
+push_short-requires-clause-fits g c =
+    let s = c.args.self.now.state in
+    short_fits (short.Quoted c.protect-inner.result.0 c.protect-inner.result.1) s c.requires.proper
+    ((λ i. Quoted (c.protect-inner.ensures.inner i) (c.protect-inner.ensures.closed i)) ∙ sym (recorded_front s Opening c.requires.front))
+
+pub returns-in_err-reserve_short : goal.returns-in_err-reserve_short
+returns-in_err-reserve_short g c =
+    let p = err_from_is_err_and c.from_residual.result c.from_residual.ensures.1 in
+    no_place c.from_residual.result c.args.self.now c.args.journal.now c.reserve_short.new.self (p.1 ∙ ap Err (p.2 ∙ c.in_err-reserve_short.ensures.err)) c.reserve_short.ensures.same c.in_err-reserve_short.ensures.full
+
+pub returns : goal.returns
+returns g c =
+    let s = c.args.self.now.state in
+    let told = (λ i. Quoted (c.protect-inner.ensures.inner i) (c.protect-inner.ensures.closed i)) ∙ sym (recorded_front s Opening c.requires.front) in
+    carried_so _ c.args.self.now c.protect-inner.new.self c.args.journal.now c.push_short.new.self (protect (protected (drop 1 s.active)) s) (scan_front s Opening c.requires.front) c.protect-inner.ensures.shown
+    (c.push_short.ensures ∙ (λ i. told i ∷ c.reserve_short.ensures.same i))
