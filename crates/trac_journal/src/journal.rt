@@ -139,6 +139,7 @@ impl<A: Allocator + Copy> Journal<A> {
 
     /// Keeps one short record more, the newest. There has to be room for it, and a protected text to be shorter than
     /// 2^32 bytes, as every text of a machine is.
+    #[inline(always)]
     pub fn push_short(&mut self, newest: Short)
         requires not_full { length self.old.records < JOURNAL_LIMIT }
         requires place { 1 ≤ self.old.places }
@@ -158,6 +159,7 @@ impl<A: Allocator + Copy> Journal<A> {
     }
 
     // Keeps one record more that an entry holds.
+    #[inline(always)]
     fn push_brief(&mut self, kept: Kept)
         requires not_full { length self.old.records < JOURNAL_LIMIT }
         requires place { 1 ≤ self.old.places }

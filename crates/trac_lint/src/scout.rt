@@ -1,5 +1,5 @@
-//! Walkers over the program: the one that looks for doubts, and a second one, a scout, which goes to steps that the first
-//! one keeps no more.
+//! Walkers over the program: the one that looks for doubts, and a second one, a scout, which goes to steps that the
+//! first one keeps no more.
 
 use crate::sources::Sources;
 use std::alloc::Allocator;

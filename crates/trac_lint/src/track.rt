@@ -57,7 +57,7 @@ impl<A: Allocator + Copy> Track<A> {
     }
 
     /// Goes back with a walker as far as that keeps steps, until the byte is found, or another walker is to be taken:
-    /// also if the byte is known to have stood there more than `near` steps before. The error is that memory was refused.
+    /// also if the byte is known to have stood there more than `near` steps before. The error is refused memory.
     pub(crate) fn go_back(
         &mut self,
         walker: &mut Walker<A>,

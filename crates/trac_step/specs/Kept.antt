@@ -41,7 +41,8 @@ pub record IsKept (environment : Environment) (before after : State) (old new : 
 
 -- the rule for the front of a machine's active text is carried out, which asks for no call, and its record is added; or
 -- memory is refused, and nothing but rooms changes
-pub record IsCarriedOut {R : Type 0} (result : Result R Refusal) (before after : Shown) (old new : Journaled) : Type 0 where
+pub record IsCarriedOut {R : Type 0} (result : Result R Refusal) (before after : Shown) (old new : Journaled)
+    : Type 0 where
   pub ok : OnOk result (scan before.state ≡ Moves after.state)
   pub kept : OnOk result (new.records ≡ recorded before.state ∷ old.records)
   pub unchanged : OnErr result ((after ≡ before) × (new.records ≡ old.records))

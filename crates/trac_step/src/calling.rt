@@ -389,7 +389,8 @@ impl<E: TwoEnds<u8, A>, M: TwoEnds<Mark, A>, A: Allocator + Copy> Core<E, M, A> 
         requires short { length tape.bytes.now < 2 ^ 32 }
         requires proper { IsProper self.old.state }
         requires not_full { length journal.old.records < JOURNAL_LIMIT }
-        ensures { IsStepped (environment_of self.old.width tape.entry) result self.old self.new journal.old journal.new }
+        ensures { IsStepped (environment_of self.old.width tape.entry) result self.old self.new journal.old
+            journal.new }
     {
         let mut change = Change::Keep;
         let plan = self.planned(tape, made, &mut change)?;

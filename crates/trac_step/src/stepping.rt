@@ -96,7 +96,7 @@ impl<E: TwoEnds<u8, A>, M: TwoEnds<Mark, A>, A: Allocator + Copy> Core<E, M, A> 
         self.next_step_into(journal, tape, made)
     }
 
-    // Takes the next step and keeps its record, or changes nothing but rooms. A `)` inside a function performs that one.
+    // Takes the next step and keeps its record, or changes nothing but rooms. A `)` inside a function performs that.
     // Whatever else the active text begins with has a rule of scanning, which only one mark too many can refuse.
     #[inline(always)]
     fn next_step_into(
@@ -109,7 +109,8 @@ impl<E: TwoEnds<u8, A>, M: TwoEnds<Mark, A>, A: Allocator + Copy> Core<E, M, A> 
         requires short { length tape.bytes.now < 2 ^ 32 }
         requires proper { IsProper self.old.state }
         requires not_full { length journal.old.records < JOURNAL_LIMIT }
-        ensures { IsStepped (environment_of self.old.width tape.entry) result self.old self.new journal.old journal.new }
+        ensures { IsStepped (environment_of self.old.width tape.entry) result self.old self.new journal.old
+            journal.new }
     {
         let front = front_at(self.text.right());
         if self.performs(front) {

@@ -2,7 +2,8 @@
 ghost use Rattle.std.specs.Prelude.{◌≡◌, ◌==◌, ◌≤◌, [], length, reverse, slice_get, MatchOption};
 ghost use Rattle.trac_text.specs.Cuts.{AreArguments, BeginsFunction};
 ghost use Rattle.trac_text.specs.Frames.{IsFrame, IsInnermost};
-ghost use Rattle.trac_text.specs.Neutral.{AreMarks, IsDepth, IsOrdered, MarkedText, cut_back, marked_text_code, neutral_of};
+ghost use Rattle.trac_text.specs.Neutral.{AreMarks, IsDepth, IsOrdered, MarkedText};
+ghost use Rattle.trac_text.specs.Neutral.{cut_back, marked_text_code, neutral_of};
 
 use crate::args::Args;
 use crate::begun::BegunFunctions;

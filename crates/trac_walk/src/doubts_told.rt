@@ -74,8 +74,8 @@ fn place_into<A: Allocator + Copy>(
 }
 
 /// The byte that a doubt of the next step is about: the first one of an argument or of a name, or the one that comes
-/// next. Of a call without a name it is the `#` that began it: the walker goes back to before that, if it keeps the steps
-/// since then, and else it is the byte that comes next.
+/// next. Of a call without a name it is the `#` that began it: the walker goes back to before that, if it keeps the
+/// steps since then, and else it is the byte that comes next.
 pub fn place_of<'p, A: Allocator + Copy>(walker: &mut Walker<A>, doubt: Doubt) -> Place<'p> {
     let depth = walker.glance().depth;
     match doubt {
