@@ -33,6 +33,9 @@ class Reader:
     def in_call(self):
         return bool(self.begun) and self.begun[-1][0] == CALL
 
+    def in_text(self):
+        return bool(self.begun) and self.begun[-1][0] == TEXT
+
     def looks_wrong(self, at, ended):
         """Whether what begins at this place seldom stands there, after the end of this kind of parenthesis, if any."""
         byte, first = self.text[at : at + 1], is_first(self.text, at)
@@ -47,7 +50,7 @@ class Reader:
             return first and bool(self.begun) and self.begun[-1][1] != blanks_before(self.text, at)
         if byte == b"#":
             return ended == CODE
-        return ended != CALL
+        return ended != CALL and not self.in_text()
 
     def pass_by(self, at):
         """Passes the byte at this place; what it ends, if it is a ), and whether that has its (."""

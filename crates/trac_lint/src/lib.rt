@@ -5,13 +5,10 @@
 mod linting;
 mod memory;
 mod origins;
-mod parentheses;
-mod report;
 mod scout;
-mod sources;
+mod texts;
 mod track;
 mod ways;
 
 pub use linting::{Settings, lint};
-pub use report::{Found, Halt, PLACE_LIMIT};
-pub use sources::Sources;
+pub use trac_findings::{Found, Halt, PLACE_LIMIT, Sources};

@@ -1,16 +1,15 @@
 //! The doubts of a program that is run to its end.
 ghost use Rattle.std.specs.Prelude.{◌≡◌, ◌≤◌, ◌<◌};
-ghost use Rattle.trac_lint.specs.Findings.{IsWritten};
-ghost use Rattle.trac_lint.specs.declared.report.TheConstants.{PLACE_LIMIT};
+ghost use Rattle.trac_findings.specs.Findings.{IsWritten};
+ghost use Rattle.trac_findings.specs.declared.report.TheConstants.{PLACE_LIMIT};
 
 use crate::memory::{Meeting, Memory, kind_of, number_of};
 use crate::origins::Origins;
-use crate::parentheses::advice_on;
-use crate::report::{Found, Halt, Report, halt_of, write_found};
 use crate::scout::Run;
-use crate::sources::{Sources, read_number};
+use crate::texts::{read_number, text_before, text_read};
 use std::alloc::{AllocError, Allocator};
 use std::io::Write;
+use trac_findings::{Found, Halt, Report, Sources, advice_on, write_found};
 use trac_rules::refusal::Refusal;
 use trac_rules::width::Width;
 use trac_screen::{Glance, ScreenLine, doubt_into};
@@ -232,11 +231,8 @@ impl<'s, A: Allocator + Copy> Linter<'s, A> {
             }
             if reads_text(self.walker.glance()) {
                 let meta = self.walker.sight().meta;
-                text = Some(
-                    self.origins
-                        .sources
-                        .text_read(read_number(&self.walker), meta),
-                );
+                let tape = self.origins.sources.tape;
+                text = Some(text_read(tape, read_number(&self.walker), meta));
                 break;
             }
         }
@@ -258,9 +254,18 @@ impl<'s, A: Allocator + Copy> Linter<'s, A> {
     // The number of the first byte of the text that was read last.
     fn text(&self) -> u64 {
         let meta = self.walker.sight().meta;
-        self.origins
-            .sources
-            .text_before(read_number(&self.walker), meta)
+        let tape = self.origins.sources.tape;
+        text_before(tape, read_number(&self.walker), meta)
+    }
+}
+
+// Why a run ended whose next step, after so many, is refused so.
+fn halt_of(refusal: Refusal, steps: u64) -> Halt {
+    match refusal {
+        Refusal::NotMet => Halt::Spent,
+        Refusal::TooLong => Halt::Limit(steps),
+        Refusal::Memory => Halt::Memory,
+        _ => Halt::Ended,
     }
 }
 

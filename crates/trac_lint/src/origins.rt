@@ -1,10 +1,10 @@
 //! The byte of the files that a doubt is about.
 
 use crate::scout::{Run, Scout};
-use crate::sources::Sources;
 use crate::track::{Next, Track};
 use crate::ways::{Post, Ways};
 use std::alloc::Allocator;
+use trac_findings::Sources;
 use trac_rules::doubt::Doubt;
 use trac_rules::refusal::Refusal;
 use trac_walk::{Walker, place_of};

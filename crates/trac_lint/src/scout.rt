@@ -1,8 +1,8 @@
 //! Walkers over the program: the one that looks for doubts, and a second one, a scout, which goes to steps that the
 //! first one keeps no more.
 
-use crate::sources::Sources;
 use std::alloc::Allocator;
+use trac_findings::Sources;
 use trac_rules::limit::JOURNAL_LIMIT;
 use trac_rules::refusal::Refusal;
 use trac_rules::width::Width;

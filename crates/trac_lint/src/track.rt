@@ -1,9 +1,10 @@
 //! The way of one byte back to the byte of the files that it comes from.
 
 use crate::memory::number_of;
-use crate::sources::{Sources, read_number};
+use crate::texts::{read_number, text_from};
 use crate::ways::{Post, Since, Span, Stand, Ways, place_at, stand_of};
 use std::alloc::{AllocError, Allocator};
+use trac_findings::Sources;
 use trac_follow::{Place, Source};
 use trac_rules::doubt::Doubt;
 use trac_walk::{Walker, place_of};
@@ -135,7 +136,7 @@ impl<A: Allocator + Copy> Track<A> {
                 self.stand = Stand::Form(item);
             }
             Leg::Read(n) => return self.found(post, walker.input_number(n)),
-            Leg::Idle => return self.found(post, sources.text_from(read_number(walker))),
+            Leg::Idle => return self.found(post, text_from(sources.tape, read_number(walker))),
             Leg::Nothing => return Ok(Some(Next::Lost)),
         }
         self.remember(post)?;
@@ -157,7 +158,7 @@ impl<A: Allocator + Copy> Track<A> {
             self.arrive(walker);
         }
         match walker.step() {
-            0 => Some(Next::Found(sources.text_from(0))),
+            0 => Some(Next::Found(text_from(sources.tape, 0))),
             step if walker.steps_back() == 0 => Some(Next::From(step)),
             _ => None,
         }

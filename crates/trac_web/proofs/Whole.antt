@@ -12,9 +12,9 @@ use Rattle.trac_run.specs.Runs.{Runs, Shows}
 use Rattle.trac_debug.specs.Debugging.{MayShow, RepliesToFirst}
 use Rattle.trac_debug.specs.Debugs.{Debugs, UnlessFault, UnlessWrite}
 use Rattle.trac_walk.specs.Ends.{MayEnd}
-use Rattle.trac_lint.specs.declared.report.TheConstants.{PLACE_LIMIT}
-use Rattle.trac_lint.specs.declared.report.Found.{Found}
-use Rattle.trac_lint.specs.Findings.{IsWritten}
+use Rattle.trac_findings.specs.declared.report.TheConstants.{PLACE_LIMIT}
+use Rattle.trac_findings.specs.declared.report.Found.{Found}
+use Rattle.trac_findings.specs.Findings.{IsWritten}
 use Rattle.trac_web.specs.Requests.{WritesDoubts, WritesReplies, WritesRun, WritesTalk, search_ending}
 
 -- a run that read this text, of which a rest was left, and wrote all of that, where nothing was before

@@ -12,9 +12,9 @@ use Rattle.trac_run.specs.Runs.{Shows}
 use Rattle.trac_debug.specs.Debugging.{MayShow, RepliesToFirst}
 use Rattle.trac_debug.specs.Debugs.{UnlessFault, UnlessWrite}
 use Rattle.trac_walk.specs.Ends.{MayEnd}
-use Rattle.trac_lint.specs.declared.report.TheConstants.{PLACE_LIMIT}
-use Rattle.trac_lint.specs.declared.report.Halt.{Halt}
-use Rattle.trac_lint.specs.declared.report.Halt.TheVariants as halts
+use Rattle.trac_findings.specs.declared.report.TheConstants.{PLACE_LIMIT}
+use Rattle.trac_findings.specs.declared.report.Halt.{Halt}
+use Rattle.trac_findings.specs.declared.report.Halt.TheVariants as halts
 
 -- ---- numbers that are taken
 

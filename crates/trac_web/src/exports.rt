@@ -1,6 +1,6 @@
 //! What a host calls: each over slices alone, with any numbers.
 ghost use Rattle.std.specs.Prelude.{◌≡◌, ◌≤◌, ◌<◌, None, Some};
-ghost use Rattle.trac_lint.specs.declared.report.TheConstants.{PLACE_LIMIT};
+ghost use Rattle.trac_findings.specs.declared.report.TheConstants.{PLACE_LIMIT};
 ghost use Rattle.trac_rules.specs.declared.width.Width.{Width};
 ghost use Rattle.trac_streams.specs.Widths.{width_of};
 ghost use Rattle.trac_web.specs.declared.outcome.Outcome.TheVariants.{WrongBudget, WrongDecimals, WrongJournal};

@@ -3,6 +3,7 @@ use Rattle.std.specs.Prelude.{◌≡◌, ◌⊎◌, ◌+◌, ℕ, ◌==◌, List
 use Rattle.std.specs.List.{filter}
 use Rattle.trac_rules.specs.declared.byte.TheConstants.{LINE_FEED}
 use Rattle.trac_streams.specs.Escapes.{feed}
+use Rattle.trac_findings.specs.declared.sources.Spot.{Spot}
 
 -- how many line feeds a text has
 abbrev pub feeds_in : List ℕ → ℕ
@@ -17,3 +18,7 @@ pub record IsSpot (before : List ℕ) (line column : ℕ) : Type 0 where
   pub unbroken : feeds_in own ≡ 0
   pub line_number : line ≡ 1 + feeds_in lines
   pub column_number : column ≡ 1 + length own
+
+-- such a place, in a file of this name
+abbrev pub IsSpotIn : List ℕ → List ℕ → Spot → Type 0
+IsSpotIn name before spot = (spot.name.now ≡ name) × IsSpot before spot.line spot.column

@@ -4,9 +4,9 @@ use Rattle.std.specs.Prelude.{Option}
 use Rattle.std.specs.Io.KnownBytes.{Appends, Keeps}
 use Rattle.trac_streams.proofs.Known.{Appends-kept, empty_front}
 use Rattle.trac_streams.specs.Written.{WritesFront}
-use Rattle.trac_lint.specs.declared.report.Halt.{Halt}
-use Rattle.trac_lint.specs.declared.report.Halt.TheVariants.{Write}
-use Rattle.trac_lint.specs.Findings.{IsReport, IsWritten}
+use Rattle.trac_findings.specs.declared.report.Halt.{Halt}
+use Rattle.trac_findings.specs.declared.report.Halt.TheVariants.{Write}
+use Rattle.trac_findings.specs.Findings.{IsReport, IsWritten}
 
 -- all of it, and then nothing
 pub all_is_written : (a b c : Option (List ℕ)) (told : ℕ) (text : List ℕ) (halt : Halt) → IsReport told text → Appends a b text → Keeps b c → IsWritten a c (record { told = told; halt = halt })

@@ -3,11 +3,11 @@ use Rattle.std.specs.Prelude.{◌≡◌, ◌≢◌, ◌<◌, ◌≤◌, nat_lt, 
 use Rattle.std.specs.Prelude.{codes, decimal}
 use Rattle.std.specs.Io.KnownBytes.{Appends}
 use Rattle.trac_streams.specs.Escapes.{feed}
-use Rattle.trac_lint.specs.declared.sources.Spot.{Spot}
-use Rattle.trac_lint.specs.declared.report.TheConstants.{PLACE_LIMIT}
-use Rattle.trac_lint.specs.declared.report.Found.{Found}
-use Rattle.trac_lint.specs.declared.report.Halt.{Halt}
-use Rattle.trac_lint.specs.declared.report.Halt.TheVariants.{TooLong, Memory, Write}
+use Rattle.trac_findings.specs.declared.sources.Spot.{Spot}
+use Rattle.trac_findings.specs.declared.report.TheConstants.{PLACE_LIMIT}
+use Rattle.trac_findings.specs.declared.report.Found.{Found}
+use Rattle.trac_findings.specs.declared.report.Halt.{Halt}
+use Rattle.trac_findings.specs.declared.report.Halt.TheVariants.{TooLong, Memory, Write}
 
 -- a line: a place, what is doubtful there, and the number of the step
 abbrev pub spot_text : Spot → List ℕ
@@ -20,6 +20,10 @@ line_text place words step =
 -- a line that goes on with that of a doubt: a place, and what may be wrong there
 abbrev pub note_text : List ℕ → List ℕ → List ℕ
 note_text place words = place ++ (codes ": note: " ++ (words ++ feed))
+
+-- the last line, where so many places more are not told
+abbrev pub more_text : ℕ → List ℕ
+more_text more = codes ".. and " ++ (decimal more ++ (codes " more place" ++ ((if nat_lt 1 more then codes "s" else []) ++ feed)))
 
 -- so many places are told by a text: no more than are, and none just where it is empty
 pub record IsReport (told : ℕ) (text : List ℕ) : Type 0 where

@@ -1,6 +1,6 @@
 use Rattle.std.proofs.Common.{◌≤◌, ◌+◌, take}
-use Rattle.trac_lint.specs.Spots.{IsSpot}
-use Rattle.trac_lint.proofs.sources.spot_after.Given as goal
+use Rattle.trac_findings.specs.Spots.{IsSpot}
+use Rattle.trac_findings.proofs.sources.spot_after.Given as goal
 
 -- the place after the bytes that are passed
 abbrev pub invariant-loop-byte : goal.invariant-loop-byte

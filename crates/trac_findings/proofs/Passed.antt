@@ -6,7 +6,7 @@ use Rattle.std.proofs.lemmas.List.Elements.{filter-append}
 use Rattle.std.specs.List.{filter}
 use Rattle.trac_rules.specs.declared.byte.TheConstants.{LINE_FEED}
 use Rattle.trac_streams.specs.Escapes.{feed}
-use Rattle.trac_lint.specs.Spots.{IsSpot, feeds_in}
+use Rattle.trac_findings.specs.Spots.{IsSpot, feeds_in}
 
 -- the line feeds of two texts
 pub feeds_of_both : (a b : List ℕ) → feeds_in (a ++ b) ≡ feeds_in a + feeds_in b

@@ -1,12 +1,13 @@
 use Rattle.std.proofs.Common.{◌≤◌, vec_len}
-use Rattle.trac_lint.specs.Places.{IsWithin}
-use Rattle.trac_lint.proofs.Depth.{IsDeep}
-use Rattle.trac_lint.proofs.parentheses.advice_on.Given as goal
+use Rattle.trac_findings.specs.Places.{IsWithin}
+use Rattle.trac_findings.proofs.Depth.{HasFronts, IsDeep}
+use Rattle.trac_findings.proofs.parentheses.advice_on.Given as goal
 
 -- what the passed bytes have begun, and places that are named within the text
 abbrev pub invariant-loop-place : goal.invariant-loop-place
 invariant-loop-place g l = record {
   deep : IsDeep l.text l.place (vec_len l.begun);
+  fronts : HasFronts l.text l.place;
   end : l.before.end ≤ l.place;
   unclosed : IsWithin l.text l.signs.unclosed;
   within : IsWithin l.text l.signs.within;

@@ -1,13 +1,12 @@
-//! What is found in a program, and how that ends.
+//! What is told of a program that is looked through, and how that ends.
 ghost use Rattle.std.specs.Prelude.{◌≡◌, ◌≢◌, ◌<◌, ◌≤◌, ◌+◌, ◌++◌, nat_le, IfOk, OnOk};
-ghost use Rattle.trac_lint.specs.Findings.{IsReport, IsWritten, Lines, line_text, note_text, spot_text};
-ghost use Rattle.trac_lint.specs.Findings.{status_of};
+ghost use Rattle.trac_findings.specs.Findings.{IsReport, IsWritten, Lines, line_text, more_text};
+ghost use Rattle.trac_findings.specs.Findings.{note_text, spot_text, status_of};
 
 use crate::sources::Spot;
 use std::alloc::{AllocError, Allocator};
 use std::io::Write;
 use std::marker::Model;
-use trac_rules::refusal::Refusal;
 use trac_streams::number_into;
 use trac_streams::writing::{flush, write_whole};
 
@@ -56,7 +55,7 @@ impl Found {
 
 /// The lines that are written, and how many places they tell.
 #[derive(Drop)]
-pub(crate) struct Report<A: Allocator + Copy> {
+pub struct Report<A: Allocator + Copy> {
     told: usize,
     text: Vec<u8, A>,
 }
@@ -71,7 +70,7 @@ impl<A: Allocator + Copy> Model for Report<A> {
 
 impl<A: Allocator + Copy> Report<A> {
     /// Nothing is told. It takes no memory.
-    pub(crate) fn new(alloc: A) -> Self
+    pub fn new(alloc: A) -> Self
         ensures { result.told ≡ 0 }
     {
         Report {
@@ -81,7 +80,7 @@ impl<A: Allocator + Copy> Report<A> {
     }
 
     /// How many places are told.
-    pub(crate) fn told(&self) -> usize
+    pub fn told(&self) -> usize
         ensures told { result ≡ self.now.told }
         ensures report { IsReport self.now.told self.now.text }
     {
@@ -89,14 +88,14 @@ impl<A: Allocator + Copy> Report<A> {
     }
 
     /// The lines.
-    pub(crate) fn text(&self) -> &[u8]
+    pub fn text(&self) -> &[u8]
         ensures { result.now ≡ self.now.text }
     {
         self.text.as_slice()
     }
 
     /// Whether no more places are told.
-    pub(crate) fn is_full(&self) -> bool
+    pub fn is_full(&self) -> bool
         ensures { result ≡ nat_le PLACE_LIMIT self.now.told }
     {
         self.told >= PLACE_LIMIT
@@ -104,7 +103,7 @@ impl<A: Allocator + Copy> Report<A> {
 
     /// Adds a line for a doubt of the next step, which has this number. The error is that memory was refused, here and
     /// below; nothing is added then.
-    pub(crate) fn tell(
+    pub fn tell(
         &mut self,
         alloc: A,
         spot: Spot<'_>,
@@ -122,7 +121,7 @@ impl<A: Allocator + Copy> Report<A> {
     }
 
     /// Adds a line to that of a doubt: that this may be wrong here. The error is that memory was refused.
-    pub(crate) fn note(&mut self, alloc: A, spot: Spot<'_>, words: &[u8]) -> Result<(), AllocError>
+    pub fn note(&mut self, alloc: A, spot: Spot<'_>, words: &[u8]) -> Result<(), AllocError>
         requires { 0 < self.old.told }
         ensures told { self.new.told ≡ self.old.told }
         ensures line { OnOk result (self.new.text ≡ self.old.text ++ note_text (spot_text spot.entry) words.now) }
@@ -135,9 +134,12 @@ impl<A: Allocator + Copy> Report<A> {
         Ok(())
     }
 
-    /// Adds a line that says how many more places there are, where there are some.
-    pub(crate) fn tell_more(&mut self, alloc: A, more: u64) -> Result<(), AllocError>
-        ensures { self.new.told ≡ self.old.told }
+    /// Adds a line that says how many more places there are, if there are some, and others are told. The error is that
+    /// memory was refused.
+    pub fn tell_more(&mut self, alloc: A, more: u64) -> Result<(), AllocError>
+        ensures told { self.new.told ≡ self.old.told }
+        ensures none { more ≡ 0 → self.new ≡ self.old }
+        ensures line { 0 < more → 0 < self.old.told → OnOk result (self.new.text ≡ self.old.text ++ more_text more) }
     {
         if more == 0 || self.told == 0 {
             return Ok(());
@@ -149,7 +151,7 @@ impl<A: Allocator + Copy> Report<A> {
 
 /// Writes the lines of a report, and flushes: what was found by a run that ended so, or `Write` where the writer fails.
 #[tactic(auto, using(crate::proofs::Written::all_is_written, crate::proofs::Written::front_is_written))]
-pub(crate) fn write_found<W: Write, A: Allocator + Copy>(
+pub fn write_found<W: Write, A: Allocator + Copy>(
     output: &mut W,
     report: &Report<A>,
     halt: Halt,
@@ -199,7 +201,9 @@ fn place_of<A: Allocator + Copy>(alloc: A, spot: Spot<'_>) -> Result<Vec<u8, A>,
 }
 
 // The line that says how many more places there are.
-fn more_of<A: Allocator + Copy>(alloc: A, more: u64) -> Result<Vec<u8, A>, AllocError> {
+fn more_of<A: Allocator + Copy>(alloc: A, more: u64) -> Result<Vec<u8, A>, AllocError>
+    ensures { IfOk result (λ line. line.items ≡ more_text more) }
+{
     let mut line = Vec::from_slice(alloc, b".. and ")?;
     number_into(more, &mut line)?;
     line.extend_from_slice(b" more place")?;
@@ -208,14 +212,4 @@ fn more_of<A: Allocator + Copy>(alloc: A, more: u64) -> Result<Vec<u8, A>, Alloc
     }
     line.extend_from_slice(b"\n")?;
     Ok(line)
-}
-
-/// Why a run ended whose next step, after so many, is refused so.
-pub(crate) fn halt_of(refusal: Refusal, steps: u64) -> Halt {
-    match refusal {
-        Refusal::NotMet => Halt::Spent,
-        Refusal::TooLong => Halt::Limit(steps),
-        Refusal::Memory => Halt::Memory,
-        _ => Halt::Ended,
-    }
 }

@@ -1,18 +1,18 @@
 //! Where a parenthesis of a text may be missing, or one too many: a guess by the bytes beside it, and by how lines are
 //! indented. All of it is this project's profile.
-ghost use Rattle.std.specs.Prelude.{◌≡◌, ◌≤◌, ◌<◌, ◌+◌, length, IfOk};
-ghost use Rattle.trac_lint.specs.Places.{IsWithin};
+ghost use Rattle.std.specs.Prelude.{◌≡◌, ◌⊎◌, ◌≤◌, ◌<◌, ◌+◌, length, None, IfOk};
+ghost use Rattle.trac_findings.specs.Places.{IsTooDeep, IsWithin, fault_words};
 ghost use Rattle.trac_rules.specs.Matching.{IsBalanced};
 
 use std::alloc::{AllocError, Allocator};
 use trac_rules::byte::{CARRIAGE_RETURN, CLOSING, COMMA, LINE_FEED, OPENING, SHARP, TAB};
 
-// Of a text in which so many parentheses are begun at once nothing is guessed.
-const DEPTH_LIMIT: usize = 65_536;
+/// Of a text in which so many parentheses are begun at once nothing is guessed.
+pub const DEPTH_LIMIT: usize = 65_536;
 
 /// What may be wrong with a parenthesis.
 #[derive(Clone, Copy, Debug, PartialEq, Eq)]
-pub(crate) enum Fault {
+pub enum Fault {
     /// A `(` may be missing.
     MissingOpening,
     /// A `)` may be missing.
@@ -26,9 +26,11 @@ pub(crate) enum Fault {
 /// Which parenthesis of a text may be wrong: the number of its byte, the first being number 0. Of one that may be
 /// missing it is that of the byte before which it may be, or the text's length.
 #[derive(Clone, Copy, Debug, PartialEq, Eq)]
-pub(crate) struct Advice {
-    pub(crate) fault: Fault,
-    pub(crate) place: usize,
+pub struct Advice {
+    /// What may be wrong.
+    pub fault: Fault,
+    /// The number of the byte.
+    pub place: usize,
 }
 
 // What a `(` begins: a call, a protected text that begins with a call, or another protected text.
@@ -82,12 +84,10 @@ struct Signs {
 
 /// Which parenthesis of a text is probably wrong; none if each has its match, or too many are begun at once. The error
 /// is that memory was refused.
-pub(crate) fn advice_on<A: Allocator + Copy>(
-    alloc: A,
-    text: &[u8],
-) -> Result<Option<Advice>, AllocError>
+pub fn advice_on<A: Allocator + Copy>(alloc: A, text: &[u8]) -> Result<Option<Advice>, AllocError>
     ensures within { IfOk result (λ given. IsWithin text.now given) }
     ensures balanced { IfOk result (λ given. IsBalanced text.now → given ≡ None) }
+    ensures unbalanced { IfOk result (λ given. given ≡ None → IsBalanced text.now ⊎ IsTooDeep text.now) }
 {
     let mut begun: Vec<Begun, A> = Vec::new(alloc);
     let mut before = Before::nothing();
@@ -128,7 +128,9 @@ pub(crate) fn advice_on<A: Allocator + Copy>(
 
 impl Fault {
     /// What is said of it.
-    pub(crate) fn words(self) -> &'static [u8] {
+    pub fn words(self) -> &'static [u8]
+        ensures { result.now ≡ fault_words self }
+    {
         match self {
             Fault::MissingOpening => b"a ( may be missing here",
             Fault::MissingClosing => b"a ) may be missing here",
@@ -223,6 +225,11 @@ impl Here {
         self.inner.is_some_and(|inner| inner.kind == Kind::Call)
     }
 
+    // Whether it stands in a protected text that begins with no call, so mostly in prose.
+    fn is_in_text(self) -> bool {
+        self.inner.is_some_and(|inner| inner.kind == Kind::Text)
+    }
+
     // Whether it seldom stands after a `)` that is before it, or, if it begins a line, after what ends the one before.
     fn is_odd(self) -> bool {
         if let Some(kind) = self.before.ended
@@ -247,8 +254,8 @@ impl Here {
             OPENING => false,
             // a protected call that is only a part of an argument
             SHARP => kind == Kind::Code,
-            // other text after a protected one
-            _ => kind != Kind::Call,
+            // other text after a protected one, but in prose
+            _ => kind != Kind::Call && !self.is_in_text(),
         }
     }
 
