@@ -45,43 +45,44 @@ impl<'a> FaultyReader<'a> {
     }
 
     /// Gives at most this many bytes a call, where 0 counts as 1: a read that gives none says that the end is there.
-    pub fn at_most(mut self, most: usize) -> FaultyReader<'a>
+    pub fn at_most(self, most: usize) -> FaultyReader<'a>
         ensures { result ≡ with_most self.entry most }
     {
-        self.most = most;
-        self
+        FaultyReader { most, ..self }
     }
 
     /// Gives at most one line a call, up to its line feed and with it.
-    pub fn by_lines(mut self) -> FaultyReader<'a>
+    pub fn by_lines(self) -> FaultyReader<'a>
         ensures { result ≡ with_lines self.entry }
     {
-        self.by_lines = true;
-        self
+        let by_lines = true;
+        FaultyReader { by_lines, ..self }
     }
 
     /// Fails at the call of this number, where 1 is the first call, and goes on after it. At 0 no call fails.
-    pub fn failing_at(mut self, call: u64) -> FaultyReader<'a>
+    pub fn failing_at(self, call: u64) -> FaultyReader<'a>
         ensures { result ≡ with_fault self.entry call }
     {
-        self.fails_at = Some(call);
-        self
+        let fails_at = Some(call);
+        FaultyReader { fails_at, ..self }
     }
 
     /// Fails once where all bytes are given. The call after that sees the end.
-    pub fn failing_at_end(mut self) -> FaultyReader<'a>
+    pub fn failing_at_end(self) -> FaultyReader<'a>
         ensures { result ≡ with_fault_at_end self.entry }
     {
-        self.fails_at_end = true;
-        self
+        let fails_at_end = true;
+        FaultyReader {
+            fails_at_end,
+            ..self
+        }
     }
 
     /// Fails with an error of this kind, in place of `ErrorKind::Other`.
-    pub fn with_kind(mut self, kind: ErrorKind) -> FaultyReader<'a>
+    pub fn with_kind(self, kind: ErrorKind) -> FaultyReader<'a>
         ensures { result ≡ with_kind self.entry kind }
     {
-        self.kind = kind;
-        self
+        FaultyReader { kind, ..self }
     }
 
     /// The bytes that no call has given yet.

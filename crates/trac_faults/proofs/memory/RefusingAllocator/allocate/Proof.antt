@@ -1,5 +1,6 @@
 -- `allocate` asks whether the request is accepted, and then either asks the backing or answers an error that owns nothing.
 use Rattle.trac_faults.proofs.Steps.{◌≡◌, ℕ, ◌+◌, ◌^◌, ◌<◌, Bool, true, false, List, [], ◌∷◌, Ok, Err, refl, w64, Bor, Ura, Ty, Args, Fn, a_type, dnil, dcons, Val, vbool, vint, vptr, inst_fn, SProp, ent, id⊢, Lft, Share, ftrue, flft, Memory, size, align, capped, up, Routine, WpFn, Tables, Logic, ‵, raw, ⋆, ◌⊛◌, some, later, given, at_ret, ◌$◌, ◌∵◌, !, qed, by, move, keep, use0, use1, use2, split, join, pick, learn, fsplit, fjoin, suffices, await, done, stop, fld, addr, un, no_more, and_then, lit, first, branches, skips, exec, returns, returns_within, enter, agg, alloc_all, pass_all, free_all, look_at, get, through, sets, lands_as, env, ◌⊑◌, ⊑_trans, Fun, fact, tables, tables_of, fm_of, WpFn-mono, usize, RefOf, yes, unhide, bounded, param, uint_vals, uint_Tells, owns, block_ptr, shr_vals, Slot, plain, types_at, heard, nothing, calls_at, Ended, Clauses, triple_of, Triple, entered, cited, Stays, stay_dropped, walk_of, ends_at, walked, Goes-dropped, walk_Meets, after}
+use Rattle.trac_faults.proofs.Lent.{args, self, backing_in, Laid}
 use Rattle.std.proofs.alloc.Calls.{Al, α, token, seen, Answer, answer_val, Answer-typed, Answer-Ok, Answer-err, takes_key, Takes, at_takes, Answered, Takes-goes, Takes-gives, answers}
 use Rattle.std.specs.Allocator.{block_if_ok}
 use Rattle.trac_faults.proofs.Asking.{Asks, asks_with, Asks-starts, Asks-ends}
@@ -11,21 +12,14 @@ use Rattle.trac_faults.specs.contracts.memory.RefusingAllocator.allocate.Key as 
 use Rattle.trac_faults.proofs.memory.RefusingAllocator.allocate.Statement as stated
 use Rattle.trac_faults.proofs.memory.RefusingAllocator.allocate.Code as code
 
-module _ (Z : Al) where
-  abbrev args : Args
-  args = bounded (a_type ∷ []) (Z.row, tt) (dcons Z.d (dcons Z.drops dnil))
+abbrev body : Al → Fn
+body Z = inst_fn (args Z) code.function
 
-  abbrev body : Fn
-  body = inst_fn args code.function
+abbrev ended : Al → Ended
+ended Z = this.ended Z.row Z.g Z.d Z.drops
 
-  abbrev self : Slot 2
-  self = RefOf (0 ∷ []) tt (plain (λ _. refusing.the_row (param 0 Z.row))) (λ _. tt)
-
-  abbrev ended : Ended
-  ended = this.ended Z.row Z.g Z.d Z.drops
-
-  abbrev stayed : Stays ended.signature.params ended.kept
-  stayed = (stay_dropped self yes, (stay_dropped (plain (λ _. usize)) yes, (stay_dropped (plain (λ _. usize)) yes, tt)))
+abbrev stayed : (Z : Al) → Stays (ended Z).signature.params (ended Z).kept
+stayed Z = (stay_dropped (self Z) yes, (stay_dropped (plain (λ _. usize)) yes, (stay_dropped (plain (λ _. usize)) yes, tt)))
 
 module _ (Z : Al) {M : Type 1} {𝓤 : Ura M} (𝓛 : Logic 𝓤) (at_mem : Memory → SProp 𝓤) (run : Routine → Fun 𝓤) (𝓣 : Tables 𝓤 𝓛.H)
     (backing : Triple 𝓤 (𝓣.C (takes_key Z)) (Takes Z 𝓛 at_mem run)) (asking : Triple 𝓤 (𝓣.C asked.name) (Asks 𝓛 at_mem run)) where
@@ -44,10 +38,6 @@ module _ (Z : Al) {M : Type 1} {𝓤 : Ura M} (𝓛 : Logic 𝓤) (at_mem : Memo
     abbrev Post : Val → SProp 𝓤
     Post = (walk_of 𝓛 (ended Z) (stayed Z) clauses).post bound
 
-    -- the layout that the caller names is that of its type
-    abbrev Laid : Type 0
-    Laid = (capped (size τ) ≡ n) × (capped (align τ) ≡ a)
-
     -- either end: an answer with what comes with it, and the tokens
     ending : (v : Val) (answer : Answer.Denot) → ent 𝓤 (⋆ 𝓛 (‵ (Answer.own_val answer (v ∷ [])) ∷ ‵ (block_if_ok (token Z r.now.backing) τ answer) ∷ ‵ (flft κ q) ∷ (‵ (flft ρ s) ⊛ ‵ ftrue) ∷ [])) (Post v)
     ending v answer =
@@ -58,11 +48,11 @@ module _ (Z : Al) {M : Type 1} {𝓤 : Ura M} (𝓛 : Logic 𝓤) (at_mem : Memo
     walk : n < 2 ^ 64 → a < 2 ^ 64 → ent 𝓤 ((walk_of 𝓛 (ended Z) (stayed Z) clauses).pre bound) (WpFn 𝓤 H 𝓣.C 𝓣.Λ (body Z) vs Post)
     walk fits_n fits_a =
         let h : Z.row.Denot = r.now.backing in
-        let p : ℕ × ℕ = (r.ref_ptr.0, r.ref_ptr.1 + up (align (α Z)) 0) in
+        let p : ℕ × ℕ = backing_in Z r in
         let c : ℕ × ℕ = (r.ref_ptr.0, r.ref_ptr.1 + up 8 (up (align (α Z)) 0 + size (α Z))) in
         let y : (Takes Z 𝓛 at_mem run).Ghost = at_takes Z 𝓛 at_mem run κ q p h n a τ in
-        qed 𝓛 (((‵ (flft κ q) ⊛ ‵ (flft ρ s) ⊛ ‵ ftrue) ⊛ ‵ (owns (types_at (ended Z).signature.params bound.0.0) bound.0.3 bound.0.4)) ∷ (raw (fact 𝓤 (ρ ⊑ Z.row.lives)) ⊛ raw (fact 𝓤 Laid)) ∷ []) ∵
-        move ! (1 ∷ []) $ split ! $ heard ! (ρ ⊑ Z.row.lives) (λ within. heard ! Laid (λ laid.
+        qed 𝓛 (((‵ (flft κ q) ⊛ ‵ (flft ρ s) ⊛ ‵ ftrue) ⊛ ‵ (owns (types_at (ended Z).signature.params bound.0.0) bound.0.3 bound.0.4)) ∷ (raw (fact 𝓤 (ρ ⊑ Z.row.lives)) ⊛ raw (fact 𝓤 (Laid n a τ))) ∷ []) ∵
+        move ! (1 ∷ []) $ split ! $ heard ! (ρ ⊑ Z.row.lives) (λ within. heard ! (Laid n a τ) (λ laid.
         split ! $ split ! $ move ! (2 ∷ []) $ fsplit ! $ fsplit ! $ move ! (1 ∷ []) $ unhide ! $ fsplit ! $ fsplit ! $ use1 𝓛 (‵ (seen Z κ p h)) (id⊢ 𝓤 _) $ move ! (1 ∷ []) $ fsplit ! $ keep ! (0 ∷ 6 ∷ 2 ∷ 7 ∷ []) $
         -- [a `&` to the counts; the token of `self`; a `&` to the backing; the other token]
         enter ! 𝓣.C 𝓣.Λ (body Z) vs _ $ alloc_all ! (λ l. pass_all ! refl ((tt, tt), ((tt, record { fits = fits_n }), ((tt, record { fits = fits_a }), tt))) $
@@ -92,11 +82,10 @@ pub allocate_spec : {M : Type 1} → stated.statement M
 unfolding tables_of
 allocate_spec 𝓤 𝓛 𝓜 𝓡 wired Y L g d d' met _ =
     let Z : Al = record { row = Y; laws = L; g = g; d = d; drops = d' } in
-    let A = 𝓛.A in
     let 𝓣 : Tables 𝓤 𝓛.H = tables_of 𝓤 𝓛.H 𝓜 (tables 𝓤 𝓛.H 𝓜 𝓡 𝓡.env) in
+    let asking = cited 𝓤 𝓛.H _ 𝓜 𝓡 𝓡.env asked.name (𝓡.env asked.name) refl (asked_met.met 𝓤 𝓛 𝓜 𝓡 (code.calls-trac_faults::memory::accepts 𝓡.env wired)) in
     let runs = WpFn 𝓤 𝓛.H 𝓣.C 𝓣.Λ (body Z) in
     let word = Goes-dropped 𝓛 2 (plain (λ _. usize)) yes (λ κs x f. refl) in
-    let asking = cited 𝓤 𝓛.H _ 𝓜 𝓡 𝓡.env asked.name (𝓡.env asked.name) refl (asked_met.met 𝓤 𝓛 𝓜 𝓡 (code.calls-trac_faults::memory::accepts 𝓡.env wired)) in
     entered 𝓤 𝓛.H (triple_of 𝓛 (this.signature Y) (this.spec Y g d d' 𝓛 𝓜.mem 𝓡.returns)) 𝓣.C 𝓣.Λ (key.name (args Z)) (body Z) (code.unfolded 𝓤 𝓛.H 𝓜 𝓡 wired (Y, tt) d d')
     (walk_Meets 𝓛 (ended Z) (stayed Z) (Goes-dropped 𝓛 2 (self Z) yes (λ κs x f. refl), (word, (word, tt))) (clauses Z 𝓛 𝓜.mem 𝓡.returns 𝓣 (met.allocate d') asking) runs (WpFn-mono 𝓤 𝓛.H 𝓛.laws 𝓣 (body Z))
     (walked 𝓛 (ended Z) (stayed Z) (clauses Z 𝓛 𝓜.mem 𝓡.returns 𝓣 (met.allocate d') asking) runs (λ κs. (shr_vals, (uint_vals w64, (uint_vals w64, tt)))) (λ κs. ((λ r vs s. s.0), (uint_Tells w64, (uint_Tells w64, tt))))

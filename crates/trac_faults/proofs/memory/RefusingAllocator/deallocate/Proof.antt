@@ -1,5 +1,6 @@
 -- `deallocate` hands the block to the backing, which gave it out. No count changes.
 use Rattle.trac_faults.proofs.Steps.{◌≡◌, ℕ, ◌+◌, ◌^◌, ◌<◌, List, [], ◌∷◌, refl, sym, subst, w64, Bor, Ura, Ty, Args, Fn, a_type, ty_unit, dnil, dcons, Val, vunit, vint, vptr, T, has_ty, WT, inst_fn, SProp, ent, id⊢, never_e, Lft, Share, ftrue, ffalse, fsep, froom, flft, Memory, size, align, capped, up, Routine, WpFn, Tables, Logic, Item, ‵, raw, ◌⊛◌, later, given, ◌$◌, ◌∵◌, !, qed, by, move, keep, use1, split, split3, join, learn, fsplit, fjoin, feq_i, suffices, await, at_ret, done, stop, fld, addr, no_more, and_then, of_opd, unit_lit, first, blocks, exec, returns, enter, alloc_all, pass_all, free_all, look_at, get, through, sets, lands_last, env, ◌⊑◌, ⊑_trans, Fun, fact, tables, tables_of, fm_of, WpFn-mono, usize, RawPtr, RefOf, yes, unhide, bounded, param, uint_vals, uint_Tells, owns, Ptr, block_ptr, null_ptr, ptr_val, rawptr_vals, rawptr_Tells, shr_vals, Slot, plain, types_at, heard, nothing, calls_at_last, Ended, Clauses, triple_of, Triple, entered, Stays, stay_dropped, walk_of, ends_at, walked, Goes-dropped, walk_Meets, after}
+use Rattle.trac_faults.proofs.Lent.{args, self, backing_in, Laid}
 use Rattle.std.proofs.alloc.Calls.{Al, α, token, seen, gives_key, Gives, at_gives, Gives-goes, Gives-Gives}
 use Rattle.trac_faults.specs.contracts.memory.Refusing as refusing
 use Rattle.trac_faults.specs.contracts.memory.RefusingAllocator.deallocate as this
@@ -7,21 +8,14 @@ use Rattle.trac_faults.specs.contracts.memory.RefusingAllocator.deallocate.Key a
 use Rattle.trac_faults.proofs.memory.RefusingAllocator.deallocate.Statement as stated
 use Rattle.trac_faults.proofs.memory.RefusingAllocator.deallocate.Code as code
 
-module _ (Z : Al) where
-  abbrev args : Args
-  args = bounded (a_type ∷ []) (Z.row, tt) (dcons Z.d (dcons Z.drops dnil))
+abbrev body : Al → Fn
+body Z = inst_fn (args Z) code.function
 
-  abbrev body : Fn
-  body = inst_fn args code.function
+abbrev ended : Al → Ended
+ended Z = this.ended Z.row Z.g Z.d Z.drops
 
-  abbrev self : Slot 2
-  self = RefOf (0 ∷ []) tt (plain (λ _. refusing.the_row (param 0 Z.row))) (λ _. tt)
-
-  abbrev ended : Ended
-  ended = this.ended Z.row Z.g Z.d Z.drops
-
-  abbrev stayed : Stays ended.signature.params ended.kept
-  stayed = (stay_dropped self yes, (stay_dropped (plain (λ _. RawPtr)) yes, (stay_dropped (plain (λ _. usize)) yes, (stay_dropped (plain (λ _. usize)) yes, tt))))
+abbrev stayed : (Z : Al) → Stays (ended Z).signature.params (ended Z).kept
+stayed Z = (stay_dropped (self Z) yes, (stay_dropped (plain (λ _. RawPtr)) yes, (stay_dropped (plain (λ _. usize)) yes, (stay_dropped (plain (λ _. usize)) yes, tt))))
 
 module _ (Z : Al) {M : Type 1} {𝓤 : Ura M} (𝓛 : Logic 𝓤) (at_mem : Memory → SProp 𝓤) (run : Routine → Fun 𝓤) (𝓣 : Tables 𝓤 𝓛.H)
     (backing : Triple 𝓤 (𝓣.C (gives_key Z)) (Gives Z 𝓛 at_mem run)) where
@@ -43,22 +37,18 @@ module _ (Z : Al) {M : Type 1} {𝓤 : Ura M} (𝓛 : Logic 𝓤) (at_mem : Memo
     abbrev passed : Ptr → Item 𝓤
     passed x = (‵ (flft κ q) ⊛ ‵ (flft ρ s) ⊛ ‵ ftrue) ⊛ ‵ (owns (types_at (ended Z).signature.params (bound x).0.0) (bound x).0.3 (bound x).0.4)
 
-    -- the layout that the caller names is that of the block's type
-    abbrev Laid : Type 0
-    Laid = (capped (size τ) ≡ n) × (capped (align τ) ≡ a)
-
     walk : n < 2 ^ 64 → a < 2 ^ 64 → (x : Ptr) → ent 𝓤 ((walk_of 𝓛 (ended Z) (stayed Z) clauses).pre (bound x)) (WpFn 𝓤 H 𝓣.C 𝓣.Λ (body Z) (vs x) (Post x))
     -- no block lies at null
     walk fits_n fits_a null_ptr =
-        qed 𝓛 (passed null_ptr ∷ (raw (fact 𝓤 (ρ ⊑ Z.row.lives)) ⊛ raw (fact 𝓤 Laid) ⊛ ‵ (fsep ffalse (token Z r.now.backing τ null_ptr))) ∷ []) ∵
+        qed 𝓛 (passed null_ptr ∷ (raw (fact 𝓤 (ρ ⊑ Z.row.lives)) ⊛ raw (fact 𝓤 (Laid n a τ)) ⊛ ‵ (fsep ffalse (token Z r.now.backing τ null_ptr))) ∷ []) ∵
         move ! (1 ∷ []) $ split3 ! $ move ! (2 ∷ []) $ fsplit ! $ keep ! (0 ∷ []) $ by ! (never_e 𝓤 _)
     walk fits_n fits_a (block_ptr b o) =
         let h : Z.row.Denot = r.now.backing in
-        let p : ℕ × ℕ = (r.ref_ptr.0, r.ref_ptr.1 + up (align (α Z)) 0) in
+        let p : ℕ × ℕ = backing_in Z r in
         let x : Ptr = block_ptr b o in
         let y : (Gives Z 𝓛 at_mem run).Ghost = at_gives Z 𝓛 at_mem run κ q p h b o n a τ in
-        qed 𝓛 (passed x ∷ (raw (fact 𝓤 (ρ ⊑ Z.row.lives)) ⊛ raw (fact 𝓤 Laid) ⊛ ‵ (fsep (froom τ b o) (token Z h τ x))) ∷ []) ∵
-        move ! (1 ∷ []) $ split3 ! $ heard ! (ρ ⊑ Z.row.lives) (λ within. heard ! Laid (λ laid. move ! (1 ∷ []) $
+        qed 𝓛 (passed x ∷ (raw (fact 𝓤 (ρ ⊑ Z.row.lives)) ⊛ raw (fact 𝓤 (Laid n a τ)) ⊛ ‵ (fsep (froom τ b o) (token Z h τ x))) ∷ []) ∵
+        move ! (1 ∷ []) $ split3 ! $ heard ! (ρ ⊑ Z.row.lives) (λ within. heard ! (Laid n a τ) (λ laid. move ! (1 ∷ []) $
         split ! $ split ! $ move ! (2 ∷ []) $ fsplit ! $ fsplit ! $ move ! (1 ∷ []) $ unhide ! $ fsplit ! $ fsplit ! $ use1 𝓛 (‵ (seen Z κ p h)) (id⊢ 𝓤 _) $ keep ! (0 ∷ 5 ∷ 6 ∷ 7 ∷ []) $
         -- [a `&` to the backing; the token of `self`; the other token; the block]
         enter ! 𝓣.C 𝓣.Λ (body Z) (vs x) _ $ alloc_all ! (λ l. pass_all ! refl ((tt, tt), ((tt, tt), ((tt, record { fits = fits_n }), ((tt, record { fits = fits_a }), tt)))) $
@@ -77,11 +67,10 @@ pub deallocate_spec : {M : Type 1} → stated.statement M
 unfolding tables_of
 deallocate_spec 𝓤 𝓛 𝓜 𝓡 wired Y L g d d' met _ =
     let Z : Al = record { row = Y; laws = L; g = g; d = d; drops = d' } in
-    let A = 𝓛.A in
     let 𝓣 : Tables 𝓤 𝓛.H = tables_of 𝓤 𝓛.H 𝓜 (tables 𝓤 𝓛.H 𝓜 𝓡 𝓡.env) in
+    let held = clauses Z 𝓛 𝓜.mem 𝓡.returns 𝓣 (met.deallocate d') in
     let runs = WpFn 𝓤 𝓛.H 𝓣.C 𝓣.Λ (body Z) in
     let word = Goes-dropped 𝓛 2 (plain (λ _. usize)) yes (λ κs x f. refl) in
-    let held = clauses Z 𝓛 𝓜.mem 𝓡.returns 𝓣 (met.deallocate d') in
     entered 𝓤 𝓛.H (triple_of 𝓛 (this.signature Y) (this.spec Y g d d' 𝓛 𝓜.mem 𝓡.returns)) 𝓣.C 𝓣.Λ (key.name (args Z)) (body Z) (code.unfolded 𝓤 𝓛.H 𝓜 𝓡 wired (Y, tt) d d')
     (walk_Meets 𝓛 (ended Z) (stayed Z) (Goes-dropped 𝓛 2 (self Z) yes (λ κs x f. refl), (Goes-dropped 𝓛 2 (plain (λ _. RawPtr)) yes (λ κs x f. refl), (word, (word, tt)))) held runs (WpFn-mono 𝓤 𝓛.H 𝓛.laws 𝓣 (body Z))
     (walked 𝓛 (ended Z) (stayed Z) held runs (λ κs. (shr_vals, (rawptr_vals, (uint_vals w64, (uint_vals w64, tt))))) (λ κs. ((λ r vs s. s.0), (rawptr_Tells, (uint_Tells w64, (uint_Tells w64, tt)))))
