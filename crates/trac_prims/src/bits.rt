@@ -1,5 +1,5 @@
 //! Bit strings: operations on the octal strings of arguments.
-ghost use Rattle.std.specs.Prelude.{◌≡◌, IfOk, IsOkUnless};
+ghost use Rattle.std.specs.Prelude.{◌≡◌, cond, IfOk, IsOkUnless};
 ghost use Rattle.trac_rules.specs.Computing.{computed};
 ghost use Rattle.trac_rules.specs.Effect.{argument, gives};
 ghost use Rattle.trac_rules.specs.Octal.{IsOctal, octal_tail};
@@ -47,34 +47,20 @@ pub(crate) fn complement_of<A: Allocator + Copy>(
     Ok(complement(alloc, octal_at(args, 1))?)
 }
 
-// `bs`: an octal string with its bits moved; empty where the number does not fit.
-pub(crate) fn shift_of<A: Allocator + Copy>(
+// `bs` and `br`: an octal string with its bits moved, or else rotated; empty where the number does not fit.
+pub(crate) fn moved_of<A: Allocator + Copy>(
     alloc: A,
+    rotates: bool,
     args: &Args<'_>,
     width: Width,
 ) -> Result<Vec<u8, A>, Refusal>
-    ensures made { IfOk result
-        (λ text. (storage : Storage) → computed Shift width args.now storage ≡ gives text.items storage) }
+    ensures made { IfOk result (λ text. (storage : Storage) →
+        computed (cond rotates Rotate Shift) width args.now storage ≡ gives text.items storage) }
     ensures err { IsOkUnless result Refusal.Memory }
 {
     match number_at(args, 1, width) {
+        Some(by) if rotates => Ok(rotate(alloc, by, octal_at(args, 2))?),
         Some(by) => Ok(shift(alloc, by, octal_at(args, 2))?),
-        None => Ok(Vec::new(alloc)),
-    }
-}
-
-// `br`: an octal string with its bits rotated; empty where the number does not fit.
-pub(crate) fn rotation_of<A: Allocator + Copy>(
-    alloc: A,
-    args: &Args<'_>,
-    width: Width,
-) -> Result<Vec<u8, A>, Refusal>
-    ensures made { IfOk result
-        (λ text. (storage : Storage) → computed Rotate width args.now storage ≡ gives text.items storage) }
-    ensures err { IsOkUnless result Refusal.Memory }
-{
-    match number_at(args, 1, width) {
-        Some(by) => Ok(rotate(alloc, by, octal_at(args, 2))?),
         None => Ok(Vec::new(alloc)),
     }
 }

@@ -75,8 +75,7 @@ pub(crate) fn fetch_block<A: Allocator + Copy>(
         (block_handled FetchBlock args.now (storage_in store.now)) texts texts change.new result }
     ensures change { OnOk result (IsChangeOf (HandleBlock FetchBlock) args.now (storage_in store.now) change.new) }
 {
-    let found = named_block(alloc, args, store)?;
-    let Some((number, block)) = found else {
+    let Some((number, block)) = named_block(alloc, args, store)? else {
         return Ok(NOTHING);
     };
     if !may_come_back(store, block) {
@@ -99,8 +98,7 @@ pub(crate) fn erase_block<A: Allocator + Copy>(
         (block_handled EraseBlock args.now (storage_in store.now)) texts texts change.new result }
     ensures change { OnOk result (IsChangeOf (HandleBlock EraseBlock) args.now (storage_in store.now) change.new) }
 {
-    let found = named_block(alloc, args, store)?;
-    let Some((number, _block)) = found else {
+    let Some((number, _block)) = named_block(alloc, args, store)? else {
         return Ok(NOTHING);
     };
     let name = Vec::from_slice(alloc, args.get(1))?;

@@ -8,7 +8,7 @@ ghost use Rattle.trac_rules.specs.declared.primitive.Computation.TheVariants.{Ca
 ghost use Rattle.trac_change.specs.declared.change.Change.TheVariants.{Keep};
 ghost use Rattle.trac_prims.specs.Effects.{IsDone};
 
-use crate::bits::{complement_of, meet_of, rotation_of, shift_of, union_of};
+use crate::bits::{complement_of, meet_of, moved_of, union_of};
 use crate::effect::{Deed, Made, NOTHING};
 use std::alloc::Allocator;
 use trac_num::{add, div, greater, mul, print_into, read_tail, sub, value};
@@ -35,8 +35,8 @@ pub(crate) fn compute<A: Allocator + Copy>(
         Computation::Union => give(union_of(alloc, args)?.as_slice(), made),
         Computation::Meet => give(meet_of(alloc, args)?.as_slice(), made),
         Computation::Complement => give(complement_of(alloc, args)?.as_slice(), made),
-        Computation::Shift => give(shift_of(alloc, args, width)?.as_slice(), made),
-        Computation::Rotate => give(rotation_of(alloc, args, width)?.as_slice(), made),
+        Computation::Shift => give(moved_of(alloc, false, args, width)?.as_slice(), made),
+        Computation::Rotate => give(moved_of(alloc, true, args, width)?.as_slice(), made),
     }
 }
 

@@ -51,18 +51,18 @@ returns-in_ok-complement_of-in-Complement g c = λ storage.
     ∙ ap (λ (text : List ℕ). gives text storage) (sym c.as_slice-in-Complement.ensures.value) in
     subst (λ (e : Effect). IsDone c.args.args.now storage (Ok e) c.args.made.now c.give-in-Complement.new.made Keep c.give-in-Complement.result) (sym said) (c.give-in-Complement.ensures c.args.args.now storage)
 
-pub returns-in_ok-shift_of-in-Shift : goal.returns-in_ok-shift_of-in-Shift
-returns-in_ok-shift_of-in-Shift g c = λ storage.
+pub returns-in_ok-moved_of-in-Shift : goal.returns-in_ok-moved_of-in-Shift
+returns-in_ok-moved_of-in-Shift g c = λ storage.
     let said : computed c.args.computation c.args.width c.args.args.now storage ≡ gives c.as_slice-in-Shift.result.now storage =
     ap (λ (k : Computation). computed k c.args.width c.args.args.now storage) c.in-Shift.is
-    ∙ c.in_ok-shift_of-in-Shift.ensures.made storage
+    ∙ c.in_ok-moved_of-in-Shift.ensures.made storage
     ∙ ap (λ (text : List ℕ). gives text storage) (sym c.as_slice-in-Shift.ensures.value) in
     subst (λ (e : Effect). IsDone c.args.args.now storage (Ok e) c.args.made.now c.give-in-Shift.new.made Keep c.give-in-Shift.result) (sym said) (c.give-in-Shift.ensures c.args.args.now storage)
 
-pub returns-in_ok-rotation_of-in-Rotate : goal.returns-in_ok-rotation_of-in-Rotate
-returns-in_ok-rotation_of-in-Rotate g c = λ storage.
+pub returns-in_ok-moved_of-in-Rotate : goal.returns-in_ok-moved_of-in-Rotate
+returns-in_ok-moved_of-in-Rotate g c = λ storage.
     let said : computed c.args.computation c.args.width c.args.args.now storage ≡ gives c.as_slice-in-Rotate.result.now storage =
     ap (λ (k : Computation). computed k c.args.width c.args.args.now storage) c.in-Rotate.is
-    ∙ c.in_ok-rotation_of-in-Rotate.ensures.made storage
+    ∙ c.in_ok-moved_of-in-Rotate.ensures.made storage
     ∙ ap (λ (text : List ℕ). gives text storage) (sym c.as_slice-in-Rotate.ensures.value) in
     subst (λ (e : Effect). IsDone c.args.args.now storage (Ok e) c.args.made.now c.give-in-Rotate.new.made Keep c.give-in-Rotate.result) (sym said) (c.give-in-Rotate.ensures c.args.args.now storage)
