@@ -7,6 +7,7 @@ ghost use Rattle.trac_rules.specs.Blocks.{number_addressed};
 ghost use Rattle.trac_rules.specs.Doubts.{block_doubts, doubts_of_call, form_doubts, name_doubts, needs_block};
 ghost use Rattle.trac_rules.specs.Doubts.{needs_form, unknown_name};
 ghost use Rattle.trac_rules.specs.Effect.{argument};
+ghost use Rattle.trac_doubts.specs.Calls.{use_doubts};
 
 use crate::addresses::is_address;
 use crate::counts::unused_doubt;
@@ -32,9 +33,20 @@ pub(crate) fn is_doubtful_call<A: Allocator + Copy>(
     let primitive = primitive_named(args.get(0));
     let form = store.get(args.get(1));
     name_doubt(primitive, args, store).is_some()
-        || form_doubt(primitive, form).is_some()
-        || block_doubt(primitive, form, store).is_some()
-        || unused_doubt(primitive, form, args.count()).is_some()
+        || form_doubt(primitive, form, store).is_some()
+        || is_doubtful_use(primitive, args, form, width)
+}
+
+// Whether what such a call gives its primitive has a doubt.
+fn is_doubtful_use<A: Allocator + Copy>(
+    primitive: Primitive,
+    args: &Args<'_>,
+    form: Option<&Form<A>>,
+    width: Width,
+) -> bool
+    ensures { result ≡ nat_lt 0 (length (use_doubts primitive width args.now (option_copied form.entry))) }
+{
+    unused_doubt(primitive, form, args.count()).is_some()
         || has_no_numbers(primitive, args)
         || result_doubt(primitive, args, width).is_some()
         || has_missing_text(primitive, args, form)
@@ -54,8 +66,22 @@ pub(crate) fn call_doubts_into<A: Allocator + Copy, B: Allocator>(
     let primitive = primitive_named(args.get(0));
     let form = store.get(args.get(1));
     add(name_doubt(primitive, args, store), out)?;
-    add(form_doubt(primitive, form), out)?;
-    add(block_doubt(primitive, form, store), out)?;
+    add(form_doubt(primitive, form, store), out)?;
+    use_doubts_into(primitive, args, form, width, out)
+}
+
+// Puts the doubts of what such a call gives its primitive at the end of `out`.
+fn use_doubts_into<A: Allocator + Copy, B: Allocator>(
+    primitive: Primitive,
+    args: &Args<'_>,
+    form: Option<&Form<A>>,
+    width: Width,
+    out: &mut Vec<Doubt, B>,
+) -> Result<(), Refusal>
+    ensures ok { OnOk result
+        (out.new.items ≡ out.old.items ++ use_doubts primitive width args.now (option_copied form.entry)) }
+    ensures err { IsOkUnless result Refusal.Memory }
+{
     add(unused_doubt(primitive, form, args.count()), out)?;
     number_doubts_into(primitive, args, out)?;
     add(result_doubt(primitive, args, width), out)?;
@@ -100,23 +126,19 @@ fn unknown_name<A: Allocator + Copy>(form: Option<&Form<A>>) -> Doubt
     }
 }
 
-// The doubt of a primitive that needs a form, by the form that argument 1 names.
-fn form_doubt<A: Allocator + Copy>(primitive: Primitive, form: Option<&Form<A>>) -> Option<Doubt>
-    ensures { option_to_list result ≡ form_doubts primitive (option_copied form.entry) }
-{
-    (needs_form(primitive) && form.is_none()).then_some(Doubt::NoForm)
-}
-
-// The doubt of a primitive that needs a block, by the form that argument 1 names.
-fn block_doubt<A: Allocator + Copy>(
+// The doubt of a primitive that needs a form or its block, by the form that argument 1 names: there is at most one.
+fn form_doubt<A: Allocator + Copy>(
     primitive: Primitive,
     form: Option<&Form<A>>,
     store: &Store<A>,
 ) -> Option<Doubt>
-    ensures { option_to_list result ≡ block_doubts primitive (option_copied form.entry)
+    ensures { option_to_list result ≡ form_doubts primitive (option_copied form.entry)
+        ++ block_doubts primitive (option_copied form.entry)
         (option_and_then (λ form. number_addressed form store.now.blocks) (option_copied form.entry)) }
 {
-    let form = form?;
+    let Some(form) = form else {
+        return needs_form(primitive).then_some(Doubt::NoForm);
+    };
     (needs_block(primitive) && !is_address(form, store)).then_some(Doubt::NoBlock)
 }
 

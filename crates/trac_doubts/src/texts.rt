@@ -1,6 +1,6 @@
 //! Texts that `ss` does not find.
 ghost use Rattle.std.specs.Prelude.{◌≡◌, ◌++◌, ◌*◌, ◌<◌, ◌≤◌, ◌&&◌, not, ◌+◌, drop, length, nat_lt, option_copied};
-ghost use Rattle.std.specs.Prelude.{option_to_list, slice_get, sum, take, false, [], ◌∷◌, OnOk, IsOkUnless};
+ghost use Rattle.std.specs.Prelude.{option_to_list, slice_get, sum, take, false, [], ◌∷◌, MatchOption, OnOk, IsOkUnless};
 ghost use Rattle.std.specs.Option.{option_map_or};
 ghost use Rattle.trac_rules.specs.Doubts.{is_null, nowhere_doubts, nowhere_from, stands_in};
 ghost use Rattle.trac_rules.specs.Form.{all_items};
@@ -96,12 +96,10 @@ fn stands_in<A: Allocator + Copy>(text: &[u8], form: &Form<A>) -> bool
     requires { 0 < length text.now }
     ensures { result ≡ stands_in text.now (runs_of (all_items form.now)) }
 {
-    let len = form.len();
     let size = text.len();
-    if len < size {
+    let Some(last) = last_place(form, size) else {
         return false;
-    }
-    let last = len - size;
+    };
     let wanted = sum_of(text);
     let mut sum = first_sum(form, size);
     for place in 0..last {
@@ -109,12 +107,18 @@ fn stands_in<A: Allocator + Copy>(text: &[u8], form: &Form<A>) -> bool
         if is_there {
             return true;
         }
-        let end = place + size;
-        let coming = code_at(form, end);
-        let going = code_at(form, place);
-        sum = sum + coming - going;
+        sum = next_sum(form, place, size, sum);
     }
     begins_at(text, form, last)
+}
+
+// The last place of a form from which on it has so many items; none where it has fewer.
+fn last_place<A: Allocator + Copy>(form: &Form<A>, size: usize) -> Option<usize>
+    ensures place { MatchOption result (length (all_items form.now) < size)
+        (λ last. last + size ≡ length (all_items form.now)) }
+    ensures fits { length (all_items form.now) ≤ FORM_LIMIT }
+{
+    form.len().checked_sub(size)
 }
 
 // Whether a text stands at this place of a form, where as many bytes from there on have one sum, and the text has the
@@ -189,6 +193,20 @@ fn first_sum<A: Allocator + Copy>(form: &Form<A>, count: usize) -> usize
         sum += code_at(form, place);
     }
     sum
+}
+
+// The sum of the bytes among as many items one place on, where one item comes in and one goes out.
+fn next_sum<A: Allocator + Copy>(form: &Form<A>, place: usize, size: usize, sum: usize) -> usize
+    requires within { place + size < length (all_items form.now) }
+    requires fits { length (all_items form.now) ≤ FORM_LIMIT }
+    requires here { sum ≡ sum_among (take size (drop place (all_items form.now))) }
+    requires small { sum ≤ 255 * (size + place) }
+    ensures next { result ≡ sum_among (take size (drop (place + 1) (all_items form.now))) }
+    ensures still_small { result ≤ 255 * (size + (place + 1)) }
+{
+    let coming = code_at(form, place + size);
+    let going = code_at(form, place);
+    sum + coming - going
 }
 
 // The byte at this place of a form; 0 of a gap, and past the end.

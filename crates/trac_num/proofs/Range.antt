@@ -4,6 +4,7 @@ use Rattle.std.proofs.lemmas.Bool.{and_parts, and_from, ltb-true, leb-true, lt-l
 use Rattle.std.proofs.lemmas.Bool.Decides.{Decides-int_eq}
 use Rattle.std.proofs.lemmas.Option.{cond_some, none-some}
 use Rattle.std.specs.Prelude.{IfSome}
+use Rattle.std.specs.Option.{option_and_then}
 use Rattle.std.specs.Int.{CanDivide, w128, Width as Bits}
 use Rattle.std.specs.Ordering.{int_eq}
 use Rattle.trac_rules.specs.declared.primitive.Operation.{Operation}
@@ -139,12 +140,8 @@ pub narrow_made : (operation : Operation) (width : Width) (a b n : ℤ) → resu
     Some (to_z w128 (of_z w128 (to_z w64 (of_z w64 n)))) ≡ result_of operation width a b
 narrow_made operation width a b n e = ap Some (same_narrow n (fits_of_result operation W64 a b n e)) ∙ of_narrow operation width a b n e
 
-pub wide_made : (operation : Operation) (width : Width) (a b n : ℤ) (r : Option ℤ) → FitsSigned w128 b → IsChecked operation W128 a b r → r ≡ Some n →
-    if_fits width (to_z w128 (of_z w128 n)) ≡ result_of operation width a b
-wide_made operation width a b n r h is was =
-    let e : Some n ≡ result_of operation W128 a b = sym was ∙ checked operation W128 a b r h is in
-    ap (if_fits width) (same_wide n (fits_of_result operation W128 a b n (sym e))) ∙ of_wide operation width a b (Some n) e
-
-pub none_made : (operation : Operation) (width : Width) (a b : ℤ) (r : Option ℤ) → FitsSigned w128 b → IsChecked operation W128 a b r → r ≡ None →
-    None ≡ result_of operation width a b
-none_made operation width a b r h is was = of_wide operation width a b None (sym was ∙ checked operation W128 a b r h is)
+-- what std returns of two numbers of 128 bits
+pub wide_made : (operation : Operation) (width : Width) (a b : ℤ) (r : Option ℤ) → FitsSigned w128 b → IsChecked operation W128 a b r →
+    option_and_then (if_fits width) r ≡ result_of operation width a b
+wide_made operation width a b None h is = of_wide operation width a b None (checked operation W128 a b None h is)
+wide_made operation width a b (Some n) h is = of_wide operation width a b (Some n) (checked operation W128 a b (Some n) h is)

@@ -2,6 +2,7 @@
 //! calculated in 128 bits, which costs little more. Products and quotients of 128 bits take much longer: so these are
 //! calculated in 64 bits where both numbers and the result fit these.
 ghost use Rattle.std.specs.Prelude.{◌≡◌, MatchOption, Some, IfSome, false, true};
+ghost use Rattle.std.specs.Option.{option_and_then};
 ghost use Rattle.trac_rules.specs.Number.{difference_of, fits, if_fits, product_of, quotient_of, sum_of};
 ghost use Rattle.trac_rules.specs.declared.width.Width.TheVariants.{W64};
 
@@ -14,10 +15,11 @@ fn narrow(n: i128) -> Option<i64>
     i64::try_from(n).ok()
 }
 
-// A number, where it fits the width.
-fn within(n: i128, width: Width) -> Option<i128>
-    ensures { result ≡ if_fits width n }
+// What there is in 128 bits, where it fits the width.
+fn within(exact: Option<i128>, width: Width) -> Option<i128>
+    ensures { result ≡ option_and_then (if_fits width) exact }
 {
+    let n = exact?;
     if width == Width::W64 && narrow(n).is_none() {
         return None;
     }
@@ -46,14 +48,14 @@ fn narrow_quotient(a: i128, b: i128) -> Option<i64>
 pub fn add(a: i128, b: i128, width: Width) -> Option<i128>
     ensures { result ≡ sum_of width a b }
 {
-    within(a.checked_add(b)?, width)
+    within(a.checked_add(b), width)
 }
 
 /// `a` less `b`. `None`: it does not fit the width.
 pub fn sub(a: i128, b: i128, width: Width) -> Option<i128>
     ensures { result ≡ difference_of width a b }
 {
-    within(a.checked_sub(b)?, width)
+    within(a.checked_sub(b), width)
 }
 
 /// The product. `None`: it does not fit the width.
@@ -63,7 +65,7 @@ pub fn mul(a: i128, b: i128, width: Width) -> Option<i128>
     if let Some(n) = narrow_product(a, b) {
         return Some(n as i128);
     }
-    within(a.checked_mul(b)?, width)
+    within(a.checked_mul(b), width)
 }
 
 /// `a` by `b`, cut toward zero. `None`: `b` is 0, or the quotient does not fit the width.
@@ -73,5 +75,5 @@ pub fn div(a: i128, b: i128, width: Width) -> Option<i128>
     if let Some(n) = narrow_quotient(a, b) {
         return Some(n as i128);
     }
-    within(a.checked_div(b)?, width)
+    within(a.checked_div(b), width)
 }

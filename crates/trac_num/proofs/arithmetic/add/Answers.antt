@@ -2,11 +2,8 @@
 use Rattle.std.proofs.Common.{◌∙◌}
 use Rattle.std.proofs.Math.Facts.{to_z-of_z}
 use Rattle.trac_rules.specs.declared.primitive.Operation.TheVariants.{Add}
-use Rattle.trac_num.proofs.Range.{none_made, wide_made}
+use Rattle.trac_num.proofs.Range.{wide_made}
 use Rattle.trac_num.proofs.arithmetic.add.Goals as goal
 
-pub returns-in_err-checked_add : goal.returns-in_err-checked_add
-returns-in_err-checked_add c = c.from_residual.ensures ∙ none_made Add c.args.width c.args.a c.args.b c.checked_add.result c.ranges.b (simp (to_z-of_z c.ranges.a, to_z-of_z c.ranges.b) at c.checked_add.ensures) c.in_err-checked_add.was
-
 pub returns : goal.returns
-returns c = c.within.ensures ∙ wide_made Add c.args.width c.args.a c.args.b c.in_ok-checked_add.field-0 c.checked_add.result c.ranges.b (simp (to_z-of_z c.ranges.a, to_z-of_z c.ranges.b) at c.checked_add.ensures) c.in_ok-checked_add.was
+returns c = c.within.ensures ∙ wide_made Add c.args.width c.args.a c.args.b c.checked_add.result c.ranges.b (simp (to_z-of_z c.ranges.a, to_z-of_z c.ranges.b) at c.checked_add.ensures)

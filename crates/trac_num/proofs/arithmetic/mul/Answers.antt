@@ -2,14 +2,11 @@
 use Rattle.std.proofs.Common.{◌∙◌}
 use Rattle.std.proofs.Math.Facts.{to_z-of_z}
 use Rattle.trac_rules.specs.declared.primitive.Operation.TheVariants.{Multiply}
-use Rattle.trac_num.proofs.Range.{narrow_made, none_made, wide_made}
+use Rattle.trac_num.proofs.Range.{narrow_made, wide_made}
 use Rattle.trac_num.proofs.arithmetic.mul.Goals as goal
 
 pub returns-in-Some : goal.returns-in-Some
 returns-in-Some c = narrow_made Multiply c.args.width c.args.a c.args.b c.in-Some.n (simp (to_z-of_z c.ranges.a, to_z-of_z c.ranges.b) at c.in-Some.ensures)
 
-pub returns-in_err-checked_mul : goal.returns-in_err-checked_mul
-returns-in_err-checked_mul c = c.from_residual.ensures ∙ none_made Multiply c.args.width c.args.a c.args.b c.checked_mul.result c.ranges.b (simp (to_z-of_z c.ranges.a, to_z-of_z c.ranges.b) at c.checked_mul.ensures) c.in_err-checked_mul.was
-
 pub returns : goal.returns
-returns c = c.within.ensures ∙ wide_made Multiply c.args.width c.args.a c.args.b c.in_ok-checked_mul.field-0 c.checked_mul.result c.ranges.b (simp (to_z-of_z c.ranges.a, to_z-of_z c.ranges.b) at c.checked_mul.ensures) c.in_ok-checked_mul.was
+returns c = c.within.ensures ∙ wide_made Multiply c.args.width c.args.a c.args.b c.checked_mul.result c.ranges.b (simp (to_z-of_z c.ranges.a, to_z-of_z c.ranges.b) at c.checked_mul.ensures)

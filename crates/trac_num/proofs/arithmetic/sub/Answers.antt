@@ -2,11 +2,8 @@
 use Rattle.std.proofs.Common.{◌∙◌}
 use Rattle.std.proofs.Math.Facts.{to_z-of_z}
 use Rattle.trac_rules.specs.declared.primitive.Operation.TheVariants.{Subtract}
-use Rattle.trac_num.proofs.Range.{none_made, wide_made}
+use Rattle.trac_num.proofs.Range.{wide_made}
 use Rattle.trac_num.proofs.arithmetic.sub.Goals as goal
 
-pub returns-in_err-checked_sub : goal.returns-in_err-checked_sub
-returns-in_err-checked_sub c = c.from_residual.ensures ∙ none_made Subtract c.args.width c.args.a c.args.b c.checked_sub.result c.ranges.b (simp (to_z-of_z c.ranges.a, to_z-of_z c.ranges.b) at c.checked_sub.ensures) c.in_err-checked_sub.was
-
 pub returns : goal.returns
-returns c = c.within.ensures ∙ wide_made Subtract c.args.width c.args.a c.args.b c.in_ok-checked_sub.field-0 c.checked_sub.result c.ranges.b (simp (to_z-of_z c.ranges.a, to_z-of_z c.ranges.b) at c.checked_sub.ensures) c.in_ok-checked_sub.was
+returns c = c.within.ensures ∙ wide_made Subtract c.args.width c.args.a c.args.b c.checked_sub.result c.ranges.b (simp (to_z-of_z c.ranges.a, to_z-of_z c.ranges.b) at c.checked_sub.ensures)
