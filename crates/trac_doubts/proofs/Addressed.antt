@@ -1,5 +1,5 @@
 -- A block by its number in decimal.
-use Rattle.std.proofs.Common.{◌≡◌, ℕ, ◌<◌, ◌^◌, Bool, true, false, List, sym, ap, ◌∙◌, arith, length}
+use Rattle.std.proofs.Common.{◌≡◌, ℕ, ◌<◌, ◌^◌, Bool, true, false, List, sym, ap, arith, length}
 use Rattle.std.specs.Prelude.{MatchOption, None, Option, Some, bytes_eq, decimal, is_some, pos}
 use Rattle.std.proofs.lemmas.Bool.{false≢true, false_from_ne_true}
 use Rattle.std.proofs.lemmas.Fmt.{length-decimal-le}

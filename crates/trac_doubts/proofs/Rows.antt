@@ -1,8 +1,7 @@
 -- Whether there is a doubt among some, and whether an operation gives no result.
-use Rattle.std.proofs.Common.{◌≡◌, ℕ, Bool, true, false, not, List, [], ◌∷◌, ◌++◌, length, refl, sym, ap, append_assoc, ◌∙◌}
-use Rattle.std.specs.Prelude.{Option, None, Some, ℤ, is_some, nat_lt, option_to_list, ◌||◌}
+use Rattle.std.proofs.Common.{◌≡◌, ℕ, Bool, true, false, not, List, length, refl, sym, ap, ◌∙◌}
+use Rattle.std.specs.Prelude.{Option, None, Some, ℤ, is_some, nat_lt}
 use Rattle.std.specs.Option.{is_none}
-use Rattle.std.specs.Bool.{then_some}
 use Rattle.std.proofs.lemmas.Bool.{false≢true}
 use Rattle.trac_rules.specs.declared.primitive.Operation.{Operation}
 use Rattle.trac_rules.specs.declared.width.Width.{Width}
@@ -10,20 +9,10 @@ use Rattle.trac_rules.specs.Computing.{number_argument, result_of}
 use Rattle.trac_rules.specs.Effect.{argument}
 use Rattle.trac_rules.specs.Number.{after_prefix, calculated, on_both, prefix_of}
 use Rattle.trac_rules.specs.declared.doubt.Doubt.{Doubt}
-use Rattle.trac_rules.specs.Doubts.{said}
 
 -- whether there is a doubt among these
 abbrev pub is_any : List Doubt → Bool
 is_any doubts = nat_lt 0 (length doubts)
-
--- one that is said where a test holds, as its code says it
-pub said_if : (test : Bool) (doubt : Doubt) → option_to_list (then_some test doubt) ≡ said test doubt
-said_if true doubt = refl
-said_if false doubt = refl
-
--- some after others
-pub put_after : (old new doubts rest : List Doubt) → new ≡ old ++ doubts → new ++ rest ≡ old ++ (doubts ++ rest)
-put_after old new doubts rest e = ap (λ xs. xs ++ rest) e ∙ append_assoc old doubts rest
 
 -- ---- a result that is missing
 

@@ -1,5 +1,5 @@
 -- The doubts of what the next step is judged by.
-use Rattle.std.specs.Prelude.{ℕ, List, ◌++◌}
+use Rattle.std.specs.Prelude.{List, ◌++◌}
 use Rattle.trac_rules.specs.declared.doubt.Doubt.{Doubt}
 use Rattle.trac_rules.specs.Doubts.{doubts_of_call, doubts_of_scanning}
 use Rattle.trac_rules.specs.Scanning.{front_of}

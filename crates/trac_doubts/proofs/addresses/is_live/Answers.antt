@@ -1,6 +1,6 @@
-use Rattle.std.proofs.Common.{◌≡◌, List, ℕ, ap, not, subst, sym, ◌∙◌, pos, true, w64, to_z, of_z}
+use Rattle.std.proofs.Common.{◌≡◌, List, ℕ, ap, not, subst, sym, ◌∙◌, pos, w64, to_z, of_z}
 use Rattle.std.specs.Int.{FitsUnsigned, w128}
-use Rattle.std.specs.Prelude.{None, Some, bytes_eq, decimal, is_some, unsigned_abs}
+use Rattle.std.specs.Prelude.{None, Some, bytes_eq, is_some, unsigned_abs}
 use Rattle.std.proofs.lemmas.Int.{to_z-of_z}
 use Rattle.trac_rules.specs.Blocks.{block_at}
 use Rattle.trac_rules.specs.Number.{number_of}

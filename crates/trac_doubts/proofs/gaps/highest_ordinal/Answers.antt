@@ -1,4 +1,4 @@
-use Rattle.std.proofs.Common.{◌≡◌, ◌+◌, ◌≤◌, arith, length, max, ap, sym, ◌∙◌}
+use Rattle.std.proofs.Common.{◌≡◌, arith, max, ap, ◌∙◌}
 use Rattle.std.specs.Option.{option_map_or}
 use Rattle.trac_rules.specs.Form.{all_items}
 use Rattle.trac_rules.proofs.Cutting.{count_within_extent}

@@ -1,4 +1,4 @@
-use Rattle.std.proofs.Common.{◌≡◌, ◌+◌, ◌-◌, ◌≤◌, length, take}
+use Rattle.std.proofs.Common.{◌≡◌, ◌+◌, ◌-◌, ◌≤◌, take}
 use Rattle.trac_rules.specs.Form.{all_items}
 use Rattle.trac_rules.specs.Doubts.{highest_ordinal}
 use Rattle.trac_doubts.proofs.gaps.highest_ordinal.Given as goal

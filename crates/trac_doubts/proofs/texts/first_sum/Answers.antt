@@ -1,4 +1,4 @@
-use Rattle.std.proofs.Common.{◌≡◌, ◌<◌, ◌+◌, arith, length}
+use Rattle.std.proofs.Common.{◌<◌, arith, length}
 use Rattle.trac_rules.specs.Form.{all_items}
 use Rattle.trac_doubts.proofs.Standing.{sum_next}
 use Rattle.trac_doubts.proofs.texts.first_sum.Goals as goal

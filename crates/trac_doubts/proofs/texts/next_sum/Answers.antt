@@ -1,4 +1,4 @@
-use Rattle.std.proofs.Common.{◌≡◌, ◌+◌, arith}
+use Rattle.std.proofs.Common.{arith}
 use Rattle.trac_rules.specs.Form.{all_items}
 use Rattle.trac_doubts.proofs.Standing.{sum_moved}
 use Rattle.trac_doubts.proofs.texts.next_sum.Goals as goal

@@ -1,4 +1,4 @@
-use Rattle.std.proofs.Common.{◌≡◌, ◌+◌, ◌<◌, arith, below_more, drop, false, length, sym, ◌∙◌}
+use Rattle.std.proofs.Common.{◌≡◌, arith, below_more, drop, false, sym, ◌∙◌}
 use Rattle.trac_rules.specs.Form.{all_items}
 use Rattle.trac_rules.specs.Pieces.{begin_with}
 use Rattle.trac_doubts.proofs.Standing.{found, last_tried, too_short}
