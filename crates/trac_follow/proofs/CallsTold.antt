@@ -19,21 +19,22 @@ use Rattle.trac_rules.proofs.Scans.{gathered_in_shows}
 use Rattle.trac_origins.specs.Lengths.{current_text, in_current, is_of_text, value_at}
 use Rattle.trac_origins.specs.Places.{Place, InActive, InBase, InArgument, InOutput, Carried, arguments_of, byte_at, found_at, numbered}
 use Rattle.trac_origins.specs.Stepping.{origin}
+use Rattle.trac_origins.proofs.Moved.{current_aside}
 use Rattle.trac_origins.proofs.ToldCalls.{call_rest, call_stays, ended}
 use Rattle.trac_rules.proofs.MovedOn.{active-gathered}
 use Rattle.trac_origins.proofs.ToldSteps.{length-current, within_current, within_gathered}
 use Rattle.trac_follow.specs.declared.place.Origin as code_origin
-use Rattle.trac_follow.specs.Places.{IsBare, IsOutside, Tells, TellsValue, is_in_text}
+use Rattle.trac_follow.specs.Places.{IsBare, IsCalling, IsOutside, Tells, TellsValue, is_in_text}
 use Rattle.trac_follow.proofs.Found.{byte_there}
 use Rattle.trac_follow.proofs.Renewed.{IsNew, around_it, called_new}
 
 -- the call that a reader gives
-pub given_call : (s : State) (kind : Kind) (arguments : List (List ℕ)) → IsCall (next_call s) kind arguments → (call : Call) × (scan s ≡ Calls call) × (call.kind ≡ kind) × (call.arguments ≡ arguments)
+pub given_call : (s : State) (kind : Kind) (arguments : List (List ℕ)) → IsCall (next_call s) kind arguments → IsCalling s arguments
 given_call s kind arguments is = go (scan s) refl is
   where
-    go : (x : Scanned) → scan s ≡ x → IsCall (call_asked x) kind arguments → (call : Call) × (scan s ≡ Calls call) × (call.kind ≡ kind) × (call.arguments ≡ arguments)
+    go : (x : Scanned) → scan s ≡ x → IsCall (call_asked x) kind arguments → IsCalling s arguments
     go (Moves t) e h = absurd h
-    go (Calls call) e h = (call, e, h.0, h.1)
+    go (Calls call) e h = (call, e, h.1)
 
 -- a step that performs a call
 pub record HasDone (environment : Environment) (t : State) (call : Call) : Type 0 where
@@ -134,10 +135,6 @@ same_current : (fs : List Frame) (e : Effect) (v : State) → current_text fs (c
 same_current [] e v = refl
 same_current (f ∷ fs) e v = refl
 
-other_active : (fs : List Frame) (text : List ℕ) (u : State) → current_text fs (record u { active = text }) ≡ current_text fs u
-other_active [] text u = refl
-other_active (f ∷ fs) text u = refl
-
 value_after : (kind : Kind) (forced : Bool) (value : List ℕ) (e : Effect) (v : State) (n : ℕ) (item : Item) →
     found_at (placed kind forced value (changed_by e v)) (in_current v.frames (length (current_text v.frames v) + n)) ≡ Some item →
     (in_current v.frames (length (current_text v.frames v) + n) ≡ value_at kind forced v n) × (n < length value) × (forced ≡ false)
@@ -149,7 +146,7 @@ value_after kind forced value e v n item stands =
     let u : State = changed_by e v in
     let w : State = record u { active = value ++ u.active } in
     let within = within_current v.frames w (length (current_text v.frames v) + n) item refl stands in
-    absurd (omega (arith, within, ap (λ (text : List ℕ). length text) (other_active v.frames (value ++ u.active) u ∙ same_current v.frames e v)))
+    absurd (omega (arith, within, ap (λ (text : List ℕ). length text) (current_aside v.frames (value ++ u.active) u ∙ same_current v.frames e v)))
 
 -- ---- what is told of it
 

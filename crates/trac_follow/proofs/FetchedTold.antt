@@ -12,11 +12,10 @@ use Rattle.trac_rules.specs.Effect.{Effect, argument, leaves}
 use Rattle.trac_rules.specs.Form.{Form}
 use Rattle.trac_rules.specs.Handling.{keeping}
 use Rattle.trac_rules.specs.Outcomes.{seen_as}
-use Rattle.trac_rules.specs.Performing.{after_call, changed_by, effect_of, performed, primitive_of, printed_after, trace_line}
+use Rattle.trac_rules.specs.Performing.{after_call, primitive_of, printed_after, trace_line}
 use Rattle.trac_rules.specs.Scanning.{Call, Calls, scan}
-use Rattle.trac_rules.specs.State.{Block, Environment, Forms, State, Storage, storage_of}
+use Rattle.trac_rules.specs.State.{Block, Environment, Forms, State, storage_of}
 use Rattle.trac_rules.specs.Stepping.{step}
-use Rattle.trac_rules.proofs.ProperStates.{storage-placed}
 use Rattle.trac_origins.specs.Lengths.{IsCallOf}
 use Rattle.trac_origins.specs.Places.{Place, InForm, InHeld, Carried, found_at, held_form, items_of}
 use Rattle.trac_origins.specs.Stepping.{origin}
@@ -25,6 +24,7 @@ use Rattle.trac_origins.proofs.ToldCalls.{ended}
 use Rattle.trac_origins.proofs.ToldPut.{fetched_told, unaddressed_told, unfetched_told}
 use Rattle.trac_follow.specs.Fetched.{block_named, place_fetched}
 use Rattle.trac_follow.proofs.CallsTold.{blocks_are}
+use Rattle.trac_follow.proofs.Giving.{done_by, parts_after}
 use Rattle.trac_follow.proofs.ValuesTold.{call_does}
 
 -- ---- copies of the forms of a block
@@ -47,15 +47,14 @@ module _ (environment : Environment) (s t : State) (call : Call) (e : Effect) (s
   line = trace_line call.state.trace call.kind call.arguments
 
   forms_are : t.forms ≡ e.storage.forms
-  forms_are = ap (λ (u : State). u.forms) after ∙ ap (λ (left : Storage). left.forms) (storage-placed call.kind e.forced e.value (changed_by e call.state))
+  forms_are = (parts_after environment s call e t after).0
 
   -- what the primitive does
-  done_by : (found : Option ℕ) → named_block_number call.arguments (storage_of call.state) ≡ found →
+  done_so : (found : Option ℕ) → named_block_number call.arguments (storage_of call.state) ≡ found →
       seen_as (printed_after line) (on_block found (λ number. fetching number (storage_of call.state)) (storage_of call.state)) ≡ Ok e
-  unfolding performed
-  done_by found is =
+  done_so found is =
       ap (λ (n : Option ℕ). seen_as (printed_after line) (on_block n (λ number. fetching number (storage_of call.state)) (storage_of call.state))) (sym is)
-      ∙ (ap (λ p. seen_as (printed_after line) (effect_of p environment call.arguments call.state)) (sym of.named) ∙ of.does)
+      ∙ done_by environment s call e (HandleBlock FetchBlock) of
 
   left_by : seen_as (printed_after line) (Ok (leaves (storage_of call.state))) ≡ Ok e → e.storage.forms ≡ call.state.forms
   left_by done =
@@ -83,7 +82,7 @@ module _ (environment : Environment) (s t : State) (call : Call) (e : Effect) (s
 
     unaddressed : named_block_number call.arguments (storage_of call.state) ≡ None → origin environment s (InForm name i) ≡ Carried place
     unaddressed none =
-        let kept : t.forms ≡ call.state.forms = forms_are ∙ left_by (done_by None none) in
+        let kept : t.forms ≡ call.state.forms = forms_are ∙ left_by (done_so None none) in
         unaddressed_told environment s call e of none name i item (ap (λ (forms : Forms). slice_get (items_of (finite.get forms name)) i) (sym kept) ∙ stands)
         ∙ ap Carried (sym (place_by None none))
 
@@ -92,7 +91,7 @@ module _ (environment : Environment) (s t : State) (call : Call) (e : Effect) (s
       found_then : (found : Option Form) → held_form name (block_at number call.state.blocks) ≡ found → finite.get t.forms name ≡ first_of found (finite.get call.state.forms name)
       found_then found there =
           ap (λ (forms : Forms). finite.get forms name)
-          (forms_are ∙ fetched_by number (nat_le (finite.len (fetched number (storage_of call.state))) FORM_COUNT_LIMIT) (done_by (Some number) some))
+          (forms_are ∙ fetched_by number (nat_le (finite.len (fetched number (storage_of call.state))) FORM_COUNT_LIMIT) (done_so (Some number) some))
           ∙ found_after (block_at number call.state.blocks) call.state.forms name found there
 
       held_so : (found : Option Form) → held_form name (block_at number call.state.blocks) ≡ found →

@@ -20,8 +20,6 @@ use Rattle.trac_forms.specs.Stored.{AreApart}
 use Rattle.trac_origins.specs.Places.{held_form}
 use Rattle.trac_follow.specs.Fetched.{is_entry}
 
--- ---- blocks by their numbers
-
 -- ---- the bytes of a form
 
 -- the items from a place on

@@ -5,7 +5,6 @@ use Rattle.std.proofs.lemmas.Bool.{and_parts, leb-true}
 use Rattle.std.specs.FinMap as finite
 use Rattle.std.proofs.lemmas.Slice.Eq.{bytes_eq-Decides}
 use Rattle.trac_rules.specs.declared.item.Item.{Item}
-use Rattle.trac_rules.specs.declared.kind.Kind.{Kind}
 use Rattle.trac_rules.specs.declared.primitive.FormAction.{FormAction}
 use Rattle.trac_rules.specs.declared.primitive.FormAction.TheVariants as action
 use Rattle.trac_rules.specs.declared.primitive.Primitive.{Primitive}
@@ -15,7 +14,6 @@ use Rattle.trac_rules.specs.declared.limit.TheConstants.{TEXT_LIMIT, MARK_LIMIT,
 use Rattle.trac_rules.specs.Limits.{marks, text_bytes, texts_fit}
 use Rattle.trac_rules.specs.Effect.{argument}
 use Rattle.trac_rules.specs.Form.{Form}
-use Rattle.trac_rules.specs.Goals.{IsCall, next_call}
 use Rattle.trac_rules.specs.Handling.{named_form}
 use Rattle.trac_rules.specs.Performing.{primitive_of}
 use Rattle.trac_rules.specs.Scanning.{Call, Calls, scan}
@@ -30,7 +28,7 @@ use Rattle.trac_follow.specs.declared.place.After.{After}
 use Rattle.trac_follow.specs.declared.place.Origin as told
 use Rattle.trac_follow.specs.Formed.{TellsOfForm, ToldAsCut, ToldAsFormCut, ToldAsFormShown, ToldAsShown}
 use Rattle.trac_follow.specs.Items.{IsMeasured}
-use Rattle.trac_follow.specs.Places.{Tells, TellsValue}
+use Rattle.trac_follow.specs.Places.{IsCalling, Tells, TellsValue}
 use Rattle.trac_follow.proofs.CallsTold.{number_is, output_is}
 use Rattle.trac_follow.proofs.FormsTold.{form_printed, item_cut}
 use Rattle.trac_follow.proofs.Giving.{action_gives_none, formless_gives_none, gives_form, segment_left}
@@ -48,31 +46,31 @@ names_none s call name scans same found =
     ap (λ (u : State). finite.get u.forms (argument 1 call.arguments)) (ended s call scans).2.state ∙ ap (finite.get s.forms) (sym same) ∙ found
 
 -- of the value of a call on it
-pub form_value_told : (s : State) (width : Width) (seen : Option ℕ) (i function : ℕ) (o : told.Origin) (arguments : List (List ℕ)) (kind : Kind) (primitive : Primitive) (form : Form) →
-    IsCall (next_call s) kind arguments → primitive_of (argument 0 arguments) ≡ primitive → function + 1 ≡ length s.frames → finite.get s.forms (argument 1 arguments) ≡ Some form →
+pub form_value_told : (s : State) (width : Width) (seen : Option ℕ) (i function : ℕ) (o : told.Origin) (arguments : List (List ℕ)) (primitive : Primitive) (form : Form) →
+    IsCalling s arguments → primitive_of (argument 0 arguments) ≡ primitive → function + 1 ≡ length s.frames → finite.get s.forms (argument 1 arguments) ≡ Some form →
     TellsOfForm primitive form arguments function width seen i o → TellsValue s width seen i o
-form_value_told s width seen i function o arguments kind primitive form is named number found tells environment t call e item wide h readable scans does is_seen stands l =
-    let same = arguments_given s kind arguments call is scans in
+form_value_told s width seen i function o arguments primitive form is named number found tells environment t call e item wide h readable scans does is_seen stands l =
+    let same = arguments_given s arguments call is scans in
     tells environment s call e wide
     (record { scans = scans; named = ap (λ (texts : List (List ℕ)). primitive_of (argument 0 texts)) same ∙ named; does = does })
     same (number_is s call scans function number)
     (names_form s call (argument 1 arguments) form scans (ap (argument 1) (sym same)) found) is_seen l
 
 -- of one that has no value without a form
-pub formless_told : (s : State) (width : Width) (seen : Option ℕ) (i : ℕ) (arguments : List (List ℕ)) (kind : Kind) (a : FormAction) →
-    IsCall (next_call s) kind arguments → primitive_of (argument 0 arguments) ≡ Handle a → (a ≡ action.ListNames → ⊥) → finite.get s.forms (argument 1 arguments) ≡ None →
+pub formless_told : (s : State) (width : Width) (seen : Option ℕ) (i : ℕ) (arguments : List (List ℕ)) (a : FormAction) →
+    IsCalling s arguments → primitive_of (argument 0 arguments) ≡ Handle a → (a ≡ action.ListNames → ⊥) → finite.get s.forms (argument 1 arguments) ≡ None →
     TellsValue s width seen i told.TheVariants.Nothing
-formless_told s width seen i arguments kind a is named other none environment t call e item wide h readable scans does is_seen stands l =
-    let same = arguments_given s kind arguments call is scans in
+formless_told s width seen i arguments a is named other none environment t call e item wide h readable scans does is_seen stands l =
+    let same = arguments_given s arguments call is scans in
     formless_gives_none environment s call e a other
     (record { scans = scans; named = ap (λ (texts : List (List ℕ)). primitive_of (argument 0 texts)) same ∙ named; does = does })
     (names_none s call (argument 1 arguments) scans (ap (argument 1) (sym same)) none) i l
 
 -- of one that has no value at all
-pub silent_told : (s : State) (width : Width) (seen : Option ℕ) (i : ℕ) (arguments : List (List ℕ)) (kind : Kind) (a : FormAction) →
-    IsCall (next_call s) kind arguments → primitive_of (argument 0 arguments) ≡ Handle a → (gives_form a → ⊥) → TellsValue s width seen i told.TheVariants.Nothing
-silent_told s width seen i arguments kind a is named none environment t call e item wide h readable scans does is_seen stands l =
-    let same = arguments_given s kind arguments call is scans in
+pub silent_told : (s : State) (width : Width) (seen : Option ℕ) (i : ℕ) (arguments : List (List ℕ)) (a : FormAction) →
+    IsCalling s arguments → primitive_of (argument 0 arguments) ≡ Handle a → (gives_form a → ⊥) → TellsValue s width seen i told.TheVariants.Nothing
+silent_told s width seen i arguments a is named none environment t call e item wide h readable scans does is_seen stands l =
+    let same = arguments_given s arguments call is scans in
     action_gives_none environment s call e a none
     (record { scans = scans; named = ap (λ (texts : List (List ℕ)). primitive_of (argument 0 texts)) same ∙ named; does = does }) i l
 
@@ -99,7 +97,7 @@ module _ (environment : Environment) (s t : State) (call : Call) (h : step envir
       ∙ stands in
       absurd (cc))
       (λ (of : (form : Form) × (finite.get s.forms name ≡ Some form) × ToldAsCut form name seen o).
-      item_cut environment s t call done.0 of.0 scans done.1.does done.2 done.1
+      item_cut environment s t call done.0 of.0 scans done.2 done.1
       (names_form s call name of.0 scans ((bytes_eq-Decides name (argument 1 call.arguments)).0 same) of.1) name seen i item o same measured stands of.2)
       tells
 
@@ -115,5 +113,5 @@ module _ (environment : Environment) (s t : State) (call : Call) (h : step envir
       (ap (λ n. origin environment s (InOutput n)) index
       ∙ unshown_told environment s call (Handle action.PrintForm) done.0 done.1 refl (names_none s call name scans same no_form.1) (i - length s.output)))
       (λ (of : (form : Form) × (finite.get s.forms name ≡ Some form) × ToldAsShown form end i o).
-      form_printed environment s t call done.0 of.0 scans done.1.does done.2 done.1 (names_form s call name of.0 scans same of.1) end i o ends past stands (output_fits environment s t h) of.2)
+      form_printed environment s t call done.0 of.0 scans done.2 done.1 (names_form s call name of.0 scans same of.1) end i o ends past stands (output_fits environment s t h) of.2)
       tells

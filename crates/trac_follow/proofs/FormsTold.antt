@@ -13,7 +13,6 @@ use Rattle.trac_rules.specs.declared.item.Item.TheVariants.{Byte, Gap}
 use Rattle.trac_rules.specs.declared.limit.TheConstants.{OUTPUT_LIMIT}
 use Rattle.trac_rules.specs.declared.primitive.FormAction.TheVariants as action
 use Rattle.trac_rules.specs.declared.primitive.FormReading.{FormReading}
-use Rattle.trac_rules.specs.declared.primitive.Primitive.{Primitive}
 use Rattle.trac_rules.specs.declared.primitive.Primitive.TheVariants.{Handle}
 use Rattle.trac_rules.specs.declared.refusal.Refusal.TheVariants.{TooLong}
 use Rattle.trac_rules.specs.declared.width.Width.{Width}
@@ -23,7 +22,7 @@ use Rattle.trac_rules.specs.Form.{Form, all_items, extent}
 use Rattle.trac_rules.specs.Handling.{keeping, named_form, on_form, piece_read, putting}
 use Rattle.trac_rules.specs.Limits.{may_be_put}
 use Rattle.trac_rules.specs.Outcomes.{seen_as}
-use Rattle.trac_rules.specs.Performing.{after_call, changed_by, effect_of, performed, primitive_of, printed_after, trace_line}
+use Rattle.trac_rules.specs.Performing.{after_call, changed_by, printed_after, trace_line}
 use Rattle.trac_rules.specs.Pieces.{Piece, bytes_in, is_gap}
 use Rattle.trac_rules.specs.Scanning.{Call, Calls, scan}
 use Rattle.trac_rules.specs.Segmenting.{segmented}
@@ -35,11 +34,10 @@ use Rattle.trac_forms.specs.Taken.{IsThere, items_from, taken}
 use Rattle.trac_origins.specs.Lengths.{IsCallOf, cut_from, number_of_default, of_form, printed_at, value_at}
 use Rattle.trac_origins.specs.Places.{Place, InArgument, InForm, InOutput, Origin, Carried, Made, found_at, items_of}
 use Rattle.trac_origins.specs.Stepping.{origin}
-use Rattle.trac_origins.proofs.ToldCalls.{ended}
 use Rattle.trac_origins.proofs.ToldEffects.{line_told}
 use Rattle.trac_origins.proofs.ToldPut.{segmented_told}
 use Rattle.trac_origins.proofs.ToldValues.{after_printed, before_printed, called_told, filled_told, mark_after_printed, mark_before_printed, other_told, piece_told, pointer_printed}
-use Rattle.trac_follow.proofs.CallsTold.{output-placed}
+use Rattle.trac_follow.proofs.CallsTold.{output_is, output-placed}
 use Rattle.trac_follow.specs.declared.items.Given.{Given}
 use Rattle.trac_follow.specs.declared.place.Origin as told
 use Rattle.trac_follow.specs.declared.place.Place as code_place
@@ -47,7 +45,7 @@ use Rattle.trac_follow.specs.declared.place.After.{After}
 use Rattle.trac_follow.specs.Formed.{CarriedFrom, IsAfter, IsShown, TellsOfForm, ToldAsCut, ToldAsPiece, ToldAsShown, ToldAsShownAfter, ToldAsShownAt, ToldFrom, is_cut, of_shown, told_of}
 use Rattle.trac_follow.specs.Items.{IsGiven, IsMeasured}
 use Rattle.trac_follow.specs.Places.{Tells}
-use Rattle.trac_follow.proofs.Giving.{called_gives, piece_gives}
+use Rattle.trac_follow.proofs.Giving.{called_gives, done_by, piece_gives}
 use Rattle.trac_follow.proofs.Spans.{after_those, same_place, whole_span}
 
 -- ---- `cl`
@@ -147,17 +145,7 @@ module _ (reading : FormReading) (form : Form) (arguments : List (List ℕ)) (fu
 
 -- ---- `pf` and `ss`
 
-module _ (environment : Environment) (s t : State) (call : Call) (e : Effect) (form : Form) (scans : scan s ≡ Calls call) (does : performed environment call ≡ Ok e) (after : t ≡ after_call call e) where
-  output_before : call.state.output ≡ s.output
-  output_before = ap (λ (u : State). u.output) (ended s call scans).2.state
-
-  -- what the primitive does
-  done_by : (primitive : Primitive) → primitive_of (argument 0 call.arguments) ≡ primitive →
-      seen_as (printed_after (trace_line call.state.trace call.kind call.arguments)) (effect_of primitive environment call.arguments call.state) ≡ Ok e
-  unfolding performed
-  done_by primitive named =
-      ap (λ p. seen_as (printed_after (trace_line call.state.trace call.kind call.arguments)) (effect_of p environment call.arguments call.state)) (sym named) ∙ does
-
+module _ (environment : Environment) (s t : State) (call : Call) (e : Effect) (form : Form) (scans : scan s ≡ Calls call) (after : t ≡ after_call call e) where
   -- ---- `pf`
 
   module _ (of : IsCallOf environment s call (Handle action.PrintForm) e) (names : named_form call.arguments (storage_of call.state) ≡ Some form) where
@@ -170,7 +158,7 @@ module _ (environment : Environment) (s t : State) (call : Call) (e : Effect) (f
         let text = trace_line call.state.trace call.kind call.arguments in
         let storage = storage_of call.state in
         let done : Ok (printed_after text (prints (shown form) storage)) ≡ Ok e =
-        ap (λ (found : Option Form). seen_as (printed_after text) (on_form found (λ f. Ok (prints (shown f) storage)) storage)) (sym names) ∙ done_by (Handle action.PrintForm) of.named in
+        ap (λ (found : Option Form). seen_as (printed_after text) (on_form found (λ f. Ok (prints (shown f) storage)) storage)) (sym names) ∙ done_by environment s call e (Handle action.PrintForm) of in
         let same : printed_after text (prints (shown form) storage) ≡ e = cc in
         ap (λ (f : Effect). length f.printed) (sym same) ∙ length-append text (shown form)
 
@@ -181,7 +169,7 @@ module _ (environment : Environment) (s t : State) (call : Call) (e : Effect) (f
           ap (λ (u : State). length u.output) after,
           ap (λ (bytes : List ℕ). length bytes) (output-placed call.kind e.forced e.value (changed_by e call.state)),
           length-append call.state.output e.printed,
-          ap (λ (bytes : List ℕ). length bytes) output_before,
+          ap (λ (bytes : List ℕ). length bytes) (output_is s call scans),
           printed_is,
         )
 
@@ -233,7 +221,7 @@ module _ (environment : Environment) (s t : State) (call : Call) (e : Effect) (f
     pub form_printed : (end i : ℕ) (o : told.Origin) → end ≡ length t.output → length s.output ≤ i → i < length t.output → length t.output ≤ OUTPUT_LIMIT → ToldAsShown form end i o →
         Tells s o (origin environment s (InOutput i))
     form_printed end i o ends past stands fits tells =
-        let before : length call.state.output ≡ length s.output = ap (λ (bytes : List ℕ). length bytes) output_before in
+        let before : length call.state.output ≡ length s.output = ap (λ (bytes : List ℕ). length bytes) (output_is s call scans) in
         ⊎_elim
         (λ (none : (o ≡ told.TheVariants.Nothing) × ((length (shown form) ≤ OUTPUT_LIMIT → ⊥) ⊎ ((end < length (shown form)) ⊎ (end ≤ i)))).
         absurd (⊎_elim
@@ -266,7 +254,7 @@ module _ (environment : Environment) (s t : State) (call : Call) (e : Effect) (f
         let name = argument 1 call.arguments in
         let line = trace_line call.state.trace call.kind call.arguments in
         let done : seen_as (printed_after line) (putting name (segmented texts form) storage) ≡ Ok e =
-        ap (λ (found : Option Form). seen_as (printed_after line) (on_form found (λ f. putting name (segmented texts f) storage) storage)) (sym names) ∙ done_by (Handle action.Segment) of.named in
+        ap (λ (found : Option Form). seen_as (printed_after line) (on_form found (λ f. putting name (segmented texts f) storage) storage)) (sym names) ∙ done_by environment s call e (Handle action.Segment) of in
         ap (λ (u : State). finite.get u.forms name) after
         ∙ ap (λ (left : Storage). finite.get left.forms name) (storage-placed call.kind e.forced e.value (changed_by e call.state))
         ∙ ap (λ forms. finite.get forms name) (put_by (may_be_put name (segmented texts form) storage.forms) done)

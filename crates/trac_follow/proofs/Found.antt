@@ -10,8 +10,8 @@ use Rattle.trac_rules.specs.declared.kind.Kind.{Kind}
 use Rattle.trac_rules.specs.Effect.{argument}
 use Rattle.trac_rules.specs.State.{Frame, State}
 use Rattle.trac_origins.specs.Lengths.{current_text, in_current}
-use Rattle.trac_origins.specs.Places.{InArgument, arguments_of, byte_at, found_at, numbered}
-use Rattle.trac_origins.proofs.Told.{byte_within}
+use Rattle.trac_origins.specs.Places.{InArgument, arguments_of, byte_at, numbered}
+use Rattle.trac_origins.proofs.Told.{byte_within, is_in}
 use Rattle.trac_origins.proofs.Zips.{number_within}
 use Rattle.trac_follow.specs.Places.{IsBare, Stands}
 use Rattle.trac_text.specs.Frames.{IsFrame, all_arguments}
@@ -87,29 +87,26 @@ argument_stands s n k i kind arguments is l =
 pub byte_missing : (i : ℕ) (text : List ℕ) (item : Item) → length text ≤ i → byte_at i text ≡ Some item → ⊥
 byte_missing i text item past stands = absurd (omega (arith, past, byte_within i text item stands))
 
-look_there : (s : State) (n k i : ℕ) (item : Item) → found_at s (InArgument n k i) ≡ Some item → (f : Frame) × (numbered n s.frames ≡ Some f) × (byte_at i (argument k (arguments_of f)) ≡ Some item)
-look_there s n k i item stands = go (numbered n s.frames) refl stands
-  where
-    go : (found : Option Frame) → numbered n s.frames ≡ found → option_and_then (λ (g : Frame). byte_at i (argument k (arguments_of g))) found ≡ Some item →
-        (f : Frame) × (numbered n s.frames ≡ Some f) × (byte_at i (argument k (arguments_of f)) ≡ Some item)
-    go None is e = absurd (cc)
-    go (Some f) is e = (f, is, e)
-
 pub argument_bare : (s : State) (n k i : ℕ) (kind : Kind) (arguments : List (List ℕ)) → IsFrame (slice_get (reverse s.frames) n) kind arguments → length (get_or arguments k []) ≤ i →
     IsBare s (InArgument n k i)
 argument_bare s n k i kind arguments is past item stands =
     let f = given_frame (slice_get (reverse s.frames) n) kind arguments is in
-    let there = look_there s n k i item stands in
+    let there = is_in s n k i item stands in
     let first : numbered n s.frames ≡ Some f.0 = numbered_there s.frames n f.0 f.1 in
-    let second : numbered n s.frames ≡ Some there.0 = there.1 in
-    let same : f.0 ≡ there.0 = cc in
-    byte_missing i (get_or arguments k []) item past
-    (ap (λ (texts : List (List ℕ)). byte_at i (get_or texts k [])) (sym f.2) ∙ ap (λ (g : Frame). byte_at i (argument k (arguments_of g))) same ∙ there.2)
+    let second : numbered n s.frames ≡ Some there.frame = there.there in
+    let same : there.frame ≡ f.0 = cc in
+    absurd (omega (
+      arith,
+      past,
+      there.within,
+      ap (λ (g : Frame). length (argument k (arguments_of g))) same,
+      ap (λ (texts : List (List ℕ)). length (get_or texts k [])) f.2,
+    ))
 
 pub function_bare : (s : State) (n k i : ℕ) → length s.frames ≤ n → IsBare s (InArgument n k i)
 function_bare s n k i past item stands =
-    let there = look_there s n k i item stands in
-    absurd (omega (arith, past, number_within n s.frames there.0 there.1))
+    let there = is_in s n k i item stands in
+    absurd (omega (arith, past, number_within n s.frames there.frame there.there))
 
 -- ---- past the current text
 
@@ -126,17 +123,16 @@ current_frame s function argument byte depth n (f ∷ rest) is at =
 
 pub past_none : (s : State) (function argument byte depth n : ℕ) → length s.frames ≤ function →
     let fs = drop (length s.frames - depth) s.frames in
-    InArgument function argument byte ≡ in_current fs (length (current_text fs s) + n) → 0 ≡ n
+    InArgument function argument byte ≡ in_current fs (length (current_text fs s) + n) → byte ≡ n
 past_none s function argument byte depth n past at =
     let k = length s.frames - depth in
     let frame = current_frame s function argument byte depth n (drop k s.frames) refl at in
     absurd (omega (arith, past, frame.3, ap (λ (gs : List Frame). length gs) frame.2, length-drop k s.frames))
 
-pub past_some : (s : State) (function argument byte depth n past : ℕ) (kind : Kind) (arguments : List (List ℕ)) → IsFrame (slice_get (reverse s.frames) function) kind arguments →
-    past ≡ byte - length (get_or arguments argument []) →
+pub past_some : (s : State) (function argument byte depth n : ℕ) (kind : Kind) (arguments : List (List ℕ)) → IsFrame (slice_get (reverse s.frames) function) kind arguments →
     let fs = drop (length s.frames - depth) s.frames in
-    InArgument function argument byte ≡ in_current fs (length (current_text fs s) + n) → past ≡ n
-past_some s function argument byte depth n past kind arguments is far at =
+    InArgument function argument byte ≡ in_current fs (length (current_text fs s) + n) → byte - length (get_or arguments argument []) ≡ n
+past_some s function argument byte depth n kind arguments is at =
     let k = length s.frames - depth in
     let frame = current_frame s function argument byte depth n (drop k s.frames) refl at in
     let given = given_frame (slice_get (reverse s.frames) function) kind arguments is in
@@ -149,4 +145,4 @@ past_some s function argument byte depth n past kind arguments is far at =
     let number : argument ≡ length f.arguments = frame.4 ∙ ap (λ (g : Frame). length g.arguments) (sym same) in
     let text : get_or arguments argument [] ≡ f.gathered =
     ap (λ (texts : List (List ℕ)). get_or texts argument []) (sym given.2) ∙ get_or_at f.arguments f.gathered [] [] argument (sym number) in
-    omega (arith, far, frame.5, ap (λ (bytes : List ℕ). length bytes) text, ap (λ (g : Frame). length g.gathered) same)
+    omega (arith, frame.5, ap (λ (bytes : List ℕ). length bytes) text, ap (λ (g : Frame). length g.gathered) same)

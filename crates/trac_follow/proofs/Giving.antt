@@ -1,5 +1,5 @@
 -- What calls give.
-use Rattle.std.proofs.Common.{◌≡◌, ℕ, ◌<◌, true, false, List, [], drop, length, refl, sym, ap, ◌∙◌, arith}
+use Rattle.std.proofs.Common.{◌≡◌, ℕ, ◌<◌, true, List, [], drop, length, refl, sym, ap, ◌∙◌, arith}
 use Rattle.std.specs.Prelude.{Option, None, Some, Ok}
 use Rattle.trac_rules.specs.declared.primitive.BlockAction.TheVariants.{FetchBlock}
 use Rattle.trac_rules.specs.declared.primitive.Computation.{Computation}
@@ -22,20 +22,14 @@ use Rattle.trac_rules.specs.Segmenting.{segmented}
 use Rattle.trac_rules.specs.State.{Environment, State, Storage, storage_of}
 use Rattle.trac_rules.proofs.ProperStates.{storage-placed}
 use Rattle.trac_origins.specs.Lengths.{IsCallOf}
-use Rattle.trac_origins.specs.Performing.{EffectOrigins, Performed, called_from, fetched_from, gives_from, handled_from, on_block_from, on_form_from, reading_from}
+use Rattle.trac_origins.specs.Performing.{EffectOrigins, Performed, called_from, fetched_from, gives_from, handled_from, on_form_from, reading_from}
 use Rattle.trac_origins.specs.Places.{Origin}
-use Rattle.trac_origins.proofs.ToldEffects.{call_of, length_value}
-use Rattle.trac_follow.specs.Places.{reads_tape}
+use Rattle.trac_origins.proofs.ToldEffects.{call_of, length_value, on_block_none, on_form_none}
 
 -- ---- primitives without a value
 
-form_empty : (d : Performed) (found : Option Form) (act : Form → EffectOrigins) → ((form : Form) → (act form).value ≡ []) → (on_form_from found act d).value ≡ []
-form_empty d None act empty = refl
-form_empty d (Some form) act empty = empty form
-
-block_empty : (d : Performed) (found : Option ℕ) → (on_block_from found (λ number. fetched_from number d) d).value ≡ []
-block_empty d None = refl
-block_empty d (Some number) = refl
+abbrev value_in : EffectOrigins → List Origin
+value_in f = f.value
 
 -- whether a call on forms gives something
 abbrev pub gives_form : FormAction → Type 0
@@ -51,8 +45,8 @@ other_silent action.ListNames lists calls reads gives = lists refl
 other_silent other lists calls reads gives = gives
 
 action_empty : (a : FormAction) (d : Performed) → (gives_form a → ⊥) → (handled_from a d).value ≡ []
-action_empty action.Segment d none = form_empty d (named_form d.call.arguments (storage_of d.call.state)) _ (λ form. refl)
-action_empty action.PrintForm d none = form_empty d (named_form d.call.arguments (storage_of d.call.state)) _ (λ form. refl)
+action_empty action.Segment d none = on_form_none value_in d refl (named_form d.call.arguments (storage_of d.call.state)) _ (λ form. refl)
+action_empty action.PrintForm d none = on_form_none value_in d refl (named_form d.call.arguments (storage_of d.call.state)) _ (λ form. refl)
 action_empty action.Call d none = absurd (none tt)
 action_empty (action.Read reading) d none = absurd (none tt)
 action_empty action.ListNames d none = absurd (none tt)
@@ -60,11 +54,11 @@ action_empty other d none = refl
 
 -- without a form all but `ln` give nothing
 formless_empty : (a : FormAction) (d : Performed) → (a ≡ action.ListNames → ⊥) → named_form d.call.arguments (storage_of d.call.state) ≡ None → (handled_from a d).value ≡ []
-formless_empty action.Segment d other none = form_empty d (named_form d.call.arguments (storage_of d.call.state)) _ (λ form. refl)
+formless_empty action.Segment d other none = on_form_none value_in d refl (named_form d.call.arguments (storage_of d.call.state)) _ (λ form. refl)
 formless_empty action.Call d other none = ap (λ (found : Option Form). (on_form_from found (λ form. gives_from (called_from form d) d) d).value) none
 formless_empty (action.Read reading) d other none = ap (λ (found : Option Form). (on_form_from found (λ form. gives_from (reading_from reading form d) d) d).value) none
 formless_empty action.ListNames d other none = absurd (other refl)
-formless_empty action.PrintForm d other none = form_empty d (named_form d.call.arguments (storage_of d.call.state)) _ (λ form. refl)
+formless_empty action.PrintForm d other none = on_form_none value_in d refl (named_form d.call.arguments (storage_of d.call.state)) _ (λ form. refl)
 formless_empty rest d other none = refl
 
 module _ (environment : Environment) (s : State) (call : Call) (e : Effect) where
@@ -76,23 +70,24 @@ module _ (environment : Environment) (s : State) (call : Call) (e : Effect) wher
   formless_gives_none a other is none i l =
       absurd (omega (arith, l, length_value environment s call (Handle a) e is, ap (λ (os : List Origin). length os) (formless_empty a (call_of environment s call (Handle a) e is) other none)))
 
-  pub others_give_none : (p : Primitive) → reads_tape p ≡ false → ((computation : Computation) → p ≡ Compute computation → ⊥) → ((a : FormAction) → p ≡ Handle a → ⊥) →
+  pub others_give_none : (p : Primitive) → (p ≡ ReadString → ⊥) → (p ≡ ReadByte → ⊥) → ((computation : Computation) → p ≡ Compute computation → ⊥) → ((a : FormAction) → p ≡ Handle a → ⊥) →
       IsCallOf environment s call p e → (i : ℕ) → i < length e.value → ⊥
-  others_give_none ReadString reads computes handles is i l = absurd (cc)
-  others_give_none ReadByte reads computes handles is i l = absurd (cc)
-  others_give_none (Compute computation) reads computes handles is i l = absurd (computes computation refl)
-  others_give_none (Handle a) reads computes handles is i l = absurd (handles a refl)
-  others_give_none (HandleBlock FetchBlock) reads computes handles is i l =
+  others_give_none ReadString string byte computes handles is i l = absurd (string refl)
+  others_give_none ReadByte string byte computes handles is i l = absurd (byte refl)
+  others_give_none (Compute computation) string byte computes handles is i l = absurd (computes computation refl)
+  others_give_none (Handle a) string byte computes handles is i l = absurd (handles a refl)
+  others_give_none (HandleBlock FetchBlock) string byte computes handles is i l =
       let d : Performed = call_of environment s call (HandleBlock FetchBlock) e is in
-      absurd (omega (arith, l, length_value environment s call (HandleBlock FetchBlock) e is, ap (λ (os : List Origin). length os) (block_empty d (named_block_number d.call.arguments (storage_of d.call.state)))))
-  others_give_none p reads computes handles is i l = absurd (omega (arith, l, length_value environment s call p e is))
+      absurd (omega (arith, l, length_value environment s call (HandleBlock FetchBlock) e is, ap (λ (os : List Origin). length os) (on_block_none value_in d refl (named_block_number d.call.arguments (storage_of d.call.state)) (λ number. fetched_from number d) (λ number. refl))))
+  others_give_none p string byte computes handles is i l = absurd (omega (arith, l, length_value environment s call p e is))
 
   -- ---- what calls on forms give
 
   abbrev line : List ℕ
   line = trace_line call.state.trace call.kind call.arguments
 
-  done_by : (primitive : Primitive) → IsCallOf environment s call primitive e → seen_as (printed_after line) (effect_of primitive environment call.arguments call.state) ≡ Ok e
+  -- what the primitive does
+  pub done_by : (primitive : Primitive) → IsCallOf environment s call primitive e → seen_as (printed_after line) (effect_of primitive environment call.arguments call.state) ≡ Ok e
   unfolding performed
   done_by primitive is = ap (λ p. seen_as (printed_after line) (effect_of p environment call.arguments call.state)) (sym is.named) ∙ is.does
 

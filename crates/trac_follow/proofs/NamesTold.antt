@@ -3,12 +3,10 @@ use Rattle.std.proofs.Common.{◌≡◌, ℕ, ◌+◌, ◌-◌, List, [], ◌∷
 use Rattle.std.specs.Prelude.{Option}
 use Rattle.std.specs.List.{flat_map}
 use Rattle.std.proofs.lemmas.List.{length-append}
-use Rattle.trac_rules.specs.declared.kind.Kind.{Kind}
 use Rattle.trac_rules.specs.declared.primitive.FormAction.TheVariants.{ListNames}
 use Rattle.trac_rules.specs.declared.primitive.Primitive.TheVariants.{Handle}
 use Rattle.trac_rules.specs.declared.width.Width.{Width}
 use Rattle.trac_rules.specs.Effect.{argument}
-use Rattle.trac_rules.specs.Goals.{IsCall, next_call}
 use Rattle.trac_rules.specs.Listing.{names_of}
 use Rattle.trac_rules.specs.Performing.{primitive_of}
 use Rattle.trac_rules.specs.State.{Forms, State}
@@ -21,7 +19,7 @@ use Rattle.trac_origins.proofs.ToldValues.{listed_told, name_told}
 use Rattle.trac_follow.specs.declared.place.Origin as told
 use Rattle.trac_follow.specs.declared.place.Place as code_place
 use Rattle.trac_follow.specs.Formed.{ToldAsListed}
-use Rattle.trac_follow.specs.Places.{Tells, TellsValue}
+use Rattle.trac_follow.specs.Places.{IsCalling, Tells, TellsValue}
 use Rattle.trac_follow.proofs.CallsTold.{number_is}
 use Rattle.trac_follow.proofs.Giving.{names_given}
 use Rattle.trac_follow.proofs.ValuesTold.{arguments_given}
@@ -32,13 +30,13 @@ length-listed text [] = refl
 length-listed text (name ∷ names) =
     length-append (text ++ name) (flat_map (λ q. text ++ q) names) ∙ ap₂ (λ m n. m + n) (length-append text name) (length-listed text names)
 
-module _ (s : State) (width : Width) (seen : Option ℕ) (i function : ℕ) (text : ℕ) (arguments : List (List ℕ)) (kind : Kind) (is : IsCall (next_call s) kind arguments)
+module _ (s : State) (width : Width) (seen : Option ℕ) (i function : ℕ) (text : ℕ) (arguments : List (List ℕ)) (is : IsCalling s arguments)
     (named : primitive_of (argument 0 arguments) ≡ Handle ListNames) (number : function + 1 ≡ length s.frames) (long : text ≡ length (argument 1 arguments)) where
   pub listed_tells : (o : told.Origin) → ToldAsListed s.forms text function i o → TellsValue s width seen i o
   listed_tells o tells environment t call e item wide h readable scans does is_seen stands l = go o tells
     where
       same : call.arguments ≡ arguments
-      same = arguments_given s kind arguments call is scans
+      same = arguments_given s arguments call is scans
 
       of : IsCallOf environment s call (Handle ListNames) e
       of = record { scans = scans; named = ap (λ (texts : List (List ℕ)). primitive_of (argument 0 texts)) same ∙ named; does = does }

@@ -1,5 +1,5 @@
 -- What a step leaves as it is, and where what stands after a run of bytes stood before it, as the code tells them.
-use Rattle.std.proofs.Common.{◌≡◌, ◌⊎◌, ℕ, ◌+◌, ◌-◌, ◌<◌, Bool, true, false, not, List, length, take, drop, inl, inr, refl, sym, ap, subst, ◌∙◌, ⊎_elim, arith}
+use Rattle.std.proofs.Common.{◌≡◌, ◌⊎◌, ℕ, ◌+◌, ◌-◌, ◌<◌, Bool, true, false, List, length, take, drop, inl, inr, refl, sym, ap, subst, ◌∙◌, ⊎_elim, arith}
 use Rattle.std.specs.Prelude.{Option, None, Some, Ok, if◌then◌else◌, nat_lt, slice_get}
 use Rattle.std.specs.FinMap as finite
 use Rattle.std.specs.List.{concat}
@@ -28,7 +28,7 @@ use Rattle.trac_origins.proofs.Unchanged.{Unchanged, calls_held, calls_unchanged
 use Rattle.trac_text.proofs.NeutralAgain.{function_bytes}
 use Rattle.trac_follow.specs.Items.{IsMeasured}
 use Rattle.trac_follow.specs.Offsets.{IsPlaced, bytes_left, left_by, neutral_bytes, offset}
-use Rattle.trac_follow.specs.Places.{IsPassed, is_in_text}
+use Rattle.trac_follow.specs.Places.{IsCalling, IsPassed, is_in_text}
 use Rattle.trac_follow.specs.Running.{CameFrom, StaysAt}
 use Rattle.trac_follow.proofs.CallsTold.{active_kept, given_call, has_done, moves_done, output_carried, rest_carried, text_carried}
 use Rattle.trac_follow.proofs.Found.{byte_there}
@@ -38,10 +38,6 @@ use Rattle.trac_follow.proofs.Scanned.{left_carried, left_less, stays_carried}
 use Rattle.trac_follow.proofs.Unpassed.{stays_calling, stays_moving}
 
 -- ---- what stays
-
-pub not_by : (b : Bool) → not b ≡ true → b ≡ false
-not_by false e = refl
-not_by true e = absurd (cc)
 
 step_scans : (environment : Environment) (s t : State) → step environment s ≡ Ok t → (scan s ≡ Moves t) ⊎ ((call : Call) × (scan s ≡ Calls call))
 unfolding step
@@ -77,18 +73,17 @@ form_stays_moving s name none bytes i gap environment t item h stands placed =
     let same = moves_unchanged environment s t name i item h (moves_done environment s t none h) stands in
     (same.carried, aside bytes gap s (InForm name i) refl (measured_alike bytes gap s t name i same.items placed.measured), λ passed. absurd (cc))
 
-pub form_unchanged : (s : State) (name : List ℕ) (kind : Kind) (arguments : List (List ℕ)) → IsCall (next_call s) kind arguments →
+pub form_unchanged : (s : State) (name : List ℕ) (arguments : List (List ℕ)) → IsCalling s arguments →
     may_put (primitive_of (argument 0 arguments)) (argument 1 arguments) name ≡ false →
     (i : ℕ) (environment : Environment) (t : State) (item : Item) → step environment s ≡ Ok t → found_at t (InForm name i) ≡ Some item → Unchanged environment s t name i
-form_unchanged s name kind arguments is other i environment t item h stands =
-    let call = given_call s kind arguments is in
-    calls_unchanged environment s t call.0 name i item h call.1
-    (ap (λ (texts : List (List ℕ)). may_put (primitive_of (argument 0 texts)) (argument 1 texts) name) call.3 ∙ other) stands
+form_unchanged s name arguments is other i environment t item h stands =
+    calls_unchanged environment s t is.0 name i item h is.1
+    (ap (λ (texts : List (List ℕ)). may_put (primitive_of (argument 0 texts)) (argument 1 texts) name) is.2 ∙ other) stands
 
 pub form_stays_calling : (s : State) (name : List ℕ) (kind : Kind) (arguments : List (List ℕ)) → IsCall (next_call s) kind arguments →
     may_put (primitive_of (argument 0 arguments)) (argument 1 arguments) name ≡ false → (bytes i : ℕ) (gap : Bool) → StaysAt s bytes gap (InForm name i)
 form_stays_calling s name kind arguments is other bytes i gap environment t item h stands placed =
-    let same = form_unchanged s name kind arguments is other i environment t item h stands in
+    let same = form_unchanged s name arguments (given_call s kind arguments is) other i environment t item h stands in
     (same.carried, aside bytes gap s (InForm name i) refl (measured_alike bytes gap s t name i same.items placed.measured), λ passed. absurd (cc))
 
 pub held_carried : (s : State) (number : ℕ) (name : List ℕ) (i : ℕ) → number < length s.blocks →
@@ -169,7 +164,7 @@ call_leaves s kind arguments is =
       ap argument_bytes at.2.frames,
       ap neutral_bytes at.2.state,
       function_bytes f.arguments f.gathered,
-      ap (λ (texts : List (List ℕ)). length (concat texts)) (sym at.2.arguments ∙ call.3),
+      ap (λ (texts : List (List ℕ)). length (concat texts)) (sym at.2.arguments ∙ call.2),
     )
 
 -- ---- before a run

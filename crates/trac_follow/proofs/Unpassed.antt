@@ -18,7 +18,6 @@ use Rattle.trac_origins.proofs.Accounted.{accounted}
 use Rattle.trac_origins.proofs.Moved.{one_before, plain}
 use Rattle.trac_follow.specs.Passing.{IsUnpassed, UnpassedBy}
 use Rattle.trac_follow.specs.Places.{IsOutside, IsPassed, calls}
-use Rattle.trac_follow.specs.declared.place.Place as code_place
 use Rattle.trac_follow.proofs.CallsTold.{functions_left}
 
 -- ---- steps one after another

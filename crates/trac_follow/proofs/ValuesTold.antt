@@ -1,12 +1,11 @@
 -- Bytes of values, and of what is printed and put, as the code tells them.
-use Rattle.std.proofs.Common.{◌≡◌, ℕ, ◌+◌, ◌-◌, ◌<◌, ◌≤◌, Bool, true, false, List, length, get_or, refl, sym, ap, ap₂, subst, ◌∙◌, ℤ, inl, inr, not, ⊎_elim, arith}
-use Rattle.std.specs.Prelude.{Option, None, Some, Ok, ◌⊎◌, bytes_eq, is_none, is_some}
+use Rattle.std.proofs.Common.{◌≡◌, ℕ, ◌+◌, ◌-◌, ◌<◌, ◌≤◌, Bool, true, false, List, length, get_or, refl, sym, ap, ap₂, subst, ◌∙◌, ℤ, not, ⊎_elim, arith}
+use Rattle.std.specs.Prelude.{Option, None, Some, Ok, ◌⊎◌, bytes_eq, if◌then◌else◌, is_none, is_some}
 use Rattle.std.specs.FinMap as finite
 use Rattle.std.proofs.lemmas.List.{length-append}
 use Rattle.std.proofs.lemmas.Option.{slice_get-get_or}
 use Rattle.std.proofs.lemmas.Slice.Eq.{bytes_eq-Decides}
 use Rattle.trac_rules.specs.declared.item.Item.{Item}
-use Rattle.trac_rules.specs.declared.kind.Kind.{Kind}
 use Rattle.trac_rules.specs.declared.primitive.BlockAction.TheVariants.{StoreBlock, FetchBlock}
 use Rattle.trac_rules.specs.declared.primitive.Computation.{Computation}
 use Rattle.trac_rules.specs.declared.primitive.Computation.TheVariants.{Equal, Greater, Calculate}
@@ -18,10 +17,8 @@ use Rattle.trac_rules.specs.declared.primitive.Primitive.TheVariants.{PrintStrin
 use Rattle.trac_rules.specs.declared.width.Width.{Width}
 use Rattle.trac_rules.specs.Computing.{computed, number_argument, result_of}
 use Rattle.trac_rules.specs.Effect.{Effect, argument, gives_or_forces}
-use Rattle.trac_rules.specs.Goals.{IsCall, next_call}
 use Rattle.trac_rules.specs.Number.{after_prefix, calculated, is_greater, numeral_of, on_both, prefix_of}
-use Rattle.trac_rules.specs.Outcomes.{seen_as}
-use Rattle.trac_rules.specs.Performing.{after_call, changed_by, effect_of, performed, primitive_of, printed_after, trace_line}
+use Rattle.trac_rules.specs.Performing.{after_call, changed_by, primitive_of, printed_after, trace_line}
 use Rattle.trac_rules.specs.Scanning.{Call, Calls, scan}
 use Rattle.trac_rules.specs.State.{Block, Environment, State, Storage, storage_of}
 use Rattle.trac_rules.specs.Stepping.{step}
@@ -35,46 +32,37 @@ use Rattle.trac_follow.specs.declared.called.Put as code_put
 use Rattle.trac_follow.specs.Putting.{put_by}
 use Rattle.trac_follow.specs.declared.place.Origin as code_origin
 use Rattle.trac_follow.specs.declared.place.Place as code_place
-use Rattle.trac_follow.specs.Places.{Tells, TellsComputed, TellsValue, ToldAsPrinted, ToldAsPut, ToldAsRead, reads_tape}
+use Rattle.trac_follow.specs.Places.{IsCalling, Tells, TellsComputed, TellsValue, ToldAsPrinted, ToldAsPut, ToldAsRead}
 use Rattle.trac_origins.specs.Accounts.{Accounts}
 use Rattle.trac_origins.proofs.Accounted.{accounted}
-use Rattle.trac_follow.proofs.Giving.{others_give_none}
+use Rattle.trac_follow.proofs.Giving.{done_by, others_give_none}
 use Rattle.trac_follow.proofs.Within.{defined_within, no_block, stored_within}
-use Rattle.trac_follow.proofs.CallsTold.{blocks_are, given_call, has_done, number_is, output_is, output-placed, position_is}
+use Rattle.trac_follow.proofs.CallsTold.{blocks_are, has_done, number_is, output_is, output-placed, position_is}
 
 -- a call is one
 one_call : (s : State) (a b : Call) → scan s ≡ Calls a → scan s ≡ Calls b → a ≡ b
 one_call s a b first second = let same : Calls a ≡ Calls b = sym first ∙ second in cc
 
 -- the call of a reader is this one
-pub arguments_given : (s : State) (kind : Kind) (arguments : List (List ℕ)) (call : Call) → IsCall (next_call s) kind arguments →
-    scan s ≡ Calls call → call.arguments ≡ arguments
-arguments_given s kind arguments call is scans =
-    let given = given_call s kind arguments is in
-    ap (λ (c : Call). c.arguments) (one_call s call given.0 scans given.1) ∙ given.3
+pub arguments_given : (s : State) (arguments : List (List ℕ)) (call : Call) → IsCalling s arguments → scan s ≡ Calls call → call.arguments ≡ arguments
+arguments_given s arguments call is scans = ap (λ (c : Call). c.arguments) (one_call s call is.0 scans is.1) ∙ is.2
 
 -- ---- the input
 
--- a primitive that reads is one of two
-reads_one : (primitive : Primitive) → reads_tape primitive ≡ true → (primitive ≡ ReadString) ⊎ (primitive ≡ ReadByte)
-reads_one ReadString e = inl refl
-reads_one ReadByte e = inr refl
-reads_one p e = absurd (cc)
-
-pub read_told : (s : State) (width : Width) (seen : Option ℕ) (i : ℕ) (told : code_origin.Origin) (arguments : List (List ℕ)) (kind : Kind) (primitive : Primitive) →
-    IsCall (next_call s) kind arguments → primitive ≡ primitive_of (argument 0 arguments) →
-    reads_tape primitive ≡ true → ToldAsRead s.position i told → TellsValue s width seen i told
-read_told s width seen i told arguments kind primitive is named which tells environment t call e item wide h readable scans does is_seen stands l = go told tells
+pub read_told : (s : State) (width : Width) (seen : Option ℕ) (i : ℕ) (told : code_origin.Origin) (arguments : List (List ℕ)) (primitive : Primitive) →
+    IsCalling s arguments → primitive ≡ primitive_of (argument 0 arguments) →
+    (primitive ≡ ReadString) ⊎ (primitive ≡ ReadByte) → ToldAsRead s.position i told → TellsValue s width seen i told
+read_told s width seen i told arguments primitive is named which tells environment t call e item wide h readable scans does is_seen stands l = go told tells
   where
     is_read : origin environment s (value_at call.kind e.forced call.state i) ≡ Read (s.position + i)
     is_read =
         let called : primitive_of (argument 0 call.arguments) ≡ primitive =
-        ap (λ (texts : List (List ℕ)). primitive_of (argument 0 texts)) (arguments_given s kind arguments call is scans) ∙ sym named in
+        ap (λ (texts : List (List ℕ)). primitive_of (argument 0 texts)) (arguments_given s arguments call is scans) ∙ sym named in
         let place : call.state.position + i ≡ s.position + i = ap (λ m. m + i) (position_is s call scans) in
         ⊎_elim
         (λ (string : primitive ≡ ReadString). string_told environment s call e (record { scans = scans; named = called ∙ string; does = does }) i l ∙ ap Read place)
         (λ (byte : primitive ≡ ReadByte). byte_told environment s call e (record { scans = scans; named = called ∙ byte; does = does }) i l ∙ ap Read place)
-        (reads_one primitive which)
+        which
 
     go : (o : code_origin.Origin) → ToldAsRead s.position i o → Tells s o (origin environment s (value_at call.kind e.forced call.state i))
     go (code_origin.TheVariants.Read n) at = is_read ∙ ap Read (sym at)
@@ -85,22 +73,22 @@ read_told s width seen i told arguments kind primitive is named which tells envi
 
 -- ---- primitives without a value
 
-pub nothing_told : (s : State) (width : Width) (seen : Option ℕ) (i : ℕ) (arguments : List (List ℕ)) (kind : Kind) (primitive : Primitive) →
-    IsCall (next_call s) kind arguments → primitive_of (argument 0 arguments) ≡ primitive → reads_tape primitive ≡ false → ((computation : Computation) → primitive ≡ Compute computation → ⊥) →
+pub nothing_told : (s : State) (width : Width) (seen : Option ℕ) (i : ℕ) (arguments : List (List ℕ)) (primitive : Primitive) →
+    IsCalling s arguments → primitive_of (argument 0 arguments) ≡ primitive → (primitive ≡ ReadString → ⊥) → (primitive ≡ ReadByte → ⊥) → ((computation : Computation) → primitive ≡ Compute computation → ⊥) →
     ((a : FormAction) → primitive ≡ Handle a → ⊥) → TellsValue s width seen i code_origin.TheVariants.Nothing
-nothing_told s width seen i arguments kind primitive is named reads computes handles environment t call e item wide h readable scans does is_seen stands l =
-    let same = arguments_given s kind arguments call is scans in
-    others_give_none environment s call e primitive reads computes handles
+nothing_told s width seen i arguments primitive is named string byte computes handles environment t call e item wide h readable scans does is_seen stands l =
+    let same = arguments_given s arguments call is scans in
+    others_give_none environment s call e primitive string byte computes handles
     (record { scans = scans; named = ap (λ (texts : List (List ℕ)). primitive_of (argument 0 texts)) same ∙ named; does = does }) i l
 
 -- ---- computations
 
 -- from what a computation tells
-pub computed_told : (s : State) (width : Width) (seen : Option ℕ) (i function : ℕ) (told : code_origin.Origin) (arguments : List (List ℕ)) (kind : Kind) (computation : Computation) →
-    IsCall (next_call s) kind arguments → primitive_of (argument 0 arguments) ≡ Compute computation →
+pub computed_told : (s : State) (width : Width) (seen : Option ℕ) (i function : ℕ) (told : code_origin.Origin) (arguments : List (List ℕ)) (computation : Computation) →
+    IsCalling s arguments → primitive_of (argument 0 arguments) ≡ Compute computation →
     function + 1 ≡ length s.frames → TellsComputed computation arguments function width i told → TellsValue s width seen i told
-computed_told s width seen i function told arguments kind computation is named number tells environment t call e item wide h readable scans does is_seen stands l =
-    let same = arguments_given s kind arguments call is scans in
+computed_told s width seen i function told arguments computation is named number tells environment t call e item wide h readable scans does is_seen stands l =
+    let same = arguments_given s arguments call is scans in
     tells environment s call e wide
     (record { scans = scans; named = ap (λ (texts : List (List ℕ)). primitive_of (argument 0 texts)) same ∙ named; does = does })
     same (number_is s call scans function number) l
@@ -144,11 +132,9 @@ module _ (arguments : List (List ℕ)) (function : ℕ) (width : Width) (i : ℕ
   -- what a computation does
   effect_is : (environment : Environment) (s : State) (call : Call) (e : Effect) (computation : Computation) → IsCallOf environment s call (Compute computation) e →
       e.forced ≡ (computed computation environment.width call.arguments (storage_of call.state)).forced
-  unfolding performed
   effect_is environment s call e computation is =
       let line = trace_line call.state.trace call.kind call.arguments in
-      let done : Ok (printed_after line (computed computation environment.width call.arguments (storage_of call.state))) ≡ Ok e =
-      ap (λ p. seen_as (printed_after line) (effect_of p environment call.arguments call.state)) (sym is.named) ∙ is.does in
+      let done : Ok (printed_after line (computed computation environment.width call.arguments (storage_of call.state))) ≡ Ok e = done_by environment s call e (Compute computation) is in
       let same : printed_after line (computed computation environment.width call.arguments (storage_of call.state)) ≡ e = cc in
       ap (λ (f : Effect). f.forced) (sym same)
 
@@ -192,21 +178,6 @@ is_none_by found none e = absurd (cc)
 
 -- ---- what is printed
 
--- what a primitive that may put this is
-abbrev pub IsFor : code_put.Put → Primitive → Type 0
-IsFor code_put.TheVariants.Text p = p ≡ Handle Define
-IsFor code_put.TheVariants.Cut p = p ≡ Handle Segment
-IsFor code_put.TheVariants.Fetched p = p ≡ HandleBlock FetchBlock
-IsFor code_put.TheVariants.Address p = p ≡ HandleBlock StoreBlock
-IsFor code_put.TheVariants.Nothing p = (given name : List ℕ) → may_put p given name ≡ false
-
-pub is_put_by : (p : Primitive) → IsFor (put_by p) p
-is_put_by (Handle Define) = refl
-is_put_by (Handle Segment) = refl
-is_put_by (HandleBlock FetchBlock) = refl
-is_put_by (HandleBlock StoreBlock) = refl
-is_put_by other = λ given name. refl
-
 -- what prints and is not `ps` is `pf`
 pub prints_form : (p : Primitive) → is_silent p ≡ false → (p ≡ PrintString → ⊥) → p ≡ Handle PrintForm
 prints_form PrintString loud other = absurd (other refl)
@@ -214,10 +185,33 @@ prints_form (Handle PrintForm) loud other = refl
 prints_form p loud other = absurd (cc)
 
 -- a name that is given
-pub named_by : (s : State) (kind : Kind) (arguments : List (List ℕ)) (call : Call) (primitive : Primitive) (name : List ℕ) → IsCall (next_call s) kind arguments → scan s ≡ Calls call →
-    name ≡ argument 0 arguments → primitive ≡ primitive_of name → primitive_of (argument 0 call.arguments) ≡ primitive
-named_by s kind arguments call primitive name is scans given named =
-    ap (λ (texts : List (List ℕ)). primitive_of (argument 0 texts)) (arguments_given s kind arguments call is scans) ∙ ap primitive_of (sym given) ∙ sym named
+pub named_by : (s : State) (arguments : List (List ℕ)) (is : IsCalling s arguments) (primitive : Primitive) (name : List ℕ) → name ≡ argument 0 arguments → primitive ≡ primitive_of name →
+    primitive_of (argument 0 is.0.arguments) ≡ primitive
+named_by s arguments is primitive name given named =
+    ap (λ (texts : List (List ℕ)). primitive_of (argument 0 texts)) is.2 ∙ ap primitive_of (sym given) ∙ sym named
+
+-- what a primitive is that puts this under a name
+abbrev pub IsFor : code_put.Put → Primitive → List ℕ → List ℕ → Type 0
+IsFor code_put.TheVariants.Text p given name = (p ≡ Handle Define) × (bytes_eq name given ≡ true)
+IsFor code_put.TheVariants.Cut p given name = (p ≡ Handle Segment) × (bytes_eq name given ≡ true)
+IsFor code_put.TheVariants.Fetched p given name = p ≡ HandleBlock FetchBlock
+IsFor code_put.TheVariants.Address p given name = (p ≡ HandleBlock StoreBlock) × (bytes_eq name given ≡ true)
+IsFor code_put.TheVariants.Nothing p given name = may_put p given name ≡ false
+
+put_if : (put : code_put.Put) (p : Primitive) (given name : List ℕ) → may_put p given name ≡ bytes_eq name given → (bytes_eq name given ≡ true → IsFor put p given name) →
+    IsFor (if bytes_eq name given then put else code_put.TheVariants.Nothing) p given name
+put_if put p given name may here = go (bytes_eq name given) refl
+  where
+    go : (same : Bool) → bytes_eq name given ≡ same → IsFor (if same then put else code_put.TheVariants.Nothing) p given name
+    go true e = here e
+    go false e = may ∙ e
+
+pub is_put_by : (p : Primitive) (given name : List ℕ) → IsFor (put_by p given name) p given name
+is_put_by (Handle Define) given name = put_if code_put.TheVariants.Text (Handle Define) given name refl (λ e. (refl, e))
+is_put_by (Handle Segment) given name = put_if code_put.TheVariants.Cut (Handle Segment) given name refl (λ e. (refl, e))
+is_put_by (HandleBlock StoreBlock) given name = put_if code_put.TheVariants.Address (HandleBlock StoreBlock) given name refl (λ e. (refl, e))
+is_put_by (HandleBlock FetchBlock) given name = refl
+is_put_by other given name = refl
 
 module _ (environment : Environment) (s t : State) (call : Call) (h : step environment s ≡ Ok t) (scans : scan s ≡ Calls call) where
   pub call_does : (primitive : Primitive) → primitive_of (argument 0 call.arguments) ≡ primitive → (e : Effect) × IsCallOf environment s call primitive e × (t ≡ after_call call e)

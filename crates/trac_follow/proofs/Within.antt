@@ -18,12 +18,12 @@ use Rattle.trac_rules.specs.State.{Environment, State}
 use Rattle.trac_rules.specs.Stepping.{step}
 use Rattle.trac_origins.specs.Lengths.{IsCallOf}
 use Rattle.trac_origins.specs.Lists.{Origins, kept}
-use Rattle.trac_origins.specs.Performing.{Performed, after_call_from, argument_from, changed_from, effect_from, performed_from}
+use Rattle.trac_origins.specs.Performing.{Performed, argument_from, changed_from, effect_from, performed_from}
 use Rattle.trac_origins.specs.Places.{InForm, InHeld, Origin, Carried, found_at, held_form, items_of}
-use Rattle.trac_origins.specs.Stepping.{call_from, origins, scanned_from}
+use Rattle.trac_origins.specs.Stepping.{origins}
 use Rattle.trac_origins.proofs.Accounted.{lists_beside}
 use Rattle.trac_origins.proofs.Told.{length-one_each}
-use Rattle.trac_origins.proofs.ToldEffects.{blocks_kept, call_of, forms_kept, length_argument}
+use Rattle.trac_origins.proofs.ToldEffects.{blocks_kept, call_of, forms_kept, length_argument, origins_after}
 use Rattle.trac_origins.proofs.ToldForms.{blocks-placed, blocks_aside, forms-placed}
 use Rattle.trac_origins.proofs.Zips.{same_length}
 use Rattle.trac_follow.proofs.Fetching.{none_held}
@@ -51,19 +51,15 @@ module _ (environment : Environment) (s t : State) (call : Call) (p : Primitive)
   abbrev d : Performed
   d = call_of environment s call p e is
 
-  origins_after : origins environment s ≡ after_call_from d
-  unfolding origins
-  origins_after = ap (scanned_from environment s) is.scans ∙ ap (call_from environment s call) is.does
-
   forms_list : (q : List ℕ) → (origins environment s).forms q ≡ (effect_from p d).forms q
   forms_list q =
-      ap (λ (o : Origins). o.forms q) origins_after
+      ap (λ (o : Origins). o.forms q) (origins_after environment s call p e is)
       ∙ forms-placed call.kind e.forced (performed_from d).value (changed_from (performed_from d) d.from.others) q
       ∙ ap (λ (r : Primitive). (effect_from r d).forms q) is.named
 
   blocks_list : (k : ℕ) (q : List ℕ) → (origins environment s).blocks k q ≡ (effect_from p d).blocks k q
   blocks_list k q =
-      ap (λ (o : Origins). o.blocks k q) origins_after
+      ap (λ (o : Origins). o.blocks k q) (origins_after environment s call p e is)
       ∙ blocks-placed call.kind e.forced (performed_from d).value (changed_from (performed_from d) d.from.others) k q
       ∙ ap (λ (r : Primitive). (effect_from r d).blocks k q) is.named
 

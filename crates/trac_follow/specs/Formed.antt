@@ -21,6 +21,7 @@ use Rattle.trac_forms.specs.Listed.{IsListed, listed_len}
 use Rattle.trac_origins.specs.Lengths.{IsCallOf, value_at}
 use Rattle.trac_origins.specs.Places.{InForm}
 use Rattle.trac_origins.specs.Stepping.{origin}
+use Rattle.trac_follow.specs.declared.formed.Printed as printing
 use Rattle.trac_follow.specs.declared.place.After.{After}
 use Rattle.trac_follow.specs.declared.place.Origin as told
 use Rattle.trac_follow.specs.declared.place.Place as code_place
@@ -102,6 +103,12 @@ ToldAsShownAt form i o =
     IsShown form.before 0 i o
     ⊎ (((o ≡ told.TheVariants.Made) × ((j : ℕ) × (j < 3) × (i ≡ length (shown_items form.before) + j)))
     ⊎ ((j : ℕ) × (i ≡ length (shown_items form.before) + (3 + j)) × ToldAsShownAfter form j o))
+
+-- where a byte of an output is that a text of this length ends at `end`: in the text, in the line before it, or nowhere
+abbrev pub IsPrintedAt : ℕ → ℕ → ℕ → printing.Printed → Type 0
+IsPrintedAt text end i (printing.TheVariants.Text j) = (j + end ≡ i + text) × (j < text)
+IsPrintedAt text end i printing.TheVariants.Line = i + text < end
+IsPrintedAt text end i printing.TheVariants.Nowhere = (end < text) ⊎ (end ≤ i)
 
 -- of the form, which ends the output at `end`, and of the line that is made before it; no such output is within the
 -- limit, or nothing is past its end

@@ -3,8 +3,7 @@ use Rattle.std.specs.Prelude.{◌≡◌, ◌⊎◌, ℕ, ◌+◌, ◌^◌, ◌<�
 use Rattle.std.specs.Prelude.{Some, Ok}
 use Rattle.trac_rules.specs.declared.item.Item.{Item}
 use Rattle.trac_rules.specs.declared.primitive.Computation.{Computation}
-use Rattle.trac_rules.specs.declared.primitive.Primitive.{Primitive}
-use Rattle.trac_rules.specs.declared.primitive.Primitive.TheVariants.{ReadString, ReadByte, Compute}
+use Rattle.trac_rules.specs.declared.primitive.Primitive.TheVariants.{Compute}
 use Rattle.trac_rules.specs.declared.width.Width.{Width}
 use Rattle.trac_rules.specs.Effect.{Effect, argument}
 use Rattle.trac_rules.specs.Performing.{performed}
@@ -32,6 +31,10 @@ place_of (code_place.TheVariants.Output i) = InOutput i
 abbrev pub calls : ℕ → ℕ → Scanned → Bool
 calls function depth (Calls call) = function + 1 == depth
 calls function depth other = false
+
+-- the step from a state performs a call that has these arguments
+abbrev pub IsCalling : State → List (List ℕ) → Type 0
+IsCalling s arguments = (call : Call) × (scan s ≡ Calls call) × (call.arguments ≡ arguments)
 
 -- whether a place is in a form; and whether it is in a form or in a block
 abbrev pub is_in_form : Place → Bool
@@ -157,9 +160,3 @@ Stands s place = (item : Item) × (found_at s place ≡ Some item)
 -- and nothing does
 abbrev pub IsBare : State → Place → Type 0
 IsBare s place = (item : Item) → found_at s place ≡ Some item → ⊥
-
--- whether a primitive reads the input
-abbrev pub reads_tape : Primitive → Bool
-reads_tape ReadString = true
-reads_tape ReadByte = true
-reads_tape primitive = false

@@ -1,26 +1,27 @@
 //! Where bytes come from by a call.
 ghost use Rattle.std.specs.Prelude.{◌≡◌, ◌+◌, false, length, true, MatchBool};
-ghost use Rattle.trac_origins.specs.Lengths.{is_silent, may_put};
+ghost use Rattle.trac_origins.specs.Lengths.{is_silent};
 ghost use Rattle.trac_origins.specs.Places.{InActive, InForm, InHeld, InOutput};
 ghost use Rattle.trac_rules.specs.declared.primitive.BlockAction.TheVariants.{StoreBlock};
 ghost use Rattle.trac_rules.specs.declared.primitive.Primitive.TheVariants.{HandleBlock};
 ghost use Rattle.trac_rules.specs.declared.width.Width.{Width};
-ghost use Rattle.trac_rules.specs.Goals.{IsCall, next_call};
+ghost use Rattle.trac_rules.specs.Effect.{argument};
+ghost use Rattle.trac_rules.specs.Performing.{primitive_of};
 ghost use Rattle.trac_rules.specs.Scanning.{Call, Calls, scan};
 ghost use Rattle.trac_follow.specs.declared.place.After.{After as Lengths};
 ghost use Rattle.trac_follow.specs.Formed.{ToldAsFormCut, ToldAsFormShown};
 ghost use Rattle.trac_follow.specs.Putting.{put_by};
-ghost use Rattle.trac_follow.specs.Places.{IsTakenOut, TellsOf, ToldAsPrinted, ToldAsPut, is_from_form, is_in_text};
-ghost use Rattle.trac_follow.specs.Places.{place_of};
+ghost use Rattle.trac_follow.specs.Places.{IsCalling, IsTakenOut, TellsOf, ToldAsPrinted, ToldAsPut, is_from_form};
+ghost use Rattle.trac_follow.specs.Places.{is_in_text, place_of};
 
 use crate::fetched::before_fetch;
-use crate::formed::{cut_item, shown_byte};
+use crate::formed::{Printed, cut_item, printed_at, shown_byte};
 use crate::place::{After, Origin, Place};
 use crate::standing::{past_current, stands_around};
-use crate::valued::{argument_byte, value_byte};
+use crate::valued::{Asked, argument_byte, value_byte};
 use std::alloc::Allocator;
 use trac_gap::TwoEnds;
-use trac_prims::{Args, Kind, primitive_named};
+use trac_prims::{Args, primitive_named};
 use trac_rules::primitive::{BlockAction, FormAction, Primitive};
 use trac_rules::width::Width;
 use trac_step::{Core, Mark};
@@ -29,21 +30,20 @@ use trac_step::{Core, Mark};
 pub(crate) fn called<'a, E: TwoEnds<u8, A>, M: TwoEnds<Mark, A>, A: Allocator + Copy>(
     before: &Core<E, M, A>,
     width: Width,
-    kind: Kind,
-    arguments: &Args<'_>,
     after: After,
+    arguments: &Args<'_>,
     place: Place<'a>,
 ) -> Origin<'a>
-    requires call { IsCall (next_call before.now.state) kind arguments.now }
+    requires call { IsCalling before.now.state arguments.now }
     ensures tells { TellsOf before.now.state width after (place_of place.entry) result }
     ensures taken { IsTakenOut (place_of place.entry) result }
 {
     match place {
-        Place::Active(i) => of_active(before, width, kind, arguments, after, i),
-        Place::Form(name, i) => of_form(before, kind, arguments, after, name, i),
-        Place::Held(number, name, i) => of_block(before, kind, arguments, number, name, i),
-        Place::Output(i) => of_output(before, kind, arguments, after, i),
-        Place::Base(_) | Place::Argument { .. } => of_text(before, width, kind, arguments, place),
+        Place::Active(i) => of_active(before, width, after, arguments, i),
+        Place::Form(name, i) => of_form(before, after, arguments, name, i),
+        Place::Held(number, name, i) => of_block(before, arguments, number, name, i),
+        Place::Output(i) => of_output(before, after, arguments, i),
+        Place::Base(_) | Place::Argument { .. } => of_text(before, width, arguments, place),
     }
 }
 
@@ -60,12 +60,11 @@ fn innermost<E: TwoEnds<u8, A>, M: TwoEnds<Mark, A>, A: Allocator + Copy>(
 fn of_active<'a, E: TwoEnds<u8, A>, M: TwoEnds<Mark, A>, A: Allocator + Copy>(
     before: &Core<E, M, A>,
     width: Width,
-    kind: Kind,
-    arguments: &Args<'_>,
     after: After,
+    arguments: &Args<'_>,
     i: usize,
 ) -> Origin<'a>
-    requires call { IsCall (next_call before.now.state) kind arguments.now }
+    requires call { IsCalling before.now.state arguments.now }
     ensures tells { TellsOf before.now.state width after (InActive i) result }
     ensures taken { IsTakenOut (InActive i) result }
 {
@@ -75,15 +74,13 @@ fn of_active<'a, E: TwoEnds<u8, A>, M: TwoEnds<Mark, A>, A: Allocator + Copy>(
     }
     let value = after.active - rest;
     if i < value {
-        return value_byte(
-            before,
-            kind,
-            arguments,
-            innermost(before),
+        let asked = Asked {
+            function: innermost(before),
             width,
-            Some(value),
-            i,
-        );
+            seen: Some(value),
+            byte: i,
+        };
+        return value_byte(before, arguments, asked);
     }
     if i - value >= rest {
         return Origin::Nothing;
@@ -95,11 +92,10 @@ fn of_active<'a, E: TwoEnds<u8, A>, M: TwoEnds<Mark, A>, A: Allocator + Copy>(
 fn of_text<'a, E: TwoEnds<u8, A>, M: TwoEnds<Mark, A>, A: Allocator + Copy>(
     before: &Core<E, M, A>,
     width: Width,
-    kind: Kind,
     arguments: &Args<'_>,
     place: Place<'a>,
 ) -> Origin<'a>
-    requires call { IsCall (next_call before.now.state) kind arguments.now }
+    requires call { IsCalling before.now.state arguments.now }
     requires text { is_in_text (place_of place) ≡ true }
     ensures tells { (after : Lengths) → TellsOf before.now.state width after (place_of place.entry) result }
     ensures taken { IsTakenOut (place_of place.entry) result }
@@ -108,19 +104,23 @@ fn of_text<'a, E: TwoEnds<u8, A>, M: TwoEnds<Mark, A>, A: Allocator + Copy>(
     if stands_around(before, function, place) {
         return Origin::Carried(place);
     }
-    let n = past_current(before, function, place);
-    value_byte(before, kind, arguments, function, width, None, n)
+    let asked = Asked {
+        function,
+        width,
+        seen: None,
+        byte: past_current(before, function, place),
+    };
+    value_byte(before, arguments, asked)
 }
 
 // Of the output: what was printed, then the line of the trace, and what the primitive prints.
 fn of_output<'a, E: TwoEnds<u8, A>, M: TwoEnds<Mark, A>, A: Allocator + Copy>(
     before: &Core<E, M, A>,
-    kind: Kind,
-    arguments: &Args<'_>,
     after: After,
+    arguments: &Args<'_>,
     i: usize,
 ) -> Origin<'a>
-    requires call { IsCall (next_call before.now.state) kind arguments.now }
+    requires call { IsCalling before.now.state arguments.now }
     ensures tells { (width : Width) → TellsOf before.now.state width after (InOutput i) result }
     ensures taken { IsTakenOut (InOutput i) result }
 {
@@ -172,44 +172,32 @@ fn printed<'a>(text: usize, function: usize, end: usize, i: usize) -> Origin<'a>
     ensures tells { ToldAsPrinted text function end i result }
     ensures taken { is_from_form result ≡ false }
 {
-    if text > end {
-        return Origin::Nothing;
+    match printed_at(text, end, i) {
+        Printed::Text(byte) => argument_byte(function, 1, byte),
+        Printed::Line => Origin::Made,
+        Printed::Nowhere => Origin::Nothing,
     }
-    if i >= end {
-        return Origin::Nothing;
-    }
-    if i < end - text {
-        return Origin::Made;
-    }
-    argument_byte(function, 1, i - (end - text))
 }
 
 // Of a form.
 fn of_form<'a, E: TwoEnds<u8, A>, M: TwoEnds<Mark, A>, A: Allocator + Copy>(
     before: &Core<E, M, A>,
-    kind: Kind,
-    arguments: &Args<'_>,
     after: After,
+    arguments: &Args<'_>,
     name: &'a [u8],
     i: usize,
 ) -> Origin<'a>
-    requires call { IsCall (next_call before.now.state) kind arguments.now }
+    requires call { IsCalling before.now.state arguments.now }
     ensures tells { (width : Width) → TellsOf before.now.state width after (InForm name.now i) result }
     ensures taken { IsTakenOut (InForm name.now i) result }
 {
-    let primitive = primitive_named(arguments.get(0));
-    if may_put(primitive, arguments.get(1), name) {
-        return match put_by(primitive) {
-            Put::Text => put_byte(arguments.get(2).len(), innermost(before), i),
-            Put::Cut => form_cut(before, name, after),
-            Put::Fetched => {
-                Origin::Carried(before_fetch(before.store(), arguments.get(1), name, i))
-            }
-            Put::Address => Origin::Made,
-            Put::Nothing => Origin::Nothing,
-        };
+    match put_by(arguments, name) {
+        Put::Text => put_byte(arguments.get(2).len(), innermost(before), i),
+        Put::Cut => form_cut(before, name, after),
+        Put::Fetched => Origin::Carried(before_fetch(before.store(), arguments.get(1), name, i)),
+        Put::Address => Origin::Made,
+        Put::Nothing => Origin::Carried(Place::Form(name, i)),
     }
-    Origin::Carried(Place::Form(name, i))
 }
 
 // Of a form of this name that `ss` cuts.
@@ -236,54 +224,44 @@ fn put_byte<'a>(text: usize, function: usize, i: usize) -> Origin<'a>
     Origin::Nothing
 }
 
-// What a primitive may put under a name.
+// What a call puts under a name.
 #[derive(Clone, Copy)]
 pub(crate) enum Put {
     // Its argument 2.
     Text,
     // The form that stood there, cut.
     Cut,
-    // A form of a block.
+    // A form of a block, if that holds one of this name.
     Fetched,
     // The number of a new block.
     Address,
+    // Nothing: what stood there stays.
     Nothing,
 }
 
-fn put_by(primitive: Primitive) -> Put
-    ensures { result ≡ put_by primitive }
+// What a call with these arguments puts under a name.
+pub(crate) fn put_by(arguments: &Args<'_>, name: &[u8]) -> Put
+    ensures { result ≡ put_by (primitive_of (argument 0 arguments.now)) (argument 1 arguments.now) name.now }
 {
-    match primitive {
-        Primitive::Handle(FormAction::Define) => Put::Text,
-        Primitive::Handle(FormAction::Segment) => Put::Cut,
+    let is_given = name == arguments.get(1);
+    match primitive_named(arguments.get(0)) {
+        Primitive::Handle(FormAction::Define) if is_given => Put::Text,
+        Primitive::Handle(FormAction::Segment) if is_given => Put::Cut,
+        Primitive::HandleBlock(BlockAction::StoreBlock) if is_given => Put::Address,
         Primitive::HandleBlock(BlockAction::FetchBlock) => Put::Fetched,
-        Primitive::HandleBlock(BlockAction::StoreBlock) => Put::Address,
         _ => Put::Nothing,
-    }
-}
-
-// Whether a primitive with this argument 1 may put a form under a name.
-pub(crate) fn may_put(primitive: Primitive, given: &[u8], name: &[u8]) -> bool
-    ensures { result ≡ may_put primitive given.now name.now }
-{
-    match primitive {
-        Primitive::Handle(FormAction::Define | FormAction::Segment)
-        | Primitive::HandleBlock(BlockAction::StoreBlock) => name == given,
-        Primitive::HandleBlock(BlockAction::FetchBlock) => true,
-        _ => false,
     }
 }
 
 // Of a form that a block holds, which held it before, or of a new block, whose forms were among the others.
 fn of_block<'a, E: TwoEnds<u8, A>, M: TwoEnds<Mark, A>, A: Allocator + Copy>(
     before: &Core<E, M, A>,
-    kind: Kind,
     arguments: &Args<'_>,
     number: usize,
     name: &'a [u8],
     i: usize,
 ) -> Origin<'a>
-    requires call { IsCall (next_call before.now.state) kind arguments.now }
+    requires call { IsCalling before.now.state arguments.now }
     ensures tells { (width : Width) (after : Lengths) →
         TellsOf before.now.state width after (InHeld number name.now i) result }
     ensures taken { IsTakenOut (InHeld number name.now i) result }

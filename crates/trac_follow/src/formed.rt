@@ -9,13 +9,13 @@ ghost use Rattle.trac_rules.specs.declared.primitive.FormAction.TheVariants.{Cal
 ghost use Rattle.trac_rules.specs.declared.primitive.Primitive.TheVariants.{Handle};
 ghost use Rattle.trac_rules.specs.declared.primitive.FormReading.TheVariants.{ReadCount, ReadUntil};
 ghost use Rattle.trac_rules.specs.declared.width.Width.{Width};
-ghost use Rattle.trac_follow.specs.Formed.{IsFound, TellsOfForm, ToldAsCut, ToldAsPiece, ToldAsShown, ToldAsShownAfter};
-ghost use Rattle.trac_follow.specs.Formed.{ToldAsShownAt, ToldFrom, is_byte, is_cut, of_shown};
+ghost use Rattle.trac_follow.specs.Formed.{IsFound, IsPrintedAt, TellsOfForm, ToldAsCut, ToldAsPiece, ToldAsShown};
+ghost use Rattle.trac_follow.specs.Formed.{ToldAsShownAfter, ToldAsShownAt, ToldFrom, is_byte, is_cut, of_shown};
 ghost use Rattle.trac_follow.specs.Places.{is_from_form};
 
 use crate::items::{Among, Giving, byte_among, item_after};
 use crate::place::{After, Origin, Place};
-use crate::valued::argument_byte;
+use crate::valued::{Asked, argument_byte};
 use std::alloc::Allocator;
 use trac_forms::{Form, Item, Piece};
 use trac_prims::number_at;
@@ -47,26 +47,26 @@ pub(crate) fn called_byte<'a, A: Allocator + Copy>(
     }
 }
 
-// Of the value of `cs`, `cc`, `cn` or `in`, of which so much is known: of the form, or of the default argument.
+// Of the value of `cs`, `cc`, `cn` or `in`: of the form, or of the default argument.
 pub(crate) fn read_byte_of<'a, A: Allocator + Copy>(
     reading: FormReading,
     form: &Form<A>,
     arguments: &Args<'_>,
-    function: usize,
-    width: Width,
-    seen: Option<usize>,
-    i: usize,
+    asked: Asked,
 ) -> Origin<'a>
-    ensures tells { TellsOfForm (Handle (Reads reading)) form.now arguments.now function width seen i result }
+    ensures tells { TellsOfForm (Handle (Reads reading)) form.now arguments.now asked.function asked.width
+        asked.seen asked.byte result }
     ensures taken { is_from_form result ≡ false }
 {
+    let function = asked.function;
+    let i = asked.byte;
     match reading {
         FormReading::ReadSegment => piece_byte(form, form.read_segment(), function, 2, i),
         FormReading::ReadChar => piece_byte(form, form.read_char(), function, 2, i),
         FormReading::ReadCount => {
-            piece_byte(form, counted(form, arguments, width), function, 3, i)
+            piece_byte(form, counted(form, arguments, asked.width), function, 3, i)
         }
-        FormReading::ReadUntil => until_byte(form, arguments.get(2), function, seen, i),
+        FormReading::ReadUntil => until_byte(form, arguments.get(2), function, asked.seen, i),
     }
 }
 
@@ -190,16 +190,38 @@ pub(crate) fn shown_byte<'a, A: Allocator + Copy>(
     let Some(len) = form.show_len() else {
         return Origin::Nothing;
     };
-    if len > end {
-        return Origin::Nothing;
+    match printed_at(len, end, i) {
+        Printed::Text(byte) => shown_item(form, byte),
+        Printed::Line => Origin::Made,
+        Printed::Nowhere => Origin::Nothing,
+    }
+}
+
+// Where a byte of the output is that a call printed.
+#[derive(Clone, Copy)]
+pub(crate) enum Printed {
+    // In the text that its primitive prints: the byte of this number.
+    Text(usize),
+    // Before the text, in the line of the trace.
+    Line,
+    // Past the end, or in an output that is too short for the text.
+    Nowhere,
+}
+
+// Where byte `i` is of an output that a text of this length ends at `end`.
+pub(crate) fn printed_at(text: usize, end: usize, i: usize) -> Printed
+    ensures { IsPrintedAt text end i result }
+{
+    if text > end {
+        return Printed::Nowhere;
     }
     if i >= end {
-        return Origin::Nothing;
+        return Printed::Nowhere;
     }
-    if i < end - len {
-        return Origin::Made;
+    if i < end - text {
+        return Printed::Line;
     }
-    shown_item(form, i - (end - len))
+    Printed::Text(i - (end - text))
 }
 
 // Of the byte of this number that a form is printed as.

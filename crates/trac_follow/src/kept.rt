@@ -11,42 +11,48 @@ use std::marker::Model;
 use std::sync::ArcSlice;
 use trac_forms::Store;
 
-/// A name of up to so many bytes is copied where it is kept, and a longer one is shared. The store shares those of more
-/// than 256 bytes alone: so this may not be less.
+/// A name of up to so many bytes is copied where it is kept, and a longer one is shared. It is no less than 256, since
+/// the store shares only names of more bytes than that.
 pub(crate) const SHORT_NAME: usize = 256;
 
-/// A place without the name of its form.
-#[derive(Clone, Copy)]
-pub(crate) enum Nameless {
+/// A place without the name of its form. It borrows nothing.
+#[derive(Clone, Copy, PartialEq, Eq, PartialOrd, Ord, Debug)]
+pub enum Nameless {
+    /// A byte of the active text.
     Active(usize),
+    /// A byte of the base text.
     Base(usize),
+    /// A function, its argument, and a byte of that.
     Argument(usize, usize, usize),
+    /// An item of a form.
     Form(usize),
+    /// A block, and an item of a form that it holds.
     Held(usize, usize),
+    /// A byte of the output.
     Output(usize),
 }
 
 /// A name of a form. To keep it takes no memory.
-///
-/// `Lent`: that of the place where the trace begins, which the caller lends; or the empty name. `Short`: a copy, which
-/// stands here. `Shared`: a longer name, which this and the store both own.
 #[derive(Drop)]
 pub(crate) enum KeptName<'n, A: Allocator + Copy> {
+    /// That of the place where the trace begins, which the caller lends.
     Lent(&'n [u8]),
+    /// A copy, which stands here.
     Short(ArrayVec<u8, SHORT_NAME>),
+    /// A longer name, which this and the store both own.
     Shared(ArcSlice<u8, A>),
 }
 
-/// A place in a state that keeps the name of its form, where it is in one, or is lent it: it borrows nothing from the
-/// machine. It is seen as the place.
+/// A place in a state that keeps the name of its form, or is lent it: so it borrows nothing from the machine. In a
+/// contract it is the place.
 #[derive(Drop)]
-pub(crate) struct Kept<'n, A: Allocator + Copy> {
+pub(crate) struct KeptPlace<'n, A: Allocator + Copy> {
     pub(crate) spot: Nameless,
-    // says nothing where the place is in no form
+    // says nothing if the place is in no form
     pub(crate) name: KeptName<'n, A>,
 }
 
-impl<'n, A: Allocator + Copy> Model for Kept<'n, A> {
+impl<'n, A: Allocator + Copy> Model for KeptPlace<'n, A> {
     ghost use Rattle.trac_origins.specs.Places.{Place};
     ghost use Rattle.trac_follow.specs.Kept.{name_in, named};
 
@@ -56,8 +62,8 @@ impl<'n, A: Allocator + Copy> Model for Kept<'n, A> {
 }
 
 impl<'n, A: Allocator + Copy> KeptName<'n, A> {
-    // This name. `None` where it has more than 256 bytes, and the store does not know it or no more
-    // owners of it can be counted.
+    // This name; `None` if it has more than 256 bytes, and the store does not know it or no more owners of it can be
+    // counted.
     fn of(store: &Store<A>, name: &[u8]) -> Option<Self>
         ensures same { IfSome result (λ kept. name_in kept ≡ name.now) }
         ensures long { IfNone result (SHORT_NAME < length name.now) }
@@ -84,30 +90,30 @@ impl<'n, A: Allocator + Copy> KeptName<'n, A> {
     }
 }
 
-impl<'n, A: Allocator + Copy> Kept<'n, A> {
+impl<'n, A: Allocator + Copy> KeptPlace<'n, A> {
     /// This place, of which the name is lent.
     pub(crate) fn lent(place: Place<'n>) -> Self
         ensures { result ≡ place_of place.entry }
     {
         let (spot, name) = parts(place);
         let name = KeptName::Lent(name);
-        Kept { spot, name }
+        KeptPlace { spot, name }
     }
 
-    /// This place in a state with this store. `None` where the name of its form cannot be kept, which has more than 256
-    /// bytes: the store does not know it, or no more owners of it can be counted.
+    /// This place in a state with this store; `None` if the name of its form has more than 256 bytes and cannot be
+    /// kept: the store does not know it, or no more owners of it can be counted.
     pub(crate) fn of(store: &Store<A>, place: Place<'_>) -> Option<Self>
         ensures same { IfSome result (λ kept. kept ≡ place_of place.entry) }
         ensures long { IfNone result (IsLong (place_of place.entry)) }
     {
         let (spot, name) = parts(place);
         let name = KeptName::of(store, name)?;
-        Some(Kept { spot, name })
+        Some(KeptPlace { spot, name })
     }
 
-    /// Goes to a place that is in no form. The name that is kept stays, and is not looked at: to move another one takes
-    /// more time than most legs of a trace.
-    pub(crate) fn go(&mut self, spot: Nameless)
+    /// Goes to a place that is in no form. The name that was kept stays, and says nothing: to write over it takes more
+    /// time than most legs of a trace.
+    pub(crate) fn go_to(&mut self, spot: Nameless)
         requires { IsFormless spot }
         ensures { self.new ≡ named spot [] }
     {
@@ -122,7 +128,7 @@ impl<'n, A: Allocator + Copy> Kept<'n, A> {
     }
 }
 
-/// A place that is in no form; none just where it is in one, or in one of a block.
+/// A place without a name, if it is in no form and in no form of a block.
 pub(crate) fn formless(place: Place<'_>) -> Option<Nameless>
     ensures { MatchOption result (is_in_storage (place_of place.entry) ≡ true)
         (λ spot. IsFormless spot × (named spot [] ≡ place_of place.entry)) }
@@ -135,8 +141,8 @@ pub(crate) fn formless(place: Place<'_>) -> Option<Nameless>
     }
 }
 
-// A place without its name, and that.
-fn parts<'a>(place: Place<'a>) -> (Nameless, &'a [u8])
+/// A place without the name of its form, and that name. If the place is in no form, the name says nothing.
+pub fn parts<'a>(place: Place<'a>) -> (Nameless, &'a [u8])
     ensures parts { named result.0 result.1.now ≡ place_of place.entry }
     ensures long { SHORT_NAME < length result.1.now → IsLong (place_of place.entry) }
 {
@@ -154,8 +160,8 @@ fn parts<'a>(place: Place<'a>) -> (Nameless, &'a [u8])
     }
 }
 
-// A place with the name of its form.
-fn with_name<'a>(spot: Nameless, name: &'a [u8]) -> Place<'a>
+/// A place with this name of its form. If the place is in no form, the name says nothing.
+pub fn with_name<'a>(spot: Nameless, name: &'a [u8]) -> Place<'a>
     ensures { place_of result ≡ named spot name.now }
 {
     match spot {

@@ -8,7 +8,7 @@ mod formed;
 mod front;
 pub mod history;
 mod items;
-mod kept;
+pub mod kept;
 mod moving;
 mod offset;
 pub mod origin;
@@ -19,6 +19,7 @@ pub mod tracing;
 mod valued;
 
 pub use history::{Followed, Source, follow};
+pub use kept::{Nameless, parts, with_name};
 pub use origin::origin_of;
 pub use place::{After, Origin, Place};
 pub use tracing::{End, Traced, Witness, trace};

@@ -25,7 +25,7 @@ pub fn origin_of<'a, E: TwoEnds<u8, A>, M: TwoEnds<Mark, A>, A: Allocator + Copy
     ensures taken { IsTakenOut (place_of place.entry) result }
 {
     match before.next_call() {
-        Some((kind, arguments)) => called(before, width, kind, &arguments, after, place),
+        Some((_, arguments)) => called(before, width, after, &arguments, place),
         None => moved(before, after.active, place),
     }
 }

@@ -4,18 +4,15 @@ ghost use Rattle.std.specs.Prelude.{Some, ℕ};
 ghost use Rattle.trac_follow.specs.Offsets.{IsPlaced, bytes_left};
 ghost use Rattle.trac_follow.specs.Places.{place_of};
 ghost use Rattle.trac_follow.specs.Running.{CameFrom, StaysAt};
-ghost use Rattle.trac_origins.specs.Lengths.{before_moved, in_active, may_put};
+ghost use Rattle.trac_origins.specs.Lengths.{before_moved, in_active};
 ghost use Rattle.trac_origins.specs.Places.{InForm, found_at};
 ghost use Rattle.trac_rules.specs.declared.item.Item.{Item};
-ghost use Rattle.trac_rules.specs.Effect.{argument};
-ghost use Rattle.trac_rules.specs.Performing.{primitive_of};
 ghost use Rattle.trac_rules.specs.PlainRuns.{moved_on};
 
-use crate::called::may_put;
+use crate::called::{Put, put_by};
 use crate::place::Place;
 use std::alloc::Allocator;
 use trac_gap::TwoEnds;
-use trac_prims::{Args, primitive_named};
 use trac_step::{Core, Mark};
 
 // ---- runs of bytes that moved one by one
@@ -152,14 +149,7 @@ fn stays_in_form<E: TwoEnds<u8, A>, M: TwoEnds<Mark, A>, A: Allocator + Copy>(
     ensures { IsTrue result → (bytes i : ℕ) (gap : Bool) → StaysAt before.now.state bytes gap (InForm name.now i) }
 {
     match before.next_call() {
-        Some((_, arguments)) => !puts(&arguments, name),
+        Some((_, arguments)) => matches!(put_by(&arguments, name), Put::Nothing),
         None => true,
     }
-}
-
-// Whether a call with these arguments may put a form under a name.
-fn puts(arguments: &Args<'_>, name: &[u8]) -> bool
-    ensures { result ≡ may_put (primitive_of (argument 0 arguments.now)) (argument 1 arguments.now) name.now }
-{
-    may_put(primitive_named(arguments.get(0)), arguments.get(1), name)
 }

@@ -1,5 +1,6 @@
 //! What stands at a place, and what is past the current text.
-ghost use Rattle.std.specs.Prelude.{◌≡◌, ◌+◌, ◌-◌, drop, false, length, slice_get, true, Some, IsTrue, ℕ};
+ghost use Rattle.std.specs.Prelude.{◌≡◌, ◌+◌, ◌-◌, ◌<◌, ◌≤◌, drop, false, length, slice_get, true, Some, IsTrue};
+ghost use Rattle.std.specs.Prelude.{ℕ};
 ghost use Rattle.trac_origins.specs.Lengths.{current_text, in_current, is_of_text, is_outside};
 ghost use Rattle.trac_origins.specs.Places.{byte_at, held_form, items_of, InArgument, InForm, InHeld};
 ghost use Rattle.trac_rules.specs.declared.item.Item.{Item};
@@ -90,9 +91,25 @@ fn stands_in_argument<E: TwoEnds<u8, A>, M: TwoEnds<Mark, A>, A: Allocator + Cop
     ensures there { IsTrue result → Stands machine.now.state (InArgument function argument byte) }
     ensures bare { result ≡ false → IsBare machine.now.state (InArgument function argument byte) }
 {
+    byte < argument_len(machine, function, argument)
+}
+
+// How many bytes an argument of a begun function has; none if there is no such function.
+fn argument_len<E: TwoEnds<u8, A>, M: TwoEnds<Mark, A>, A: Allocator + Copy>(
+    machine: &Core<E, M, A>,
+    function: usize,
+    argument: usize,
+) -> usize
+    ensures there { (byte : ℕ) → byte < result → Stands machine.now.state (InArgument function argument byte) }
+    ensures bare { (byte : ℕ) → result ≤ byte → IsBare machine.now.state (InArgument function argument byte) }
+    ensures past { (byte depth n : ℕ) → InArgument function argument byte
+        ≡ in_current (drop (length machine.now.state.frames - depth) machine.now.state.frames) (length (current_text
+        (drop (length machine.now.state.frames - depth) machine.now.state.frames) machine.now.state) + n) →
+        byte - result ≡ n }
+{
     match machine.frame(function) {
-        Some((_, arguments)) => byte < arguments.get(argument).len(),
-        None => false,
+        Some((_, arguments)) => arguments.get(argument).len(),
+        None => 0,
     }
 }
 
@@ -156,24 +173,7 @@ pub(crate) fn past_current<E: TwoEnds<u8, A>, M: TwoEnds<Mark, A>, A: Allocator 
             function,
             argument,
             byte,
-        } => past_argument(machine, function, argument, byte),
+        } => byte.saturating_sub(argument_len(machine, function, argument)),
         _ => 0,
-    }
-}
-
-// How far a byte is past an argument of a begun function.
-fn past_argument<E: TwoEnds<u8, A>, M: TwoEnds<Mark, A>, A: Allocator + Copy>(
-    machine: &Core<E, M, A>,
-    function: usize,
-    argument: usize,
-    byte: usize,
-) -> usize
-    ensures { (depth n : ℕ) → InArgument function argument byte
-        ≡ in_current (drop (length machine.now.state.frames - depth) machine.now.state.frames) (length (current_text
-        (drop (length machine.now.state.frames - depth) machine.now.state.frames) machine.now.state) + n) → result ≡ n }
-{
-    match machine.frame(function) {
-        Some((_, arguments)) => byte.saturating_sub(arguments.get(argument).len()),
-        None => 0,
     }
 }

@@ -11,7 +11,7 @@ ghost use Rattle.trac_rules.specs.Session.{Back, repeated};
 ghost use Rattle.trac_rules.specs.State.{State};
 
 use crate::history::{Followed, Source, follow_from};
-use crate::kept::{Kept, Nameless, formless};
+use crate::kept::{KeptPlace, Nameless, formless};
 use crate::place::Place;
 use crate::standing::stands;
 use std::alloc::{AllocError, Allocator};
@@ -26,10 +26,10 @@ pub trait Witness<A: Allocator + Copy> {
 
     ghost refuses: { Self → Passing → Self → Type 0 } = { λ _ _ _. ⊤ };
 
-    /// Told of a call that passed the byte on, the latest first: the machine performs it next, so many steps before the
-    /// state in which it is traced. The byte is followed back there from this place: the one where the trace begins,
-    /// and later the one from which the call that was told of last had it. The error is that the witness refuses to be
-    /// told, for any reason of its own; it ends the trace.
+    /// Told of a call that passed the byte on, the latest first. The machine performs it next, so many steps before the
+    /// state in which the trace begins. The byte was followed back there from this place: the one where the trace
+    /// begins, and later the one from which the call that was told of last had it. The error is that the witness
+    /// refuses to be told, for any reason of its own; it ends the trace.
     fn passed(
         &mut self,
         machine: &Machine<A>,
@@ -55,7 +55,8 @@ pub enum End {
     Made,
     /// All steps that were gone back over carried it, and the call that comes next passed it on, out of a form or of
     /// one in a block. That form has a name of more than 256 bytes, which could not be kept: the store does not know
-    /// it, as it may of a block's, or no more owners of it can be counted. The witness was told of the call.
+    /// the name, as it may not know that of a form in a block, or no more owners of it can be counted. The witness was
+    /// told of the call.
     Unkept,
     /// All steps that were gone back over carried it, and the witness refused to be told of the call that comes next.
     Untold,
@@ -70,12 +71,17 @@ pub struct Traced {
     pub end: End,
 }
 
-/// Goes back over up to `most` steps, as long as these carried the byte at a place, or the item of a form, however they
-/// did: until one made or read it. A witness is told of each call that passed it on, as `follow` stops at it, and of no
-/// other. It takes no memory but what the witness takes: the name of a form from which a call passed the byte on is
-/// copied into the frame of `trace`, or, where it has more than 256 bytes, shared: `trace` and the store both own it.
-/// Where it cannot be kept, or the witness refuses, that is returned, and the session stays where it has come to. It
-/// says that nothing is there only where nothing stands at the place.
+/// Follows the byte at a place, or the item of a form, back to where it comes from: over up to `most` steps, and past
+/// each call that passed it on, until a step made or read it. The session goes back over these steps, and stays there.
+///
+/// The witness is told of each call that passed the byte on, as `follow` stops at it, and of no other. If it refuses,
+/// the trace ends.
+///
+/// The trace takes no memory but what the witness takes. Where a call passed the byte on out of a form, it keeps the
+/// form's name: it copies up to 256 bytes into the frame of `trace`, and shares a longer name, which `trace` and the
+/// store then both own. If it cannot be kept, the trace ends.
+///
+/// That nothing is there is said only where nothing stands at the place.
 pub fn trace<A: Allocator + Copy, W: Witness<A>>(
     session: &mut Session<A>,
     place: Place<'_>,
@@ -92,35 +98,37 @@ pub fn trace<A: Allocator + Copy, W: Witness<A>>(
         return ended(0, End::Nothing);
     }
     let width = session.width();
-    let mut kept = Kept::lent(place);
+    let mut here = KeptPlace::lent(place);
     let mut steps = 0;
+    // A leg goes back to the next call that passed the byte on, over one step at least: so `most` legs are enough.
     for _leg in 0..most {
-        let leg = follow_kept(session, width, &kept, most - steps);
+        let leg = follow_leg(session, width, &here, most - steps);
         steps += leg.steps;
-        let from = match had_from(leg.source) {
+        let from = match passed_from(leg.source) {
             Ok(from) => from,
             Err(end) => return ended(steps, end),
         };
-        let Ok(()) = witness.passed(session.machine(), steps, kept.place()) else {
+        let Ok(()) = witness.passed(session.machine(), steps, here.place()) else {
             return ended(steps, End::Untold);
         };
-        if let Some(spot) = formless_from(from) {
-            kept.go(spot);
+        // A place that is in no form needs no name.
+        if let Some(spot) = formless_spot(from) {
+            here.go_to(spot);
             continue;
         }
-        let Some(next) = further(session.machine(), from) else {
+        let Some(there) = kept_place(session.machine(), from) else {
             return ended(steps, End::Unkept);
         };
-        kept = next;
+        here = there;
     }
     ended(steps, End::Earlier)
 }
 
-// Follows a byte that stands at a place, as `follow` does.
-fn follow_kept<'a, A: Allocator + Copy>(
+// Follows a byte to the next call that passed it on, as `follow` does. Something stands at the place.
+fn follow_leg<'a, A: Allocator + Copy>(
     session: &mut Session<A>,
     width: Width,
-    place: &'a Kept<'_, A>,
+    place: &'a KeptPlace<'_, A>,
     most: u64,
 ) -> Followed<'a>
     ensures back { repeated Back result.steps session.old ≡ Some session.new }
@@ -130,6 +138,7 @@ fn follow_kept<'a, A: Allocator + Copy>(
     follow_from(session, width, place.place(), most)
 }
 
+// What the trace returns when it ends.
 fn ended(steps: u64, end: End) -> Traced
     ensures steps { result.steps ≡ steps }
     ensures end { result.end ≡ end }
@@ -137,33 +146,32 @@ fn ended(steps: u64, end: End) -> Traced
     Traced { steps, end }
 }
 
-// From where the call that comes next had a byte that it passed on.
+// Where a byte stood that the call which comes next passed on.
 #[derive(Clone, Copy)]
 pub(crate) enum Onward<'a> {
-    // From this place.
+    // At this place.
     At(Place<'a>),
-    // From this item of the form that its argument 1 names.
+    // It was this item of the form that argument 1 of the call names.
     OfForm(usize),
 }
 
-// From where a byte is followed further, of which this was found. Else where it comes from.
-fn had_from<'a>(source: Source<'a>) -> Result<Onward<'a>, End>
+// Where a byte stood before a call passed it on, by what was found of it. If no call did, how the trace ends.
+fn passed_from<'a>(source: Source<'a>) -> Result<Onward<'a>, End>
     ensures on { IfOk result (λ from. source.entry ≡ source_of from) }
     ensures ends { IfErr result (λ end. EndsAs source.entry end) }
 {
     match source {
-        Source::Nothing => Err(End::Nothing),
+        Source::Passed(there) => Ok(Onward::At(there)),
+        Source::OfForm(item) => Ok(Onward::OfForm(item)),
         Source::Here(_) => Err(End::Earlier),
         Source::Read(n) => Err(End::Read(n)),
         Source::Made => Err(End::Made),
-        Source::Passed(there) => Ok(Onward::At(there)),
-        Source::OfForm(item) => Ok(Onward::OfForm(item)),
+        Source::Nothing => Err(End::Nothing),
     }
 }
 
-// The place from which the call that comes next had a byte, where that is in no form; none just where it
-// is in one, or in one of a block.
-fn formless_from(from: Onward<'_>) -> Option<Nameless>
+// Where a byte stood, if that was in no form and in no form of a block: such a place needs no name.
+fn formless_spot(from: Onward<'_>) -> Option<Nameless>
     ensures { MatchOption result (IsOfStorage from.entry)
         (λ spot. IsFormless spot × ((s : State) → LeadsTo s from.entry (named spot []))) }
 {
@@ -173,24 +181,29 @@ fn formless_from(from: Onward<'_>) -> Option<Nameless>
     }
 }
 
-// The place from which the call that comes next had a byte. `None` where the name of its form cannot be kept,
-// which has more than 256 bytes.
-fn further<'n, A: Allocator + Copy>(machine: &Machine<A>, from: Onward<'_>) -> Option<Kept<'n, A>>
+// Where a byte stood, with the name of its form; `None` if that cannot be kept, and has more than 256 bytes.
+fn kept_place<'n, A: Allocator + Copy>(
+    machine: &Machine<A>,
+    from: Onward<'_>,
+) -> Option<KeptPlace<'n, A>>
     ensures leads { IfSome result (λ kept. LeadsTo machine.now.state from.entry kept) }
     ensures long { IfNone result (LeadsToLong machine.now.state from.entry) }
 {
     match from {
-        Onward::At(there) => Kept::of(machine.store(), there),
-        Onward::OfForm(item) => item_called(machine, item),
+        Onward::At(there) => KeptPlace::of(machine.store(), there),
+        Onward::OfForm(item) => item_of_call(machine, item),
     }
 }
 
-// This item of the form that the call which comes next names. A call took the item out of a form, so one comes next: so
-// `None` says that the name cannot be kept, as by `further`.
-fn item_called<'n, A: Allocator + Copy>(machine: &Machine<A>, item: usize) -> Option<Kept<'n, A>>
+// The same, of this item of the form that the call names which comes next. There is such a call, since it took the item
+// out of the form.
+fn item_of_call<'n, A: Allocator + Copy>(
+    machine: &Machine<A>,
+    item: usize,
+) -> Option<KeptPlace<'n, A>>
     ensures leads { IfSome result (λ kept. LeadsTo machine.now.state (OfForm item) kept) }
     ensures long { IfNone result (LeadsToLong machine.now.state (OfForm item)) }
 {
     let (_, arguments) = machine.next_call()?;
-    Kept::of(machine.store(), Place::Form(arguments.get(1), item))
+    KeptPlace::of(machine.store(), Place::Form(arguments.get(1), item))
 }

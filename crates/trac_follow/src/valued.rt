@@ -1,7 +1,6 @@
 //! Where the bytes of a value come from.
 ghost use Rattle.std.specs.Prelude.{◌≡◌, ◌+◌, false, length, ℕ};
 ghost use Rattle.trac_rules.specs.Effect.{argument};
-ghost use Rattle.trac_rules.specs.Goals.{IsCall, next_call};
 ghost use Rattle.trac_rules.specs.Number.{is_greater, numeral_of};
 ghost use Rattle.trac_rules.specs.Performing.{primitive_of};
 ghost use Rattle.trac_rules.specs.declared.primitive.Computation.TheVariants.{Calculate};
@@ -11,77 +10,73 @@ ghost use Rattle.trac_origins.specs.Lengths.{number_chosen};
 ghost use Rattle.trac_follow.specs.declared.place.Origin.TheVariants.{Carried};
 ghost use Rattle.trac_follow.specs.declared.place.Place.TheVariants.{Argument};
 ghost use Rattle.trac_follow.specs.Formed.{ToldAsListed};
-ghost use Rattle.trac_follow.specs.Places.{TellsComputed, TellsValue, ToldAsRead, is_from_form, reads_tape};
+ghost use Rattle.trac_follow.specs.Places.{IsCalling, TellsComputed, TellsValue, ToldAsRead, is_from_form};
 
 use crate::formed::{called_byte, read_byte_of};
 use crate::place::{Origin, Place};
 use std::alloc::Allocator;
 use trac_gap::TwoEnds;
 use trac_num::{greater, read_tail};
-use trac_prims::{Args, Kind, primitive_named, result_on};
+use trac_prims::{Args, primitive_named, result_on};
 use trac_rules::primitive::{Computation, FormAction, Operation, Primitive};
 use trac_rules::width::Width;
 use trac_step::{Core, Mark};
 
-// Where byte `i` of the value comes from that the next step gives, which performs this call. Of a value that is scanned
-// its length is `seen`. The call's function has the number `function`.
+// A byte of the value of a call that is asked for.
+#[derive(Clone, Copy)]
+pub(crate) struct Asked {
+    // The number of the call's function.
+    pub function: usize,
+    // How wide numbers are.
+    pub width: Width,
+    // How long the value is, if it is scanned.
+    pub seen: Option<usize>,
+    // The byte's number in the value.
+    pub byte: usize,
+}
+
+// Where the byte comes from that is asked for of the value of the next step, which performs a call with these
+// arguments.
 pub(crate) fn value_byte<'a, E: TwoEnds<u8, A>, M: TwoEnds<Mark, A>, A: Allocator + Copy>(
     before: &Core<E, M, A>,
-    kind: Kind,
     arguments: &Args<'_>,
-    function: usize,
-    width: Width,
-    seen: Option<usize>,
-    i: usize,
+    asked: Asked,
 ) -> Origin<'a>
-    requires call { IsCall (next_call before.now.state) kind arguments.now }
-    requires number { function + 1 ≡ length before.now.state.frames }
-    ensures tells { TellsValue before.now.state width seen i result }
+    requires call { IsCalling before.now.state arguments.now }
+    requires number { asked.function + 1 ≡ length before.now.state.frames }
+    ensures tells { TellsValue before.now.state asked.width asked.seen asked.byte result }
     ensures taken { is_from_form result ≡ false }
 {
-    let primitive = primitive_named(arguments.get(0));
-    if reads_tape(primitive) {
-        return read_byte(before.position(), i);
-    }
-    match primitive {
-        Primitive::Compute(computation) => {
-            computed_byte(computation, arguments, function, width, i)
-        }
-        Primitive::Handle(action) => {
-            handled_byte(before, action, kind, arguments, function, width, seen, i)
-        }
+    match primitive_named(arguments.get(0)) {
+        Primitive::ReadString | Primitive::ReadByte => read_byte(before.position(), asked.byte),
+        Primitive::Compute(computation) => computed_byte(computation, arguments, asked),
+        Primitive::Handle(action) => handled_byte(action, before, arguments, asked),
         _ => Origin::Nothing,
     }
 }
 
 // Of a call on forms.
 fn handled_byte<'a, E: TwoEnds<u8, A>, M: TwoEnds<Mark, A>, A: Allocator + Copy>(
-    before: &Core<E, M, A>,
     action: FormAction,
-    kind: Kind,
+    before: &Core<E, M, A>,
     arguments: &Args<'_>,
-    function: usize,
-    width: Width,
-    seen: Option<usize>,
-    i: usize,
+    asked: Asked,
 ) -> Origin<'a>
-    requires call { IsCall (next_call before.now.state) kind arguments.now }
+    requires call { IsCalling before.now.state arguments.now }
     requires named { primitive_of (argument 0 arguments.now) ≡ Handle action }
-    requires number { function + 1 ≡ length before.now.state.frames }
-    ensures tells { TellsValue before.now.state width seen i result }
+    requires number { asked.function + 1 ≡ length before.now.state.frames }
+    ensures tells { TellsValue before.now.state asked.width asked.seen asked.byte result }
     ensures taken { is_from_form result ≡ false }
 {
     if let FormAction::ListNames = action {
-        return listed_byte(before, arguments.get(1).len(), function, i);
+        return listed_byte(before, arguments.get(1).len(), asked.function, asked.byte);
     }
     let Some(form) = before.store().get(arguments.get(1)) else {
         return Origin::Nothing;
     };
     match action {
-        FormAction::Call => called_byte(form, arguments, function, i),
-        FormAction::Read(reading) => {
-            read_byte_of(reading, form, arguments, function, width, seen, i)
-        }
+        FormAction::Call => called_byte(form, arguments, asked.function, asked.byte),
+        FormAction::Read(reading) => read_byte_of(reading, form, arguments, asked),
         _ => Origin::Nothing,
     }
 }
@@ -103,13 +98,6 @@ fn listed_byte<'a, E: TwoEnds<u8, A>, M: TwoEnds<Mark, A>, A: Allocator + Copy>(
     }
 }
 
-// Whether a primitive reads the input.
-fn reads_tape(primitive: Primitive) -> bool
-    ensures { result ≡ reads_tape primitive }
-{
-    matches!(primitive, Primitive::ReadString | Primitive::ReadByte)
-}
-
 // Of a text of the input, which the step reads from the position on.
 fn read_byte<'a>(position: usize, i: usize) -> Origin<'a>
     ensures tells { ToldAsRead position i result }
@@ -122,26 +110,20 @@ fn read_byte<'a>(position: usize, i: usize) -> Origin<'a>
 }
 
 // Of a computation with these arguments.
-fn computed_byte<'a>(
-    computation: Computation,
-    arguments: &Args<'_>,
-    function: usize,
-    width: Width,
-    i: usize,
-) -> Origin<'a>
-    ensures tells { TellsComputed computation arguments.now function width i result }
+fn computed_byte<'a>(computation: Computation, arguments: &Args<'_>, asked: Asked) -> Origin<'a>
+    ensures tells { TellsComputed computation arguments.now asked.function asked.width asked.byte result }
     ensures taken { is_from_form result ≡ false }
 {
     match computation {
         Computation::Equal => argument_byte(
-            function,
+            asked.function,
             chosen(arguments.get(1) == arguments.get(2)),
-            i,
+            asked.byte,
         ),
-        Computation::Greater => argument_byte(function, chosen(has_greater(arguments)), i),
-        Computation::Calculate(operation) => {
-            calculated_byte(operation, arguments, function, width, i)
+        Computation::Greater => {
+            argument_byte(asked.function, chosen(has_greater(arguments)), asked.byte)
         }
+        Computation::Calculate(operation) => calculated_byte(operation, arguments, asked),
         _ => Origin::Made,
     }
 }
@@ -178,21 +160,15 @@ fn has_greater(arguments: &Args<'_>) -> bool
 
 // Of `ad`, `su`, `ml` or `dv`: the prefix is that of the first number, and the digits are made; where there is no
 // result, of the default argument.
-fn calculated_byte<'a>(
-    operation: Operation,
-    arguments: &Args<'_>,
-    function: usize,
-    width: Width,
-    i: usize,
-) -> Origin<'a>
-    ensures tells { TellsComputed (Calculate operation) arguments.now function width i result }
+fn calculated_byte<'a>(operation: Operation, arguments: &Args<'_>, asked: Asked) -> Origin<'a>
+    ensures tells { TellsComputed (Calculate operation) arguments.now asked.function asked.width asked.byte result }
     ensures taken { is_from_form result ≡ false }
 {
-    if result_on(operation, arguments, width).is_none() {
-        return argument_byte(function, 3, i);
+    if result_on(operation, arguments, asked.width).is_none() {
+        return argument_byte(asked.function, 3, asked.byte);
     }
-    if i < read_tail(arguments.get(1)).prefix.len() {
-        return argument_byte(function, 1, i);
+    if asked.byte < read_tail(arguments.get(1)).prefix.len() {
+        return argument_byte(asked.function, 1, asked.byte);
     }
     Origin::Made
 }

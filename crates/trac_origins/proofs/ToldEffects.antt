@@ -21,7 +21,7 @@ use Rattle.trac_rules.specs.State.{Environment, Frame, State, storage_of}
 use Rattle.trac_origins.specs.Places.{InForm, InHeld, InOutput, Origin, Carried, Made, held_form, items_of}
 use Rattle.trac_origins.specs.Lists.{FrameOrigins, Origins, all_kept, all_made, frames_kept, kept, origin_at}
 use Rattle.trac_origins.specs.Moving.{gather_from}
-use Rattle.trac_origins.specs.Performing.{EffectOrigins, Performed, after_call_from, argument_from, called_from, changed_from, effect_from, fetched_from, gives_from, handled_from, items_from, on_block_from, on_form_from, performed_from, placed_from, prints_from, puts_from, reading_from, segmented_from, shown_from}
+use Rattle.trac_origins.specs.Performing.{EffectOrigins, Performed, after_call_from, argument_from, called_from, changed_from, effect_from, fetched_from, gives_from, handled_from, items_from, leaves_from, on_block_from, on_form_from, performed_from, placed_from, prints_from, puts_from, reading_from, segmented_from, shown_from}
 use Rattle.trac_origins.specs.Stepping.{call_from, origin, origins, scanned_from}
 use Rattle.trac_origins.specs.Lengths.{IsCallOf, current_text, in_current, is_silent, of_argument, of_form, printed_at, value_at}
 use Rattle.trac_origins.proofs.Zips.{ends, related_or, same_length}
@@ -65,27 +65,33 @@ module _ (u : State) (rest : List Origin) (f : EffectOrigins) where
 
 -- ---- what prints nothing
 
-form_silent : (d : Performed) (found : Option Form) (act : Form → EffectOrigins) → ((form : Form) → (act form).printed ≡ []) → (on_form_from found act d).printed ≡ []
-form_silent d None act acts = refl
-form_silent d (Some form) act acts = acts form
+-- a part of an effect that is empty where all is left, and where a form, or a block, is acted on
+pub on_form_none : (part : EffectOrigins → List Origin) (d : Performed) → part (leaves_from d) ≡ [] → (found : Option Form) (act : Form → EffectOrigins) → ((form : Form) → part (act form) ≡ []) →
+    part (on_form_from found act d) ≡ []
+on_form_none part d left None act acts = left
+on_form_none part d left (Some form) act acts = acts form
 
-block_silent : (d : Performed) (found : Option ℕ) → (on_block_from found (λ number. fetched_from number d) d).printed ≡ []
-block_silent d None = refl
-block_silent d (Some number) = refl
+pub on_block_none : (part : EffectOrigins → List Origin) (d : Performed) → part (leaves_from d) ≡ [] → (found : Option ℕ) (act : ℕ → EffectOrigins) → ((number : ℕ) → part (act number) ≡ []) →
+    part (on_block_from found act d) ≡ []
+on_block_none part d left None act acts = left
+on_block_none part d left (Some number) act acts = acts number
+
+abbrev printed_in : EffectOrigins → List Origin
+printed_in f = f.printed
 
 action_silent : (a : FormAction) (d : Performed) → is_silent (Handle a) ≡ true → (handled_from a d).printed ≡ []
 action_silent action.Segment d silent =
-    form_silent d (named_form d.call.arguments (storage_of d.call.state)) (λ form. puts_from (segmented_from form d) d) (λ form. refl)
-action_silent action.Call d silent = form_silent d (named_form d.call.arguments (storage_of d.call.state)) (λ form. gives_from (called_from form d) d) (λ form. refl)
+    on_form_none printed_in d refl (named_form d.call.arguments (storage_of d.call.state)) (λ form. puts_from (segmented_from form d) d) (λ form. refl)
+action_silent action.Call d silent = on_form_none printed_in d refl (named_form d.call.arguments (storage_of d.call.state)) (λ form. gives_from (called_from form d) d) (λ form. refl)
 action_silent (action.Read reading) d silent =
-    form_silent d (named_form d.call.arguments (storage_of d.call.state)) (λ form. gives_from (reading_from reading form d) d) (λ form. refl)
+    on_form_none printed_in d refl (named_form d.call.arguments (storage_of d.call.state)) (λ form. gives_from (reading_from reading form d) d) (λ form. refl)
 action_silent action.PrintForm d silent = absurd (cc)
 action_silent other d silent = refl
 
 silent_prints : (p : Primitive) (d : Performed) → is_silent p ≡ true → (effect_from p d).printed ≡ []
 silent_prints PrintString d silent = absurd (cc)
 silent_prints (Handle a) d silent = action_silent a d silent
-silent_prints (HandleBlock FetchBlock) d silent = block_silent d (named_block_number d.call.arguments (storage_of d.call.state))
+silent_prints (HandleBlock FetchBlock) d silent = on_block_none printed_in d refl (named_block_number d.call.arguments (storage_of d.call.state)) (λ number. fetched_from number d) (λ number. refl)
 silent_prints other d silent = refl
 
 -- ---- a call
@@ -97,7 +103,7 @@ module _ (environment : Environment) (s : State) (call : Call) (primitive : Prim
   abbrev pub does_from : EffectOrigins
   does_from = effect_from primitive call_of
 
-  origins_after : origins environment s ≡ after_call_from call_of
+  pub origins_after : origins environment s ≡ after_call_from call_of
   unfolding origins
   origins_after = ap (scanned_from environment s) is.scans ∙ ap (call_from environment s call) is.does
 

@@ -1,12 +1,12 @@
 use Rattle.std.proofs.Common.{sym, subst}
 use Rattle.trac_follow.specs.Places.{IsOutside, place_of}
-use Rattle.trac_follow.proofs.CallsTold.{given_call, number_is, tells_current, text_carried, text_new, text_past}
+use Rattle.trac_follow.proofs.CallsTold.{number_is, tells_current, text_carried, text_new, text_past}
 use Rattle.trac_follow.proofs.called.of_text.Goals as goal
 
 pub returns-then-stands_around-clause-tells : goal.returns-then-stands_around-clause-tells
 returns-then-stands_around-clause-tells g c = λ after environment t item wide h lengths stands.
     let s = c.args.before.now.state in
-    let call = given_call c.args.before.now.state c.args.kind c.args.arguments.now c.requires.call in
+    let call = c.requires.call in
     let there = c.stands_around.ensures.there c.if-stands_around.true in
     text_carried environment s t call.0 item h call.1 c.args.width wide (place_of c.args.place) there.0.0 there.1.0 there.0.1
     (subst (λ n. IsOutside n (place_of c.args.place)) (sym (number_is s call.0 call.1 c.innermost-function.result (c.innermost-function.ensures call.0 call.1))) there.1.1)
@@ -15,8 +15,8 @@ pub returns-clause-tells : goal.returns-clause-tells
 returns-clause-tells g c = λ after environment t item wide h lengths stands.
     let s = c.args.before.now.state in
     let p = place_of c.args.place in
-    let call = given_call c.args.before.now.state c.args.kind c.args.arguments.now c.requires.call in
+    let call = c.requires.call in
     let new = text_new environment s t call.0 item h call.1 c.args.width wide p c.innermost-function.result (c.innermost-function.ensures call.0 call.1) c.requires.text
     (c.stands_around.ensures.bare c.if-stands_around.false c.requires.text) stands in
-    tells_current environment s t call.0 item h call.1 c.args.width wide c.value_byte.result p c.past_current-n.result c.value_byte.ensures.tells lengths.read
-    (text_past environment s t call.0 item h call.1 c.args.width wide p c.innermost-function.result c.past_current-n.result (c.innermost-function.ensures call.0 call.1) new c.past_current-n.ensures) stands
+    tells_current environment s t call.0 item h call.1 c.args.width wide c.value_byte.result p c.past_current.result c.value_byte.ensures.tells lengths.read
+    (text_past environment s t call.0 item h call.1 c.args.width wide p c.innermost-function.result c.past_current.result (c.innermost-function.ensures call.0 call.1) new c.past_current.ensures) stands

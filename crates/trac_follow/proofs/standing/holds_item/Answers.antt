@@ -1,7 +1,6 @@
 use Rattle.std.proofs.Common.{◌≡◌, true, refl}
 use Rattle.std.specs.Prelude.{Option, None, Some, is_some}
 use Rattle.trac_rules.specs.declared.item.Item.{Item}
-use Rattle.trac_follow.proofs.standing.holds_item.Goals as goal
 
 some_there : (found : Option Item) → is_some found ≡ true → (item : Item) × (found ≡ Some item)
 some_there None e = absurd (cc)

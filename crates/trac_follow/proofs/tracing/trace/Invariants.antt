@@ -9,5 +9,5 @@ use Rattle.trac_follow.proofs.tracing.trace.Given as goal
 abbrev pub invariant-loop-leg : goal.invariant-loop-leg
 invariant-loop-leg g l =
     (l.steps ≤ l.most)
-    × Way l.width l.fn.session l.session (place_of l.place) l.kept l.steps l._leg
+    × Way l.width l.fn.session l.session (place_of l.place) l.here l.steps l._leg
     × (IsKnown l.width l.fn.session (place_of l.place) → ToldAll g.W.Witness.passes l.fn.witness (way_of l.fn.session (place_of l.place) l.steps) l.witness)

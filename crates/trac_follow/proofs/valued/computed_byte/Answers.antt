@@ -11,17 +11,17 @@ pub returns-in-Equal-clause-tells : goal.returns-in-Equal-clause-tells
 returns-in-Equal-clause-tells c =
     let same : c.eq.result ≡ bytes_eq (argument 1 c.args.arguments.now) (argument 2 c.args.arguments.now) =
     c.eq.ensures ∙ ap (λ text. bytes_eq text c.get-in-Equal.result.now) c.get.ensures ∙ ap (bytes_eq (argument 1 c.args.arguments.now)) c.get-in-Equal.ensures in
-    subst (λ (k : Computation). TellsComputed k c.args.arguments.now c.args.function c.args.width c.args.i c.argument_byte.result) (sym c.in-Equal.is)
-    (subst (λ told. TellsComputed Equal c.args.arguments.now c.args.function c.args.width c.args.i told) (sym c.argument_byte.ensures)
-    (equal_is c.args.arguments.now c.args.function c.args.width c.args.i c.eq.result same c.chosen.result c.chosen.ensures))
+    subst (λ (k : Computation). TellsComputed k c.args.arguments.now c.args.asked.function c.args.asked.width c.args.asked.byte c.argument_byte.result) (sym c.in-Equal.is)
+    (subst (λ told. TellsComputed Equal c.args.arguments.now c.args.asked.function c.args.asked.width c.args.asked.byte told) (sym c.argument_byte.ensures)
+    (equal_is c.args.arguments.now c.args.asked.function c.args.asked.width c.args.asked.byte c.eq.result same c.chosen.result c.chosen.ensures))
 
 pub returns-in-Greater-clause-tells : goal.returns-in-Greater-clause-tells
 returns-in-Greater-clause-tells c =
-    subst (λ (k : Computation). TellsComputed k c.args.arguments.now c.args.function c.args.width c.args.i c.argument_byte-in-Greater.result) (sym c.in-Greater.is)
-    (subst (λ told. TellsComputed Greater c.args.arguments.now c.args.function c.args.width c.args.i told) (sym c.argument_byte-in-Greater.ensures)
-    (greater_is c.args.arguments.now c.args.function c.args.width c.args.i c.has_greater.result c.has_greater.ensures c.chosen-in-Greater.result c.chosen-in-Greater.ensures))
+    subst (λ (k : Computation). TellsComputed k c.args.arguments.now c.args.asked.function c.args.asked.width c.args.asked.byte c.argument_byte-in-Greater.result) (sym c.in-Greater.is)
+    (subst (λ told. TellsComputed Greater c.args.arguments.now c.args.asked.function c.args.asked.width c.args.asked.byte told) (sym c.argument_byte-in-Greater.ensures)
+    (greater_is c.args.arguments.now c.args.asked.function c.args.asked.width c.args.asked.byte c.has_greater.result c.has_greater.ensures c.chosen-in-Greater.result c.chosen-in-Greater.ensures))
 
 pub returns-in_default-clause-tells : goal.returns-in_default-clause-tells
 returns-in_default-clause-tells c =
-    bits_are c.args.arguments.now c.args.function c.args.width c.args.i c.args.computation
-    (rest_bits c.args.arguments.now c.args.function c.args.width c.args.i c.args.computation c.in_default.not-Equal c.in_default.not-Greater c.in_default.not-Calculate)
+    bits_are c.args.arguments.now c.args.asked.function c.args.asked.width c.args.asked.byte c.args.computation
+    (rest_bits c.args.arguments.now c.args.asked.function c.args.asked.width c.args.asked.byte c.args.computation c.in_default.not-Equal c.in_default.not-Greater c.in_default.not-Calculate)

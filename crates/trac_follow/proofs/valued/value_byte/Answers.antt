@@ -4,18 +4,18 @@ use Rattle.trac_follow.specs.Places.{ToldAsRead}
 use Rattle.trac_follow.proofs.ValuesTold.{computed_told, nothing_told, read_told}
 use Rattle.trac_follow.proofs.valued.value_byte.Goals as goal
 
-pub returns-then-reads_tape-clause-tells : goal.returns-then-reads_tape-clause-tells
-returns-then-reads_tape-clause-tells g c =
-    read_told c.args.before.now.state c.args.width c.args.seen c.args.i c.read_byte.result c.args.arguments.now c.args.kind c.primitive_named-primitive.result c.requires.call
-    (c.primitive_named-primitive.ensures ∙ ap primitive_of c.get.ensures) (sym c.reads_tape.ensures ∙ c.if-reads_tape.true)
-    (subst (λ n. ToldAsRead n c.args.i c.read_byte.result) c.position.ensures c.read_byte.ensures.tells)
+pub returns-in-ReadString-clause-tells : goal.returns-in-ReadString-clause-tells
+returns-in-ReadString-clause-tells g c =
+    read_told c.args.before.now.state c.args.asked.width c.args.asked.seen c.args.asked.byte c.read_byte.result c.args.arguments.now c.primitive_named.result c.requires.call
+    (c.primitive_named.ensures ∙ ap primitive_of c.get.ensures) c.in-ReadString.is
+    (subst (λ n. ToldAsRead n c.args.asked.byte c.read_byte.result) c.position.ensures c.read_byte.ensures.tells)
 
 pub returns-in-Compute-clause-tells : goal.returns-in-Compute-clause-tells
 returns-in-Compute-clause-tells g c =
-    computed_told c.args.before.now.state c.args.width c.args.seen c.args.i c.args.function c.computed_byte.result c.args.arguments.now c.args.kind c.in-Compute.computation c.requires.call
-    (ap primitive_of (sym c.get.ensures) ∙ sym c.primitive_named-primitive.ensures ∙ c.in-Compute.is) c.requires.number c.computed_byte.ensures.tells
+    computed_told c.args.before.now.state c.args.asked.width c.args.asked.seen c.args.asked.byte c.args.asked.function c.computed_byte.result c.args.arguments.now c.in-Compute.computation c.requires.call
+    (ap primitive_of (sym c.get.ensures) ∙ sym c.primitive_named.ensures ∙ c.in-Compute.is) c.requires.number c.computed_byte.ensures.tells
 
 pub returns-in_default-clause-tells : goal.returns-in_default-clause-tells
 returns-in_default-clause-tells g c =
-    nothing_told c.args.before.now.state c.args.width c.args.seen c.args.i c.args.arguments.now c.args.kind c.primitive_named-primitive.result c.requires.call
-    (ap primitive_of (sym c.get.ensures) ∙ sym c.primitive_named-primitive.ensures) (sym c.reads_tape.ensures ∙ c.if-reads_tape.false) c.in_default.not-Compute c.in_default.not-Handle
+    nothing_told c.args.before.now.state c.args.asked.width c.args.asked.seen c.args.asked.byte c.args.arguments.now c.primitive_named.result c.requires.call
+    (ap primitive_of (sym c.get.ensures) ∙ sym c.primitive_named.ensures) c.in_default.not-ReadString c.in_default.not-ReadByte c.in_default.not-Compute c.in_default.not-Handle
