@@ -7,7 +7,7 @@ use trac_follow::{End, Followed, Place, Source, Traced, Witness, follow, trace};
 use trac_rules::refusal::Refusal;
 use trac_rules::width::Width;
 use trac_session::{Machine, Session};
-use trac_session_tests::programs::EACH_PRIMITIVE;
+use trac_session_tests::EACH_PRIMITIVE;
 
 type Memory<'a> = &'a Refusing<Global>;
 

@@ -6,7 +6,7 @@ use std::process::Abort;
 use trac_faults::Refusing;
 use trac_rules::width::Width;
 use trac_run::Ending;
-use trac_session_tests::programs::EACH_PRIMITIVE;
+use trac_session_tests::EACH_PRIMITIVE;
 
 const TAPE: &[u8] = b"#(ds,A,(x,y))'#(ss,A,x)'#(ps,##(cl,A,1))'";
 

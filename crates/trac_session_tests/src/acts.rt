@@ -24,8 +24,8 @@ pub(crate) enum Act {
     /// So many letters `a` are fed and not read yet, and nothing else.
     UnreadLetters(usize),
     End,
-    /// A commit keeps so many steps.
-    Commit(usize),
+    /// A commit keeps so many steps, and releases this.
+    Commit(usize, &'static [u8]),
     /// So many steps forward are taken, each with a commit after it that keeps the second number of them.
     ForwardInWindow(u64, usize),
     /// So many steps forward are taken.
@@ -119,6 +119,13 @@ fn goes_back_until(
     is_walk(session.back_until(name), done, why)
 }
 
+// Makes a commit that keeps so many steps, and says whether this is what it releases.
+fn commits(session: &mut Session<Memory<'_>>, keep: usize, released: &[u8]) -> bool {
+    let is_met = session.pending_before(keep) == released;
+    session.commit(keep);
+    is_met
+}
+
 // Whether so many steps are taken, each with a commit after it. Before a commit there is one record
 // more than it keeps at most.
 fn goes_in_window(session: &mut Session<Memory<'_>>, n: u64, keep: usize) -> bool {
@@ -143,10 +150,7 @@ fn carry_out(rt: &impl Abort, alloc: Global, session: &mut Session<Memory<'_>>, 
             session.end();
             true
         }
-        Act::Commit(keep) => {
-            session.commit(keep);
-            true
-        }
+        Act::Commit(keep, released) => commits(session, keep, released),
         Act::ForwardInWindow(n, keep) => goes_in_window(session, n, keep),
         Act::Forward(n) => goes_forward(session, n, n, None),
         Act::ForwardRefused(n, done, why) => goes_forward(session, n, done, Some(why)),

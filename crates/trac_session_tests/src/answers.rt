@@ -206,8 +206,7 @@ fn planned<E: TwoEnds<u8, A>, M: TwoEnds<Mark, A>, A: Allocator + Copy>(
     rt: &impl Abort,
     alloc: A,
     machine: &Core<E, M, A>,
-    input: &[u8],
-    trace: bool,
+    (input, trace): (&[u8], bool),
 ) -> Effect<A> {
     let now = Now {
         position: machine.position(),
@@ -242,10 +241,10 @@ fn next_does<E: TwoEnds<u8, A>, M: TwoEnds<Mark, A>, A: Allocator + Copy>(
     rt: &impl Abort,
     alloc: A,
     machine: &Core<E, M, A>,
-    (input, trace): (&[u8], bool),
+    call: (&[u8], bool),
     wanted: &Wanted,
 ) -> bool {
-    does(&planned(rt, alloc, machine, input, trace), wanted)
+    does(&planned(rt, alloc, machine, call), wanted)
 }
 
 fn expect_planned<E: TwoEnds<u8, A>, M: TwoEnds<Mark, A>, A: Allocator + Copy>(

@@ -143,26 +143,14 @@ fn put<E: TwoEnds<u8, A>, A: Allocator + Copy>(rt: &impl Abort, ends: &mut E, ca
     }
 }
 
-// Carries out a call that takes items from a list that has them.
+// Carries out a call that takes items from a list: so many, or all.
 fn take<E: TwoEnds<u8, A>, A: Allocator + Copy>(rt: &impl Abort, ends: &mut E, call: &Call) {
     match *call {
         Call::PopLeft(item) => assert!(rt; ends.pop_left() == item),
-        Call::CutLeft(n) => {
-            assert!(rt; n <= ends.left().len());
-            ends.cut_left(n);
-        }
-        Call::CutRight(n) => {
-            assert!(rt; n <= ends.right().len());
-            ends.cut_right(n);
-        }
-        Call::ShiftLeft(n) => {
-            assert!(rt; n <= ends.right().len());
-            ends.shift_left(n);
-        }
-        Call::ShiftRight(n) => {
-            assert!(rt; n <= ends.left().len());
-            ends.shift_right(n);
-        }
+        Call::CutLeft(n) => ends.cut_left(n.min(ends.left().len())),
+        Call::CutRight(n) => ends.cut_right(n.min(ends.right().len())),
+        Call::ShiftLeft(n) => ends.shift_left(n.min(ends.right().len())),
+        Call::ShiftRight(n) => ends.shift_right(n.min(ends.left().len())),
         _ => {}
     }
 }

@@ -178,8 +178,7 @@ fn refusals_of<E: TwoEnds<u8, A>, M: TwoEnds<Mark, A>, A: Allocator + Copy>(
 }
 
 fn expect_rich<E: TwoEnds<u8, A>, M: TwoEnds<Mark, A>, A: Allocator + Copy>(
-    rt: &impl Abort,
-    plain: Global,
+    rt: &(impl Abort + AllocGlobal),
     memory: Memory<'_>,
     alloc: A,
 ) {
@@ -187,7 +186,7 @@ fn expect_rich<E: TwoEnds<u8, A>, M: TwoEnds<Mark, A>, A: Allocator + Copy>(
     let runs = refusals_of::<E, M, A>(rt, memory, alloc, &parts);
     assert!(rt; 10 < runs && runs < MOST_REQUESTS);
     let machine = load::<E, M, A>(rt, alloc, &parts).expect(rt, "the parts were refused");
-    expect_shown(rt, plain, &machine, SHOWN);
+    expect_shown(rt, rt.alloc(), &machine, SHOWN);
     let_go(machine);
 }
 
@@ -195,10 +194,7 @@ fn expect_rich<E: TwoEnds<u8, A>, M: TwoEnds<Mark, A>, A: Allocator + Copy>(
 fn a_rich_state(rt: HostRuntime) {
     let memory = Refusing::new(rt.alloc());
     expect_rich::<GapBuf<u8, Memory<'_>>, GapBuf<Mark, Memory<'_>>, Memory<'_>>(
-        &rt,
-        rt.alloc(),
-        &memory,
-        &memory,
+        &rt, &memory, &memory,
     );
 }
 

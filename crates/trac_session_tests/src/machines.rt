@@ -16,6 +16,14 @@ use trac_step::{Core, Mark, Record, Tape};
 /// Memory of which a request may be refused.
 pub(crate) type Memory<'a> = &'a Refusing<Global>;
 
+/// What a walk is over.
+#[derive(Clone, Copy)]
+struct Walk<'a> {
+    plain: Global,
+    memory: Memory<'a>,
+    input: &'a [u8],
+}
+
 /// How many requests a call may make at most.
 const MOST_REQUESTS: u64 = 1_000;
 
@@ -84,21 +92,20 @@ fn take_step<E: TwoEnds<u8, A>, M: TwoEnds<Mark, A>, A: Allocator + Copy>(
 // A step that is undone while every request for memory is refused, or why it is refused.
 fn step_and_undo<E: TwoEnds<u8, A>, M: TwoEnds<Mark, A>, A: Allocator + Copy>(
     rt: &impl Abort,
-    memory: Memory<'_>,
+    walk: &Walk<'_>,
     machine: &mut Core<E, M, A>,
-    input: &[u8],
 ) -> Option<Refusal> {
-    assert!(rt; machine.position() <= input.len());
+    assert!(rt; machine.position() <= walk.input.len());
     let tape = Tape {
-        bytes: input,
+        bytes: walk.input,
         ended: true,
     };
     match machine.step(tape) {
         Ok(taken) => {
-            let requests = memory.requests();
-            memory.refuse_all();
+            let requests = walk.memory.requests();
+            walk.memory.refuse_all();
             machine.undo(taken);
-            assert!(rt; memory.requests() == requests);
+            assert!(rt; walk.memory.requests() == requests);
             None
         }
         Err(refusal) => Some(refusal),
@@ -109,19 +116,17 @@ fn step_and_undo<E: TwoEnds<u8, A>, M: TwoEnds<Mark, A>, A: Allocator + Copy>(
 // same as before. The answer is why the step is refused with ample memory.
 fn try_step<E: TwoEnds<u8, A>, M: TwoEnds<Mark, A>, A: Allocator + Copy>(
     rt: &impl Abort,
-    plain: Global,
-    memory: Memory<'_>,
+    walk: &Walk<'_>,
     machine: &mut Core<E, M, A>,
-    input: &[u8],
 ) -> Option<Refusal> {
-    let before = shown_by(rt, plain, machine);
+    let before = shown_by(rt, walk.plain, machine);
     for nth in 1..MOST_REQUESTS {
-        let refusals = memory.refusals();
-        memory.refuse_nth(nth);
-        let refused = step_and_undo(rt, memory, machine, input);
-        memory.accept_all();
-        expect_shown(rt, plain, machine, before.as_slice());
-        if memory.refusals() == refusals {
+        let refusals = walk.memory.refusals();
+        walk.memory.refuse_nth(nth);
+        let refused = step_and_undo(rt, walk, machine);
+        walk.memory.accept_all();
+        expect_shown(rt, walk.plain, machine, before.as_slice());
+        if walk.memory.refusals() == refusals {
             return refused;
         }
         assert!(rt; refused.is_none() || refused == Some(Refusal::Memory));
@@ -130,19 +135,17 @@ fn try_step<E: TwoEnds<u8, A>, M: TwoEnds<Mark, A>, A: Allocator + Copy>(
 }
 
 // A whole run, step by step.
-fn walk<E: TwoEnds<u8, A>, M: TwoEnds<Mark, A>, A: Allocator + Copy>(
+fn go_through<E: TwoEnds<u8, A>, M: TwoEnds<Mark, A>, A: Allocator + Copy>(
     rt: &impl Abort,
-    plain: Global,
-    memory: Memory<'_>,
+    walk: &Walk<'_>,
     machine: &mut Core<E, M, A>,
-    input: &[u8],
 ) {
     for _ in 0..5_000 {
-        if let Some(refusal) = try_step(rt, plain, memory, machine, input) {
+        if let Some(refusal) = try_step(rt, walk, machine) {
             assert!(rt; refusal == Refusal::Ended);
             return;
         }
-        take_step(rt, machine, input);
+        take_step(rt, machine, walk.input);
     }
     panic!(rt; "too few steps");
 }
@@ -153,18 +156,32 @@ pub(crate) fn programs() -> &'static [(&'static [u8], &'static [u8])] {
     PROGRAMS
 }
 
-// A whole run of each program on a new machine.
-fn run_each<E: TwoEnds<u8, A>, M: TwoEnds<Mark, A>, A: Allocator + Copy>(
+// A whole run on a new machine, with what it prints.
+fn expect_run<E: TwoEnds<u8, A>, M: TwoEnds<Mark, A>, A: Allocator + Copy>(
     rt: &impl Abort,
-    plain: Global,
+    alloc: A,
+    walk: &Walk<'_>,
+    output: &[u8],
+) {
+    let mut machine = made::<E, M, A>(alloc).expect(rt, "there was no memory");
+    go_through(rt, walk, &mut machine);
+    expect_text(rt, machine.output(), output);
+    let_go(machine);
+}
+
+// A whole run of each program.
+fn run_each<E: TwoEnds<u8, A>, M: TwoEnds<Mark, A>, A: Allocator + Copy>(
+    rt: &(impl Abort + AllocGlobal),
     memory: Memory<'_>,
     alloc: A,
 ) {
     for (input, output) in programs().iter() {
-        let mut machine = made::<E, M, A>(alloc).expect(rt, "there was no memory");
-        walk(rt, plain, memory, &mut machine, input);
-        expect_text(rt, machine.output(), output);
-        let_go(machine);
+        let walk = Walk {
+            plain: rt.alloc(),
+            memory,
+            input,
+        };
+        expect_run::<E, M, A>(rt, alloc, &walk, output);
     }
 }
 
@@ -172,9 +189,6 @@ fn run_each<E: TwoEnds<u8, A>, M: TwoEnds<Mark, A>, A: Allocator + Copy>(
 fn the_plain_representation(rt: HostRuntime) {
     let memory = Refusing::new(rt.alloc());
     run_each::<PlainEnds<u8, Memory<'_>>, PlainEnds<Mark, Memory<'_>>, Memory<'_>>(
-        &rt,
-        rt.alloc(),
-        &memory,
-        &memory,
+        &rt, &memory, &memory,
     );
 }

@@ -1,23 +1,34 @@
 //! Whole programs with what they print.
-
-/// The whole input of a program that performs each primitive but `hl`, and what it prints.
-pub const EACH_PRIMITIVE: (&[u8], &[u8]) = (
-    b"\
-        #(ds,A,abcbd)#(ss,A,b)#(pf,A)'\
-        #(cl,A,-)#(cs,A,z)#(cc,A,z)#(cn,A,1,z)#(cr,A)#(in,A,d,z)'\
-        #(eq,x,x,1,2)#(gr,2,1,3,4)#(ad,2,3)#(su,9,2)#(ml,2,4)#(dv,9,1)'\
-        #(bu,1,2)#(bi,6,3)#(bc,7)#(bs,1,1)#(br,-1,1)'\
-        #(ds,B,x)#(sb,G,A,B)#(ds,A,y)#(fb,G)#(cl,B)#(eb,G)#(ln,;)'\
-        #(dd,A)#(da)#(ln,;)#(rc)'q#(tn)#(tf)#(cm,;)'\
-        (en)d##(no)#)z;",
-    b"<^>a<1>c<1>da-c-dacdac13578932024x;A;Bq#(tf)\nend#",
-);
+use crate::EACH_PRIMITIVE;
 
 /// Whole inputs, and what they print where numbers are of 128 bits. Each run ends with its input.
-pub const PROGRAMS: &[(&[u8], &[u8])] = &[
+pub(crate) const PROGRAMS: &[(&[u8], &[u8])] = &[
     EACH_PRIMITIVE,
     (b"", b""),
     (b"AB'", b"AB"),
+    (b"a(b", b""),
+    (b"((a'", b""),
+    (b"a)b,c'", b"a"),
+    (b"ABC", b"ABC"),
+    (b"a#b##c'", b"a#b##c"),
+    (b"A\r\nB'", b"AB"),
+    (b"(A\nB)'", b"A\nB"),
+    (b"#(ds,a,1)'#(dd,a)'#(ds,a,2)'#(cl,a)'", b"2"),
+    (b"##(ad,5,(#(su,9,10)))'", b"5"),
+    (b"##(dv,1,0,(#(ad,2,2)))'", b"4"),
+    (b"##(dv,1,0,(#(ad,2,2)))'#(bs,3,12)'", b"420"),
+    (b"#(ds,b,1)#(ds,a,2)##(ln,(,))'", b",a,b"),
+    (b"#(ds,,x)#(cl,)'", b"x"),
+    (b"#(ds,F,banana)#(ss,F,,a)#(pf,F)'", b"<^>b<2>n<2>n<2>"),
+    (b"#(ds,F,aaa)#(ss,F,aa)#(pf,F)'", b"<^><1>a"),
+    (b"#(ds,F,ab)#(cr,F)#(da)#(ln,;)#(pf,F)'", b""),
+    (b"\t#(PS,A)#(Ps,(#(ps,B)))'", b"A#(ps,B)"),
+    (b"#(ps,A)'B'", b"AB"),
+    (b"#(rc)'x'", b"x"),
+    (b"#(cm,;)'A;B;", b"AB"),
+    (b"#(ps,a)#(hl)#(ps,b)'c'", b"a"),
+    // Functions that are begun one in another, and of which only the innermost is ended.
+    (b"#(#(#(#(#(#(#(#(#(#(#(#(#(#(#(#('", b""),
     (
         b"#(ds,AA,Cat)'#(ds,BB,(#(cl,AA)))'#(ps,(#(cl,BB)))'#(ps,##(cl,BB))'#(ps,#(cl,BB))'",
         b"#(cl,BB)#(cl,AA)Cat",
@@ -26,13 +37,6 @@ pub const PROGRAMS: &[(&[u8], &[u8])] = &[
         b"#(ds,Factorial,(#(eq,X,1,1,(#(ml,X,#(cl,Factorial,#(su,X,1)))))))'#(ss,Factorial,X)'#(cl,Factorial,5)'",
         b"120",
     ),
-    (b"a(b", b""),
-    (b"((a'", b""),
-    (b"a)b,c'", b"a"),
-    (b"ABC", b"ABC"),
-    (b"a#b##c'", b"a#b##c"),
-    (b"A\r\nB'", b"AB"),
-    (b"(A\nB)'", b"A\nB"),
     (
         b"#(ad,9223372036854775807,1,over);'#(dv,7,0,none);'#(ad,apples5,pears3);'#(dv,-7,2);'\
           #(gr,99999999999999999999,5,yes,no)'",
@@ -42,14 +46,10 @@ pub const PROGRAMS: &[(&[u8], &[u8])] = &[
         b"#(ds,F,yxb)'#(ss,F,y)'#(pf,F)'#(ss,F,x)'#(pf,F)'",
         b"<^><1>xb<^><1><1>b",
     ),
-    (b"#(ds,a,1)'#(dd,a)'#(ds,a,2)'#(cl,a)'", b"2"),
     (
         b"#(bu,7,10) #(bi,70,5) #(bc,0) #(bs,-1,4) #(br,1,4)'",
         b"17 0 7 2 1",
     ),
-    (b"##(ad,5,(#(su,9,10)))'", b"5"),
-    (b"##(dv,1,0,(#(ad,2,2)))'", b"4"),
-    (b"##(dv,1,0,(#(ad,2,2)))'#(bs,3,12)'", b"420"),
     (
         b"#(ml,3037000499,3037000499,big);#(ml,3037000500,3037000500,big)'",
         b"9223372030926249001;9223372037000250000",
@@ -93,13 +93,6 @@ pub const PROGRAMS: &[(&[u8], &[u8])] = &[
         b"#(ds,A,axb)#(ss,A,x)#(cc,A)#(ds,B,2)#(ds,a,3)#(sb,G,A,B,a)#(fb,G)#(cc,A)#(fb,G)#(pf,A)'",
         b"a<^><1>bab",
     ),
-    (b"#(ds,b,1)#(ds,a,2)##(ln,(,))'", b",a,b"),
-    (b"#(ds,,x)#(cl,)'", b"x"),
-    (b"#(ds,F,banana)#(ss,F,,a)#(pf,F)'", b"<^>b<2>n<2>n<2>"),
-    (b"#(ds,F,aaa)#(ss,F,aa)#(pf,F)'", b"<^><1>a"),
-    (b"#(ds,F,ab)#(cr,F)#(da)#(ln,;)#(pf,F)'", b""),
-    (b"\t#(PS,A)#(Ps,(#(ps,B)))'", b"A#(ps,B)"),
-    (b"#(ps,A)'B'", b"AB"),
     (
         b"#(ds,F,AxB)'#(ss,F,x)'#(cs,F,none)'#(cs,F,none)'##(cs,F,(#(ad,1,2)))'#(cr,F)#(cl,F,-)'",
         b"AB3A-B",
@@ -137,9 +130,4 @@ pub const PROGRAMS: &[(&[u8], &[u8])] = &[
         b"#(tn)'#(ps,a)'#(tf)'",
         b"#(ps*)\n#(rs)\n#(ps*a)\na#(ps*)\n#(rs)\n#(tf)\n",
     ),
-    (b"#(rc)'x'", b"x"),
-    (b"#(cm,;)'A;B;", b"AB"),
-    (b"#(ps,a)#(hl)#(ps,b)'c'", b"a"),
-    // Functions that are begun one in another, and of which only the innermost is ended.
-    (b"#(#(#(#(#(#(#(#(#(#(#(#(#(#(#(#('", b""),
 ];
