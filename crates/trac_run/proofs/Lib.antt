@@ -1,4 +1,5 @@
 pub mod Stepped
+pub mod Transfers
 pub mod Turned
 pub mod Taken
 pub mod Ran

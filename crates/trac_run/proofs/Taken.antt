@@ -19,8 +19,8 @@ use Rattle.trac_streams.specs.Reading.{CameBy, end_reads, empty_reads, fault_rea
 use Rattle.trac_streams.specs.Written.{WritesFront, Closes}
 use Rattle.trac_run.specs.Runs.{Shows, ending_of_feed, IsFresh, turns_left, unread_count, most_read, GoesOn, Finishes, EndsFor, TakesNone, TakesMore}
 use Rattle.trac_streams.proofs.Gathered.{came_by_none, came_by_one, empty_reads_open, end_reads_ended, end_reads_open, fault_reads_one, if_ended, if_open}
-use Rattle.trac_streams.proofs.Known.{Appends-both, Appends-kept, Consumes-nothing, front_of_front, front_of_itself, empty_front}
-use Rattle.trac_run.proofs.Turned.{closed_sound, finishes_here, front_pending, Shows-Write, ended_after_Commit, end_turns, few_of_none, few_reads_of_none, none_counted, unread_after_Commit, writer_sound}
+use Rattle.trac_streams.proofs.Known.{Appends-both, Appends-kept, front_of_itself, empty_front}
+use Rattle.trac_run.proofs.Turned.{closed_sound, finishes_here, front_pending, Shows-Write, ended_after_Commit, end_turns, unread_after_Commit, writer_sound}
 
 -- ---- one read
 
@@ -133,10 +133,7 @@ taken_on in_old in_new out_old out_new reads_old reads_new q r s n wanted on_tap
     let shut : q.tape.ended ≡ true → ⊥ = λ over. false≢true (sym (wanted_open q wanted) ∙ over) in
     let full = full_of in_old in_new q r s on_tape e (wanted_open_after q r wanted e) taken in
     record {
-      got = taken.got;
-      written = q.last.output;
-      took = taken.took;
-      gave = gave;
+      moved = record { got = taken.got; written = q.last.output; took = taken.took; gave = gave; full = full.0; came = full.1 };
       closed = λ over. absurd (shut over);
       at_end = λ over. ⊎_elim
           (λ (end : (taken.got ≡ []) × IsAtEnd in_new × (answer End r ≡ done s)). end.1)
@@ -150,8 +147,6 @@ taken_on in_old in_new out_old out_new reads_old reads_new q r s n wanted on_tap
           taken.fed;
       fits = (unread_taken in_old in_new q r s e taken).1;
       few = λ fits. omega (arith, (unread_taken in_old in_new q r s e taken).0);
-      full = full.0;
-      came = full.1;
       counted = omega (arith, once, full.2, end_reads_open q.tape.ended (wanted_open q wanted));
     }
 
@@ -242,26 +237,30 @@ few_reads_of_read : (q : PlainSession) (n : ℕ) (ending : Ending) → q.tape.en
     (1 - fault_reads ending) + empty_reads q.tape.ended ending + unread_count q + n * TAPE_LIMIT ≤ n * TAPE_LIMIT + (TAPE_LIMIT + 1)
 few_reads_of_read q n ending unended fits = omega (arith, fits, empty_reads_open q.tape.ended ending unended, fault_reads_one ending)
 
--- all that is pending was written, and the run ends for what the reader gave or did not give
-pub unfed_finish : (in_old in_new out_old out_new : Option (List ℕ)) (reads_old reads_new : ℕ) (q r s : PlainSession) (n : ℕ) (ending : Ending) → answer Step q ≡ refused refusals.NeedInput q → q.last.position ≤ length q.tape.bytes → answer (Commit 0) q ≡ done r →
-    Appends out_old out_new q.last.output → TakesNone in_old in_new r s ending → reads_new ≡ reads_old + 1 → Finishes in_old in_new out_old out_new reads_old reads_new q (n + 1) (n + 1) ending
-unfed_finish in_old in_new out_old out_new reads_old reads_new q r s n ending wanted on_tape e gave taken once =
-    let shut : q.tape.ended ≡ true → ⊥ = λ over. false≢true (sym (wanted_open q wanted) ∙ over) in
+-- all that is pending was written, and the run ends so for what the reader gave or did not give
+unfed_ends : {in_old in_new out_old out_new : Option (List ℕ)} (reads_old reads_new : ℕ) (q r s : PlainSession) (n : ℕ) (ending result : Ending) → fault_reads result ≡ fault_reads ending → answer Step q ≡ refused refusals.NeedInput q →
+    Appends out_old out_new q.last.output → TakesNone in_old in_new r s ending → ((more : List ℕ) → Shows result q.last.output (going_on_from q more (n + 1))) → reads_new ≡ reads_old + 1 →
+    Finishes in_old in_new out_old out_new reads_old reads_new q (n + 1) (n + 1) result
+unfed_ends {in_old} {in_new} {out_old} {out_new} reads_old reads_new q r s n ending result same wanted gave taken shows once =
+    let unended = wanted_open q wanted in
+    let shut : q.tape.ended ≡ true → ⊥ = λ over. false≢true (sym unended ∙ over) in
+    let came : CameBy (1 - fault_reads result) taken.got = subst (λ fault. CameBy (1 - fault) taken.got) (sym same) taken.came in
     record {
-      got = taken.got;
-      written = q.last.output;
-      took = taken.took;
-      gave = gave;
+      moved = record { got = taken.got; written = q.last.output; took = taken.took; gave = gave; full = 1 - fault_reads result; came = came };
       closed = λ over. absurd (shut over);
       at_end = λ over. absurd (shut over);
       front = λ more none. front_pending q (taken.got ++ more) (n + 1);
-      shows = λ more none. shows_unfed q r n taken.got ending wanted on_tape e taken.why (taken.got ++ more);
+      shows = λ more none. shows (taken.got ++ more);
       few = few_of_read q (n + 1) taken.got taken.few;
-      full = 1 - fault_reads ending;
-      came = taken.came;
-      counted = read_counted q reads_old reads_new ending (wanted_open q wanted) once;
-      few_reads = few_reads_of_read q (n + 1) ending (wanted_open q wanted);
+      counted = read_counted q reads_old reads_new result unended once;
+      few_reads = few_reads_of_read q (n + 1) result unended;
     }
+
+-- it ends for that
+pub unfed_finish : (in_old in_new out_old out_new : Option (List ℕ)) (reads_old reads_new : ℕ) (q r s : PlainSession) (n : ℕ) (ending : Ending) → answer Step q ≡ refused refusals.NeedInput q → q.last.position ≤ length q.tape.bytes → answer (Commit 0) q ≡ done r →
+    Appends out_old out_new q.last.output → TakesNone in_old in_new r s ending → reads_new ≡ reads_old + 1 → Finishes in_old in_new out_old out_new reads_old reads_new q (n + 1) (n + 1) ending
+unfed_finish in_old in_new out_old out_new reads_old reads_new q r s n ending wanted on_tape e gave taken once =
+    unfed_ends reads_old reads_new q r s n ending ending refl wanted gave taken (shows_unfed q r n taken.got ending wanted on_tape e taken.why) once
 
 -- what is written when the pending text is empty: nothing
 pub closes_nothing : (out_old out_mid out_new : Option (List ℕ)) (x text : List ℕ) (ending result : Ending) → text ≡ [] → Appends out_old out_mid x → Closes out_mid out_new text ending result → Appends out_old out_new x
@@ -275,25 +274,11 @@ pub unfed_closed : (in_old in_new out_old out_mid out_new : Option (List ℕ)) (
     Finishes in_old in_new out_old out_new reads_old reads_new q (n + 1) (n + 1) result
 unfed_closed in_old in_new out_old out_mid out_new reads_old reads_new q r s n ending result sound wanted on_tape e gave taken closes once =
     let as_sound : fault_reads result ≡ fault_reads ending = closed_sound ending result closes.ends sound ∙ sym sound in
-    let shut : q.tape.ended ≡ true → ⊥ = λ over. false≢true (sym (wanted_open q wanted) ∙ over) in
     let nothing : s.last.output ≡ [] = ap (λ (t : PlainSession). t.last.output) taken.same ∙ (after_Commit q r e).0 in
-    record {
-      got = taken.got;
-      written = q.last.output;
-      took = taken.took;
-      gave = closes_nothing out_old out_mid out_new q.last.output s.last.output ending result nothing gave closes;
-      closed = λ over. absurd (shut over);
-      at_end = λ over. absurd (shut over);
-      front = λ more none. front_pending q (taken.got ++ more) (n + 1);
-      shows = λ more none. ⊎_elim
-          (λ (all : (result ≡ ending) × (closes.written ≡ s.last.output)).
-          subst (λ w. Shows w q.last.output (going_on_from q (taken.got ++ more) (n + 1))) (sym all.0)
-          (shows_unfed q r n taken.got ending wanted on_tape e taken.why (taken.got ++ more)))
-          (λ (fault : result ≡ Write). Shows-Write result q.last.output (going_on_from q (taken.got ++ more) (n + 1)) fault)
-          closes.ends;
-      few = few_of_read q (n + 1) taken.got taken.few;
-      full = 1 - fault_reads result;
-      came = subst (λ fault. CameBy (1 - fault) taken.got) (sym as_sound) taken.came;
-      counted = read_counted q reads_old reads_new result (wanted_open q wanted) once;
-      few_reads = few_reads_of_read q (n + 1) result (wanted_open q wanted);
-    }
+    unfed_ends reads_old reads_new q r s n ending result as_sound wanted (closes_nothing out_old out_mid out_new q.last.output s.last.output ending result nothing gave closes) taken
+    (λ more. ⊎_elim
+    (λ (all : (result ≡ ending) × (closes.written ≡ s.last.output)).
+    subst (λ w. Shows w q.last.output (going_on_from q more (n + 1))) (sym all.0) (shows_unfed q r n taken.got ending wanted on_tape e taken.why more))
+    (λ (fault : result ≡ Write). Shows-Write result q.last.output (going_on_from q more (n + 1)) fault)
+    closes.ends)
+    once

@@ -21,8 +21,9 @@ use Rattle.trac_rules.specs.Fronts.{IsFrontOf}
 use Rattle.trac_streams.specs.Reading.{end_reads, empty_reads, fault_reads}
 use Rattle.trac_streams.specs.Written.{WritesFront, Closes}
 use Rattle.trac_run.specs.Runs.{Shows, IsFresh, turns_left, unread_count, most_read, GoesOn, Finishes}
-use Rattle.trac_streams.proofs.Gathered.{came_by_none, empty_reads_one, empty_reads_sound}
-use Rattle.trac_streams.proofs.Known.{Consumes-nothing, front_of_front}
+use Rattle.trac_streams.proofs.Gathered.{empty_reads_one, empty_reads_sound}
+use Rattle.trac_streams.proofs.Known.{front_of_front}
+use Rattle.trac_run.proofs.Transfers.{only_written}
 
 -- ---- the walk
 
@@ -164,17 +165,12 @@ pub finishes_here : (input : Option (List ℕ)) (out_old out_new : Option (List 
     (q.tape.ended ≡ true → IsAtEnd input) → IsFrontOf written q.last.output → Appends out_old out_new written → ((more : List ℕ) → (q.tape.ended ≡ true → more ≡ []) → Shows ending written (going_on_from q more n)) →
     Finishes input input out_old out_new reads reads q n n ending
 finishes_here input out_old out_new reads q n written ending sound at_end front gave shows = record {
-  got = [];
-  written = written;
-  took = Consumes-nothing input;
-  gave = gave;
+  moved = only_written input out_old out_new written gave;
   closed = λ _. refl;
   at_end = at_end;
   front = λ more none. front_of_front written q.last.output (going_on_from q more n).bytes front (front_pending q more n);
   shows = shows;
   few = few_of_none q n n (omega arith);
-  full = 0;
-  came = came_by_none;
   counted = none_counted reads q ending sound;
   few_reads = few_reads_of_none q n n ending (omega arith);
 }
@@ -184,20 +180,15 @@ walked_end : (in_old in_new out_old out_new : Option (List ℕ)) (reads_old read
     AfterWalk p m k q → Finishes in_old in_new out_old out_new reads_old reads_new q (m - k) n ending → Finishes in_old in_new out_old out_new reads_old reads_new p m n ending
 walked_end in_old in_new out_old out_new reads_old reads_new p m k q n ending after on =
     let ended : q.tape.ended ≡ p.tape.ended = ap (λ t. t.ended) after.tape in
-    let all : (more : List ℕ) → (p.tape.ended ≡ true → more ≡ []) → going_on_from p (on.got ++ more) m ≡ going_on_from q (on.got ++ more) (m - k) =
-    λ more none. after.rest (on.got ++ more) (λ over. ap (λ g. g ++ more) (on.closed (ended ∙ over)) ∙ none over) in
+    let all : (more : List ℕ) → (p.tape.ended ≡ true → more ≡ []) → going_on_from p (on.moved.got ++ more) m ≡ going_on_from q (on.moved.got ++ more) (m - k) =
+    λ more none. after.rest (on.moved.got ++ more) (λ over. ap (λ g. g ++ more) (on.closed (ended ∙ over)) ∙ none over) in
     record {
-      got = on.got;
-      written = on.written;
-      took = on.took;
-      gave = on.gave;
+      moved = on.moved;
       closed = λ over. on.closed (ended ∙ over);
       at_end = λ over. on.at_end (ended ∙ over);
-      front = λ more none. subst (λ (o : Output). IsFrontOf on.written o.bytes) (sym (all more none)) (on.front more (λ over. none (sym ended ∙ over)));
-      shows = λ more none. subst (λ (o : Output). Shows ending on.written o) (sym (all more none)) (on.shows more (λ over. none (sym ended ∙ over)));
+      front = λ more none. subst (λ (o : Output). IsFrontOf on.moved.written o.bytes) (sym (all more none)) (on.front more (λ over. none (sym ended ∙ over)));
+      shows = λ more none. subst (λ (o : Output). Shows ending on.moved.written o) (sym (all more none)) (on.shows more (λ over. none (sym ended ∙ over)));
       few = λ fits_. omega (arith, on.few (omega (arith, fits_, tape_after_walk p m k q after)), unread_by_walk p m k q after fits_, after.within);
-      full = on.full;
-      came = on.came;
       counted = omega (arith, on.counted, ap end_reads ended, ap (λ b. empty_reads b ending) ended);
       few_reads = λ fits_. omega (
         arith,
@@ -303,17 +294,12 @@ released input out_old out_new reads {p} {m} {k} {q} r (Ok u) after at_end some 
     let ended : r.tape.ended ≡ p.tape.ended = ended_after_Commit q r h ∙ ap (λ t. t.ended) after.tape in
     let left = after_Commit q r h in (
       record {
-        got = [];
-        written = q.last.output;
-        took = Consumes-nothing input;
-        gave = gave;
+        moved = only_written input out_old out_new q.last.output gave;
         closed = λ over. (refl, ended ∙ over);
         at_end = λ over. at_end (sym ended ∙ over);
         rest = λ more none. released_rest p m k q r after h more (λ over. none (ended ∙ over));
         fits = λ fits_. omega (arith, fits_, (unread_after_Commit q r h).0, tape_after_walk p m k q after);
         few = λ fits_. omega (arith, (unread_after_Commit q r h).1, unread_by_walk p m k q after fits_, after.within);
-        full = 0;
-        came = came_by_none;
         counted = omega (arith, ap end_reads ended);
       },
       tt,
@@ -340,19 +326,14 @@ walked_on in_old in_new out_old out_new reads_old reads_new {p} {m} {k} {q} r (E
 walked_on in_old in_new out_old out_new reads_old reads_new {p} {m} {k} {q} r (Ok u) after on =
     let ended : q.tape.ended ≡ p.tape.ended = ap (λ t. t.ended) after.tape in
     record {
-      got = on.got;
-      written = on.written;
-      took = on.took;
-      gave = on.gave;
+      moved = on.moved;
       closed = λ over. on.closed (ended ∙ over);
       at_end = on.at_end;
       rest = λ more none.
-          after.rest (on.got ++ more) (λ over. let at = on.closed (ended ∙ over) in ap (λ g. g ++ more) at.0 ∙ none at.1)
+          after.rest (on.moved.got ++ more) (λ over. let at = on.closed (ended ∙ over) in ap (λ g. g ++ more) at.0 ∙ none at.1)
           ∙ on.rest more none;
       fits = λ fits_. on.fits (omega (arith, fits_, tape_after_walk p m k q after));
       few = λ fits_. omega (arith, on.few (omega (arith, fits_, tape_after_walk p m k q after)), unread_by_walk p m k q after fits_, after.within);
-      full = on.full;
-      came = on.came;
       counted = omega (arith, on.counted, ap end_reads ended);
     }
 

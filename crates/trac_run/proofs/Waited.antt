@@ -9,39 +9,17 @@ use Rattle.trac_rules.specs.Fronts.{IsFrontOf}
 use Rattle.trac_rules.specs.Session.{PlainSession, Step, refused, answer}
 use Rattle.trac_rules.specs.Running.{Output}
 use Rattle.trac_rules.specs.GoingOn.{prepended, going_on_from}
-use Rattle.trac_rules.proofs.GoingOn.{prepended-prepended}
 use Rattle.trac_streams.specs.declared.ending.Ending.{Ending}
 use Rattle.trac_run.specs.Runs.{Shows, IsFresh, TakesSteps, turns_left, GoesOn, Finishes}
 use Rattle.trac_streams.specs.Reading.{empty_reads}
-use Rattle.trac_streams.proofs.Gathered.{came_by_both, empty_reads_open, end_reads_one}
-use Rattle.trac_streams.proofs.Known.{Appends-both, Consumes-both, front_after}
+use Rattle.trac_streams.proofs.Gathered.{empty_reads_open, end_reads_one}
+use Rattle.trac_streams.proofs.Known.{front_after}
 use Rattle.trac_run.proofs.Taken.{wanted_open}
 use Rattle.trac_run.proofs.Ran.{Shows-prepended}
+use Rattle.trac_run.proofs.Transfers.{both_moved, goes_on_twice}
 use Rattle.trac_run.proofs.Stepped.{steps_both}
 
 -- ---- one part of a run after another
-
--- going on twice
-pub goes_on_twice : (in_old in_now in_new out_old out_now out_new : Option (List ℕ)) (reads_old reads_now reads_new : ℕ) (p q r : PlainSession) (l m n : ℕ) →
-    GoesOn in_old in_now out_old out_now reads_old reads_now p l q m → GoesOn in_now in_new out_now out_new reads_now reads_new q m r n → GoesOn in_old in_new out_old out_new reads_old reads_new p l r n
-goes_on_twice in_old in_now in_new out_old out_now out_new reads_old reads_now reads_new p q r l m n first second = record {
-  got = first.got ++ second.got;
-  written = first.written ++ second.written;
-  took = Consumes-both in_old in_now in_new first.got second.got first.took second.took;
-  gave = Appends-both out_old out_now out_new first.written second.written first.gave second.gave;
-  closed = λ over. let before = first.closed over in let after = second.closed before.1 in (ap (λ g. g ++ second.got) before.0 ∙ after.0, after.1);
-  at_end = second.at_end;
-  rest = λ more none.
-      ap (λ text. going_on_from p text l) (append_assoc first.got second.got more)
-      ∙ first.rest (second.got ++ more) (λ over. let at = second.closed over in ap (λ g. g ++ more) at.0 ∙ none at.1)
-      ∙ ap (prepended first.written) (second.rest more none)
-      ∙ prepended-prepended first.written second.written (going_on_from r more n);
-  fits = λ fits_. second.fits (first.fits fits_);
-  few = λ fits_. omega (arith, length-append first.got second.got, first.few fits_, second.few (first.fits fits_));
-  full = first.full + second.full;
-  came = came_by_both first.full second.full first.got second.got first.came second.came;
-  counted = omega (arith, first.counted, second.counted);
-}
 
 -- going on, and then finishing from a session whose input has not ended
 pub goes_on_to_finish : (in_old in_now in_new out_old out_now out_new : Option (List ℕ)) (reads_old reads_now reads_new : ℕ) (p q : PlainSession) (l m n : ℕ) (ending : Ending) → q.tape.ended ≡ false →
@@ -51,24 +29,21 @@ goes_on_to_finish in_old in_now in_new out_old out_now out_new reads_old reads_n
     let shut : q.tape.ended ≡ true → ⊥ = λ over. false≢true (sym unended ∙ over) in
     let before : p.tape.ended ≡ false = ⊎_elim (λ (over : p.tape.ended ≡ true). absurd (shut (on.closed over).1)) (λ (open_ : p.tape.ended ≡ false). open_) (cases_Bool p.tape.ended) in
     let faults : empty_reads p.tape.ended ending ≡ empty_reads q.tape.ended ending = empty_reads_open p.tape.ended ending before ∙ sym (empty_reads_open q.tape.ended ending unended) in
-    let all : (more : List ℕ) → going_on_from p ((on.got ++ last.got) ++ more) l ≡ prepended on.written (going_on_from q (last.got ++ more) m) =
-    λ more. ap (λ text. going_on_from p text l) (append_assoc on.got last.got more) ∙ on.rest (last.got ++ more) (λ over. absurd (shut over)) in
+    let one = on.moved in
+    let two = last.moved in
+    let all : (more : List ℕ) → going_on_from p ((one.got ++ two.got) ++ more) l ≡ prepended one.written (going_on_from q (two.got ++ more) m) =
+    λ more. ap (λ text. going_on_from p text l) (append_assoc one.got two.got more) ∙ on.rest (two.got ++ more) (λ over. absurd (shut over)) in
     record {
-      got = on.got ++ last.got;
-      written = on.written ++ last.written;
-      took = Consumes-both in_old in_now in_new on.got last.got on.took last.took;
-      gave = Appends-both out_old out_now out_new on.written last.written on.gave last.gave;
+      moved = both_moved one two;
       closed = λ over. absurd (shut (on.closed over).1);
       at_end = λ over. absurd (shut (on.closed over).1);
-      front = λ more none. subst (λ (o : Output). IsFrontOf (on.written ++ last.written) o.bytes) (sym (all more))
-          (front_after on.written last.written (going_on_from q (last.got ++ more) m).bytes (last.front more (λ over. absurd (shut over))));
-      shows = λ more none. subst (λ (o : Output). Shows ending (on.written ++ last.written) o) (sym (all more))
-          (Shows-prepended ending on.written last.written (going_on_from q (last.got ++ more) m) (last.shows more (λ over. absurd (shut over))));
-      few = λ fits_. omega (arith, length-append on.got last.got, on.few fits_, last.few (on.fits fits_));
-      full = on.full + last.full;
-      came = came_by_both on.full last.full on.got last.got on.came last.came;
+      front = λ more none. subst (λ (o : Output). IsFrontOf (one.written ++ two.written) o.bytes) (sym (all more))
+          (front_after one.written two.written (going_on_from q (two.got ++ more) m).bytes (last.front more (λ over. absurd (shut over))));
+      shows = λ more none. subst (λ (o : Output). Shows ending (one.written ++ two.written) o) (sym (all more))
+          (Shows-prepended ending one.written two.written (going_on_from q (two.got ++ more) m) (last.shows more (λ over. absurd (shut over))));
+      few = λ fits_. omega (arith, length-append one.got two.got, on.few fits_, last.few (on.fits fits_));
       counted = omega (arith, on.counted, last.counted, faults);
-      few_reads = λ fits_. omega (arith, on.came.0, on.few fits_, last.few_reads (on.fits fits_), faults);
+      few_reads = λ fits_. omega (arith, one.came.0, on.few fits_, last.few_reads (on.fits fits_), faults);
     }
 
 -- ---- piece after piece
@@ -98,7 +73,7 @@ pub few_taken : (in_old in_now out_old out_now : Option (List ℕ)) (reads_old r
     HasTaken in_old in_now out_old out_now reads_old reads_now p q waits → reads_now ≤ reads_old + TAPE_LIMIT + 1
 few_taken in_old in_now out_old out_now reads_old reads_now p q waits fits taken =
     let on = taken.on 0 in
-    omega (arith, on.counted, on.came.0, on.few fits, on.fits fits, end_reads_one q.tape.ended)
+    omega (arith, on.counted, on.moved.came.0, on.few fits, on.fits fits, end_reads_one q.tape.ended)
 
 -- the run ends with a piece
 pub has_taken_all : (in_old in_now in_new out_old out_now out_new : Option (List ℕ)) (reads_old reads_now reads_new : ℕ) (p q : PlainSession) (waits : Bool) (n : ℕ) (ending : Ending) →

@@ -106,45 +106,44 @@ turns_left p n = n * (TAPE_LIMIT + 2) + (TAPE_LIMIT - length p.tape.bytes) + (if
 abbrev pub unread_count : PlainSession → ℕ
 unread_count p = length p.tape.bytes - p.last.position
 
--- what was to be written from one session on, is what was written and what is to be written from the other on. What was
--- read is unread there, or steps took it, each no more than a tape may have
-pub record GoesOn (in_old in_new out_old out_new : Option (List ℕ)) (reads_old reads_new : ℕ) (p : PlainSession) (m : ℕ)
-    (q : PlainSession) (n : ℕ) : Type 0 where
+-- what a part of a run read and wrote, and how many of its reads gave bytes
+pub record Transfer (in_old in_new out_old out_new : Option (List ℕ)) : Type 0 where
   pub got : List ℕ
   pub written : List ℕ
   pub took : Consumes in_old in_new got
   pub gave : Appends out_old out_new written
-  pub closed : p.tape.ended ≡ true → (got ≡ []) × (q.tape.ended ≡ true)
-  pub at_end : q.tape.ended ≡ true → IsAtEnd in_new
-  pub rest : (more : List ℕ) → (q.tape.ended ≡ true → more ≡ []) →
-      going_on_from p (got ++ more) m ≡ prepended written (going_on_from q more n)
-  pub fits : length p.tape.bytes ≤ TAPE_LIMIT → length q.tape.bytes ≤ TAPE_LIMIT
-  pub few : length p.tape.bytes ≤ TAPE_LIMIT →
-      length got + unread_count p + n * TAPE_LIMIT ≤ unread_count q + m * TAPE_LIMIT
   pub full : ℕ
   pub came : CameBy full got
-  pub counted : reads_new + end_reads p.tape.ended ≡ reads_old + full + end_reads q.tape.ended
+
+-- what was to be written from one session on, is what was written and what is to be written from the other on. What was
+-- read is unread there, or steps took it, each no more than a tape may have
+pub record GoesOn (in_old in_new out_old out_new : Option (List ℕ)) (reads_old reads_new : ℕ) (p : PlainSession) (m : ℕ)
+    (q : PlainSession) (n : ℕ) : Type 0 where
+  pub moved : Transfer in_old in_new out_old out_new
+  pub closed : p.tape.ended ≡ true → (moved.got ≡ []) × (q.tape.ended ≡ true)
+  pub at_end : q.tape.ended ≡ true → IsAtEnd in_new
+  pub rest : (more : List ℕ) → (q.tape.ended ≡ true → more ≡ []) →
+      going_on_from p (moved.got ++ more) m ≡ prepended moved.written (going_on_from q more n)
+  pub fits : length p.tape.bytes ≤ TAPE_LIMIT → length q.tape.bytes ≤ TAPE_LIMIT
+  pub few : length p.tape.bytes ≤ TAPE_LIMIT →
+      length moved.got + unread_count p + n * TAPE_LIMIT ≤ unread_count q + m * TAPE_LIMIT
+  pub counted : reads_new + end_reads p.tape.ended ≡ reads_old + moved.full + end_reads q.tape.ended
 
 -- what was written is a front of what was to be written from a session on, and the ending is the stated one. No more
 -- was read than may be, with so many of the steps still left, and no more often
 pub record Finishes (in_old in_new out_old out_new : Option (List ℕ)) (reads_old reads_new : ℕ) (p : PlainSession)
     (m n : ℕ) (ending : Ending) : Type 0 where
-  pub got : List ℕ
-  pub written : List ℕ
-  pub took : Consumes in_old in_new got
-  pub gave : Appends out_old out_new written
-  pub closed : p.tape.ended ≡ true → got ≡ []
+  pub moved : Transfer in_old in_new out_old out_new
+  pub closed : p.tape.ended ≡ true → moved.got ≡ []
   pub at_end : p.tape.ended ≡ true → IsAtEnd in_new
   pub front : (more : List ℕ) → (p.tape.ended ≡ true → more ≡ []) →
-      IsFrontOf written (going_on_from p (got ++ more) m).bytes
+      IsFrontOf moved.written (going_on_from p (moved.got ++ more) m).bytes
   pub shows : (more : List ℕ) → (p.tape.ended ≡ true → more ≡ []) →
-      Shows ending written (going_on_from p (got ++ more) m)
-  pub few : length p.tape.bytes ≤ TAPE_LIMIT → length got + unread_count p + n * TAPE_LIMIT ≤ most_read m
-  pub full : ℕ
-  pub came : CameBy full got
-  pub counted : reads_new + end_reads p.tape.ended ≡ reads_old + full + empty_reads p.tape.ended ending
+      Shows ending moved.written (going_on_from p (moved.got ++ more) m)
+  pub few : length p.tape.bytes ≤ TAPE_LIMIT → length moved.got + unread_count p + n * TAPE_LIMIT ≤ most_read m
+  pub counted : reads_new + end_reads p.tape.ended ≡ reads_old + moved.full + empty_reads p.tape.ended ending
   pub few_reads : length p.tape.bytes ≤ TAPE_LIMIT →
-      full + empty_reads p.tape.ended ending + unread_count p + n * TAPE_LIMIT ≤ m * TAPE_LIMIT + (TAPE_LIMIT + 1)
+      moved.full + empty_reads p.tape.ended ending + unread_count p + n * TAPE_LIMIT ≤ m * TAPE_LIMIT + (TAPE_LIMIT + 1)
 
 -- ---- one read
 

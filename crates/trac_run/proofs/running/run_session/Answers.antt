@@ -8,7 +8,7 @@ pub take_turn-requires-clause-fresh : goal.take_turn-requires-clause-fresh
 take_turn-requires-clause-fresh g c = c.loop-ending.invariant.fresh
 
 pub take_turn-requires-clause-at_end : goal.take_turn-requires-clause-at_end
-take_turn-requires-clause-at_end g c = c.loop-ending.invariant.at_end
+take_turn-requires-clause-at_end g c = c.loop-ending.invariant.on.at_end
 
 pub take_turn-requires-clause-fits : goal.take_turn-requires-clause-fits
 take_turn-requires-clause-fits g c = c.loop-ending.invariant.fits
