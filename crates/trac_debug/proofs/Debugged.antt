@@ -100,7 +100,7 @@ turn_sound number (b ∷ bs) =
 stop_sound : (turn : Turn) (p : PlainSession) (a b : Option (List ℕ)) (ending : Ending) → EndsSound turn → Stops turn p a b ending → fault_reads ending ≡ 0
 stop_sound Passes p a b ending sound stops = absurd stops
 stop_sound (Does command) p a b ending sound stops = ⊎_elim
-    (λ (none : (ending ≡ Memory) × (stops.written ≡ [])). ap fault_reads none.0)
+    (λ (none : (ending ≡ Memory) × (stops.front.written ≡ [])). ap fault_reads none.0)
     (λ (fault : ending ≡ Write). ap fault_reads fault)
     stops.fault
 stop_sound (Ends stop) p a b ending sound stops = ap fault_reads stops.0 ∙ sound
@@ -151,21 +151,23 @@ front_before written text rest front = front_of_front written text (text ++ rest
 
 stopped : (turn : Turn) (p : PlainSession) (a b : Option (List ℕ)) (ending : Ending) → Stops turn p a b ending → IsStopped turn p a b ending
 stopped Passes p a b ending stops = absurd stops
-stopped (Does command) p a b ending stops = record {
-  written = stops.written;
-  gave = stops.gave;
-  front = λ lines number.
-      let more = some_text lines number stops.new in
-      (stops.reply ++ more.0, more.1, (stops.reply, stops.new, more.0, stops.replies, refl, more.2), front_before stops.written stops.reply more.0 stops.front);
-  whole = λ lines number. ⊎_elim
-      (λ (none : (ending ≡ Memory) × (stops.written ≡ [])). unless_Memory ending (Takes (Does command) p (λ r rest. MayWrite lines number r rest ending) stops.written ending) none.0)
-      (λ (fault : ending ≡ Write). unless_Write ending (Takes (Does command) p (λ r rest. MayWrite lines number r rest ending) stops.written ending) fault)
-      stops.fault;
-  nothing = ⊎_elim
-      (λ (none : (ending ≡ Memory) × (stops.written ≡ [])). always_unless ending (stops.written ≡ []) none.1)
-      (λ (fault : ending ≡ Write). write_unless ending (stops.written ≡ []) fault)
-      stops.fault;
-}
+stopped (Does command) p a b ending stops =
+    let written = stops.front.written in
+    record {
+      written = written;
+      gave = stops.front.gave;
+      front = λ lines number.
+          let more = some_text lines number stops.new in
+          (stops.reply ++ more.0, more.1, (stops.reply, stops.new, more.0, stops.replies, refl, more.2), front_before written stops.reply more.0 stops.front.front);
+      whole = λ lines number. ⊎_elim
+          (λ (none : (ending ≡ Memory) × (written ≡ [])). unless_Memory ending (Takes (Does command) p (λ r rest. MayWrite lines number r rest ending) written ending) none.0)
+          (λ (fault : ending ≡ Write). unless_Write ending (Takes (Does command) p (λ r rest. MayWrite lines number r rest ending) written ending) fault)
+          stops.fault;
+      nothing = ⊎_elim
+          (λ (none : (ending ≡ Memory) × (written ≡ [])). always_unless ending (written ≡ []) none.1)
+          (λ (fault : ending ≡ Write). write_unless ending (written ≡ []) fault)
+          stops.fault;
+    }
 stopped (Ends stop) p a b ending stops = record {
   written = [];
   gave = Appends-none a b stops.1;
@@ -222,67 +224,54 @@ advances in_old in_new out_old out_new reads_old reads_new number old mid new p 
       counted = omega (arith, by.counted, ap end_reads ended);
     }
 
--- what is said of lines that are the same
-unless_same : (ending : Ending) (number : ℕ) (p : PlainSession) (written : List ℕ) (a b : List (List ℕ)) → a ≡ b →
-    UnlessFault ending (MayWrite a number p written ending) → UnlessFault ending (MayWrite b number p written ending)
-unless_same ending number p written a b e fact = subst (λ ls. UnlessFault ending (MayWrite ls number p written ending)) e fact
+-- the session ends so, with this written: what the bytes that are held say of that
+halts_by : {in_old in_new out_old out_new : Option (List ℕ)} (reads_old reads_new number : ℕ) (old mid : Pending) (p : PlainSession) (written : List ℕ) (ending : Ending) → fault_reads ending ≡ 0 →
+    GathersBy in_old in_new reads_old reads_new old mid → Appends out_old out_new written → UnlessWrite ending (written ≡ []) →
+    ((more : List ℕ) → (mid.ended ≡ true → more ≡ []) → (text : List ℕ) × (stop : Ending) × MayWrite (lines_of (mid.bytes ++ more)) number p text stop × IsFrontOf written text) →
+    ((more : List ℕ) → (mid.ended ≡ true → more ≡ []) → UnlessFault ending (MayWrite (lines_of (mid.bytes ++ more)) number p written ending)) →
+    Halts in_old in_new out_old out_new reads_old reads_new number old p ending
+halts_by {in_old} {in_new} {out_old} {out_new} reads_old reads_new number old mid p written ending sound by gave nothing front whole =
+    let read : Gathers in_old in_new old mid = by.gathers in
+    record {
+      got = read.got;
+      written = written;
+      saw_end = mid.ended;
+      took = read.took;
+      gave = gave;
+      closed = read.closed;
+      at_end = read.at_end;
+      front = λ more none.
+          let some = front more none in
+          (some.0, some.1, subst (λ text. MayWrite (lines_of text) number p some.0 some.1) (read_on old mid read.got more read.bytes) some.2, some.3);
+      whole = λ more none. subst (λ text. UnlessFault ending (MayWrite (lines_of text) number p written ending)) (read_on old mid read.got more read.bytes) (whole more none);
+      nothing = nothing;
+      held = λ old_held. let held_ = held_after in_old in_new old mid read in omega (arith, held_.0, held_.1 old_held);
+      full = by.full;
+      came = by.came;
+      counted = omega (arith, by.counted, empty_reads_sound mid.ended ending sound);
+    }
 
 -- the session ends in a line
 pub halts_in : (in_old in_new out_old out_new : Option (List ℕ)) (reads_old reads_new number : ℕ) (old mid : Pending) (p : PlainSession) (len whole : ℕ) (ending : Ending) →
     GathersBy in_old in_new reads_old reads_new old mid → IsFront mid.bytes mid.ended (Line len whole) → Stops (turn_at number (take len mid.bytes)) p out_old out_new ending →
     Halts in_old in_new out_old out_new reads_old reads_new number old p ending
 halts_in in_old in_new out_old out_new reads_old reads_new number old mid p len whole ending by front stops =
-    let read : Gathers in_old in_new old mid = by.gathers in
     let line : List ℕ = take len mid.bytes in
     let turn : IsStopped (turn_at number line) p out_old out_new ending = stopped (turn_at number line) p out_old out_new ending stops in
-    record {
-      got = read.got;
-      written = turn.written;
-      saw_end = mid.ended;
-      took = read.took;
-      gave = turn.gave;
-      closed = read.closed;
-      at_end = read.at_end;
-      front = λ more none.
-          let left : List (List ℕ) = lines_of (drop whole mid.bytes ++ more) in
-          let some = turn.front left (number + 1) in
-          let all : line ∷ left ≡ lines_of (old.bytes ++ (read.got ++ more)) = sym (front.2 more none) ∙ ap lines_of (read_on old mid read.got more read.bytes) in
-          (some.0, some.1, subst (λ ls. MayWrite ls number p some.0 some.1) all some.2, some.3);
-      whole = λ more none.
-          let left : List (List ℕ) = lines_of (drop whole mid.bytes ++ more) in
-          let all : line ∷ left ≡ lines_of (old.bytes ++ (read.got ++ more)) = sym (front.2 more none) ∙ ap lines_of (read_on old mid read.got more read.bytes) in
-          unless_same ending number p turn.written (line ∷ left) (lines_of (old.bytes ++ (read.got ++ more))) all (turn.whole left (number + 1));
-      nothing = turn.nothing;
-      held = λ old_held. let held_ = held_after in_old in_new old mid read in omega (arith, held_.0, held_.1 old_held);
-      full = by.full;
-      came = by.came;
-      counted = omega (arith, by.counted, empty_reads_sound mid.ended ending (stop_sound (turn_at number line) p out_old out_new ending (turn_sound number line) stops));
-    }
+    halts_by reads_old reads_new number old mid p turn.written ending (stop_sound (turn_at number line) p out_old out_new ending (turn_sound number line) stops) by turn.gave turn.nothing
+    (λ more none.
+    let some = turn.front (lines_of (drop whole mid.bytes ++ more)) (number + 1) in
+    (some.0, some.1, subst (λ ls. MayWrite ls number p some.0 some.1) (sym (front.2 more none)) some.2, some.3))
+    (λ more none. subst (λ ls. UnlessFault ending (MayWrite ls number p turn.written ending)) (sym (front.2 more none)) (turn.whole (lines_of (drop whole mid.bytes ++ more)) (number + 1)))
 
 -- the session ends before a line, and nothing is written: the lines, whatever more there are, say that it ends so
 pub halts_before : (in_old in_new output : Option (List ℕ)) (reads_old reads_new number : ℕ) (old mid : Pending) (p : PlainSession) (ending : Ending) → fault_reads ending ≡ 0 →
     GathersBy in_old in_new reads_old reads_new old mid →
     ((more : List ℕ) → (mid.ended ≡ true → more ≡ []) → MayWrite (lines_of (mid.bytes ++ more)) number p [] ending) → Halts in_old in_new output output reads_old reads_new number old p ending
 halts_before in_old in_new output reads_old reads_new number old mid p ending sound by says =
-    let read : Gathers in_old in_new old mid = by.gathers in
-    let all : (more : List ℕ) → (mid.ended ≡ true → more ≡ []) → MayWrite (lines_of (old.bytes ++ (read.got ++ more))) number p [] ending =
-    λ more none. subst (λ t. MayWrite (lines_of t) number p [] ending) (read_on old mid read.got more read.bytes) (says more none) in
-    record {
-      got = read.got;
-      written = [];
-      saw_end = mid.ended;
-      took = read.took;
-      gave = Appends-nothing output;
-      closed = read.closed;
-      at_end = read.at_end;
-      front = λ more none. ([], ending, all more none, front_of_nothing []);
-      whole = λ more none. unless_always ending (MayWrite (lines_of (old.bytes ++ (read.got ++ more))) number p [] ending) (all more none);
-      nothing = wrote_nothing ending [] refl;
-      held = λ old_held. let held_ = held_after in_old in_new old mid read in omega (arith, held_.0, held_.1 old_held);
-      full = by.full;
-      came = by.came;
-      counted = omega (arith, by.counted, empty_reads_sound mid.ended ending sound);
-    }
+    halts_by reads_old reads_new number old mid p [] ending sound by (Appends-nothing output) (wrote_nothing ending [] refl)
+    (λ more none. ([], ending, says more none, front_of_nothing []))
+    (λ more none. unless_always ending (MayWrite (lines_of (mid.bytes ++ more)) number p [] ending) (says more none))
 
 -- at the end of the lines
 pub halts_at_end : (number : ℕ) (mid : Pending) (p : PlainSession) → (mid.ended ≡ true) × (mid.bytes ≡ []) →
@@ -565,9 +554,7 @@ not_made command old output =
       reply = some.0;
       new = some.1;
       replies = some.2;
-      written = [];
-      front = front_of_nothing some.0;
-      gave = Appends-nothing output;
+      front = record { written = []; front = front_of_nothing some.0; gave = Appends-nothing output };
     }
 
 -- a reply could not be written
@@ -578,9 +565,7 @@ not_written command old new reply a b ending replies fault front = record {
   reply = reply;
   new = new;
   replies = replies;
-  written = front.written;
-  front = front.front;
-  gave = front.gave;
+  front = front;
 }
 
 -- a reply was written, and could not be flushed

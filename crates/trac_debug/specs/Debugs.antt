@@ -14,6 +14,7 @@ use Rattle.trac_debug.specs.Debugging.{Turn, Passes, Does, Ends, MayWrite, ready
 use Rattle.trac_streams.specs.declared.lines.TheConstants.{LINE_LIMIT, LINE_COUNT_LIMIT}
 use Rattle.trac_streams.specs.Pending.{Pending}
 use Rattle.trac_streams.specs.Reading.{HELD_LIMIT, CameBy, CountsReads, end_reads, empty_reads}
+use Rattle.trac_streams.specs.Written.{WritesFront}
 
 -- ---- a whole session
 
@@ -81,13 +82,11 @@ pub record IsReplied (command : LineCommand) (old new : PlainSession) (out_old o
 -- a reply could not be made, and nothing was written; or it could not be written: then a front of it was
 pub record IsNotReplied
     (command : LineCommand) (old : PlainSession) (out_old out_new : Option (List ℕ)) (ending : Ending) : Type 0 where
-  pub written : List ℕ
-  pub fault : ((ending ≡ Memory) × (written ≡ [])) ⊎ (ending ≡ Write)
-  pub gave : Appends out_old out_new written
   pub reply : List ℕ
   pub new : PlainSession
   pub replies : Replies command old reply new
-  pub front : IsFrontOf written reply
+  pub front : WritesFront out_old out_new reply
+  pub fault : ((ending ≡ Memory) × (front.written ≡ [])) ⊎ (ending ≡ Write)
 
 -- a turn is done with, and the session goes on
 abbrev pub Settles : Turn → PlainSession → PlainSession → Option (List ℕ) → Option (List ℕ) → Type 0
