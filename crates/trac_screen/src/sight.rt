@@ -48,33 +48,25 @@ fn sight_in<E: TwoEnds<u8, A>, M: TwoEnds<Mark, A>, A: Allocator + Copy>(
 /// How many arguments the begun function of this number has so far, its name among them, the outermost function being
 /// number 0.
 pub fn argument_count<A: Allocator + Copy>(machine: &Machine<A>, number: usize) -> usize {
-    count_in(machine, number)
-}
-
-// The same of a machine of any representation.
-fn count_in<E: TwoEnds<u8, A>, M: TwoEnds<Mark, A>, A: Allocator + Copy>(
-    machine: &Core<E, M, A>,
-    number: usize,
-) -> usize {
-    match machine.frame(number) {
-        Some((_, arguments)) => arguments.count(),
+    match arguments_in(machine, number) {
+        Some(arguments) => arguments.count(),
         None => 0,
     }
 }
 
 /// Whether the begun function of this number, the outermost being number 0, has an empty name.
 pub fn is_nameless<A: Allocator + Copy>(machine: &Machine<A>, number: usize) -> bool {
-    is_nameless_in(machine, number)
+    arguments_in(machine, number).is_some_and(|arguments| arguments.get(0).is_empty())
 }
 
-// The same of a machine of any representation.
-fn is_nameless_in<E: TwoEnds<u8, A>, M: TwoEnds<Mark, A>, A: Allocator + Copy>(
+// The arguments so far of the begun function of this number; none where none is begun.
+fn arguments_in<E: TwoEnds<u8, A>, M: TwoEnds<Mark, A>, A: Allocator + Copy>(
     machine: &Core<E, M, A>,
     number: usize,
-) -> bool {
+) -> Option<Args<'_>> {
     match machine.frame(number) {
-        Some((_, arguments)) => arguments.get(0).is_empty(),
-        None => false,
+        Some((_, arguments)) => Some(arguments),
+        None => None,
     }
 }
 
@@ -86,8 +78,8 @@ fn text_at<E: TwoEnds<u8, A>, M: TwoEnds<Mark, A>, A: Allocator + Copy>(
     if depth == 0 {
         return machine.base();
     }
-    match machine.frame(depth - 1) {
-        Some((_, arguments)) => last_of(&arguments),
+    match arguments_in(machine, depth - 1) {
+        Some(arguments) => last_of(&arguments),
         None => &[],
     }
 }
