@@ -19,8 +19,8 @@ use Rattle.trac_streams.specs.Reading.{CameBy, end_reads, empty_reads, fault_rea
 use Rattle.trac_streams.specs.Written.{WritesFront, Closes}
 use Rattle.trac_run.specs.Runs.{Shows, ending_of_feed, IsFresh, turns_left, unread_count, most_read, GoesOn, Finishes, EndsFor, TakesNone, TakesMore}
 use Rattle.trac_streams.proofs.Gathered.{came_by_none, came_by_one, empty_reads_open, end_reads_ended, end_reads_open, fault_reads_one, if_ended, if_open}
-use Rattle.trac_streams.proofs.Known.{Appends-both, Appends-kept, Consumes-nothing, front_of_front, front_of_itself, empty_front}
-use Rattle.trac_run.proofs.Turned.{closed_sound, finishes_here, front_pending, Shows-Write, ended_after_Commit, end_turns, few_of_none, few_reads_of_none, none_counted, unread_after_Commit, writer_sound}
+use Rattle.trac_streams.proofs.Known.{Appends-both, Appends-kept, front_of_itself, empty_front}
+use Rattle.trac_run.proofs.Turned.{closed_sound, finishes_here, front_pending, Shows-Write, ended_after_Commit, end_turns, unread_after_Commit, writer_sound}
 
 -- ---- one read
 
