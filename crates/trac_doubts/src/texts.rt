@@ -1,6 +1,7 @@
 //! Texts that `ss` does not find.
 ghost use Rattle.std.specs.Prelude.{◌≡◌, ◌++◌, ◌*◌, ◌<◌, ◌≤◌, ◌&&◌, not, ◌+◌, drop, length, nat_lt, option_copied};
-ghost use Rattle.std.specs.Prelude.{option_to_list, slice_get, sum, take, false, [], ◌∷◌, MatchOption, OnOk, IsOkUnless};
+ghost use Rattle.std.specs.Prelude.{option_to_list, slice_get, sum, take, false, [], ◌∷◌};
+ghost use Rattle.std.specs.Prelude.{MatchOption, OnOk, IsOkUnless};
 ghost use Rattle.std.specs.Option.{option_map_or};
 ghost use Rattle.trac_rules.specs.Doubts.{is_null, nowhere_doubts, nowhere_from, stands_in};
 ghost use Rattle.trac_rules.specs.Form.{all_items};

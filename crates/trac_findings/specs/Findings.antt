@@ -23,7 +23,8 @@ note_text place words = place ++ (codes ": note: " ++ (words ++ feed))
 
 -- the last line, where so many places more are not told
 abbrev pub more_text : ℕ → List ℕ
-more_text more = codes ".. and " ++ (decimal more ++ (codes " more place" ++ ((if nat_lt 1 more then codes "s" else []) ++ feed)))
+more_text more =
+    codes ".. and " ++ (decimal more ++ (codes " more place" ++ ((if nat_lt 1 more then codes "s" else []) ++ feed)))
 
 -- so many places are told by a text: no more than are, and none just where it is empty
 pub record IsReport (told : ℕ) (text : List ℕ) : Type 0 where

@@ -30,13 +30,16 @@ pub struct Spot<'a> {
 }
 
 impl<'a> Sources<'a> {
-    /// Where the byte of this number stands, the first being number 0, or where the next one would that the files have.
+    /// Where the byte of this number stands, the first being number 0, or, if the files end before it, where they end.
     /// It is in the second file only if that has a byte. Bytes past 33,554,432 count for none.
     pub fn spot(&self, number: u64) -> Spot<'a>
         ensures program { length self.now.tape.now ≤ TAPE_LIMIT → number < self.now.len →
             IsSpotIn self.now.name.now (take number self.now.tape.now) result }
-        ensures input { length self.now.tape.now ≤ TAPE_LIMIT → self.now.len ≤ number → number < length self.now.tape.now →
+        ensures input { length self.now.tape.now ≤ TAPE_LIMIT → self.now.len ≤ number →
+            self.now.len < length self.now.tape.now →
             IsSpotIn self.now.input_name.now (drop self.now.len (take number self.now.tape.now)) result }
+        ensures end { length self.now.tape.now ≤ TAPE_LIMIT → length self.now.tape.now ≤ self.now.len →
+            IsSpotIn self.now.name.now (take number self.now.tape.now) result }
     {
         let end = self.tape.len().min(TAPE_LIMIT);
         let start = end.min(self.len);

@@ -12,12 +12,12 @@ loop-place-preserved g c =
     let i = c.loop-place.place in
     let more : i < length text = omega arith in
     let deep : IsDeep text (i + 1) _ = elim c.if-byte-eq-OPENING.branch [
-        | then-byte-eq-OPENING+else-len-ge-DEPTH_LIMIT+in_ok-push w ↦ rw w.begun-is (deeper text i (vec_len c.loop-place.begun) _ c.loop-place.invariant.deep more w.if-byte-eq-OPENING.true (omega (arith, w.in_ok-push.ensures.len)))
-        | else-byte-eq-OPENING+else-byte-eq-CLOSING w ↦ rw w.begun-is (elim w.else-byte-eq-CLOSING.branch [
-          | else-byte-eq-CLOSING-via-then-byte-eq-CLOSING+else-is_none v ↦ rw v.begun-is (less_deep text i (vec_len c.loop-place.begun) _ c.loop-place.invariant.deep more v.if-byte-eq-CLOSING.true (omega (arith, v.pop.ensures.len, one_taken v.pop.result v.if-is_none.ensures)))
-          | else-byte-eq-CLOSING-via-else-byte-eq-CLOSING v ↦ rw v.begun-is (as_deep text i (vec_len c.loop-place.begun) c.loop-place.invariant.deep more w.if-byte-eq-OPENING.false v.if-byte-eq-CLOSING.false)
-        ])
-      ] in
+      | then-byte-eq-OPENING+else-len-ge-DEPTH_LIMIT+in_ok-push w ↦ rw w.begun-is (deeper text i (vec_len c.loop-place.begun) _ c.loop-place.invariant.deep more w.if-byte-eq-OPENING.true (omega (arith, w.in_ok-push.ensures.len)))
+      | else-byte-eq-OPENING+else-byte-eq-CLOSING w ↦ rw w.begun-is (elim w.else-byte-eq-CLOSING.branch [
+        | else-byte-eq-CLOSING-via-then-byte-eq-CLOSING+else-is_none v ↦ rw v.begun-is (less_deep text i (vec_len c.loop-place.begun) _ c.loop-place.invariant.deep more v.if-byte-eq-CLOSING.true (omega (arith, v.pop.ensures.len, one_taken v.pop.result v.if-is_none.ensures)))
+        | else-byte-eq-CLOSING-via-else-byte-eq-CLOSING v ↦ rw v.begun-is (as_deep text i (vec_len c.loop-place.begun) c.loop-place.invariant.deep more w.if-byte-eq-OPENING.false v.if-byte-eq-CLOSING.false)
+      ])
+    ] in
     record {
       deep = deep;
       fronts = fronts_further text i _ c.loop-place.invariant.fronts deep;
