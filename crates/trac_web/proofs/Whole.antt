@@ -15,6 +15,8 @@ use Rattle.trac_walk.specs.Ends.{MayEnd}
 use Rattle.trac_findings.specs.declared.report.TheConstants.{PLACE_LIMIT}
 use Rattle.trac_findings.specs.declared.report.Found.{Found}
 use Rattle.trac_findings.specs.Findings.{IsWritten}
+use Rattle.trac_web.specs.declared.outcome.Outcome.{Outcome}
+use Rattle.trac_web.specs.Replies.{Delivers, Gives}
 use Rattle.trac_web.specs.Requests.{WritesDoubts, WritesReplies, WritesRun, WritesTalk, search_ending}
 
 -- a run that read this text, of which a rest was left, and wrote all of that, where nothing was before
@@ -68,3 +70,7 @@ whole_doubts before all found none few w =
       halt = found.halt;
       ends = refl;
     }
+
+-- what was written is stated, and in the buffer
+pub gives_all : {Stated : List ℕ → Ending → Type 0} {text all old new : List ℕ} {ending : Ending} {written : ℕ} {outcome : Outcome} → text ≡ all → Stated all ending → Delivers text ending old new written outcome → Gives Stated old new written outcome
+gives_all {Stated = Stated} {text = text} {ending = ending} same stated delivered = record { text = text; ending = ending; stated = subst (λ t. Stated t ending) (sym same) stated; delivered = delivered }

@@ -1,5 +1,5 @@
 -- What each request writes, of whole texts.
-use Rattle.std.specs.Prelude.{◌≡◌, ◌≢◌, ◌↔◌, ℕ, ◌<◌, ◌≤◌, List, [], length}
+use Rattle.std.specs.Prelude.{◌≡◌, ◌≢◌, ◌↔◌, ℕ, ◌<◌, ◌≤◌, List, [], length, None, Some, Result, Ok, Err, IfOk}
 use Rattle.trac_rules.specs.declared.width.Width.{Width}
 use Rattle.trac_rules.specs.declared.limit.TheConstants.{JOURNAL_LIMIT, TAPE_LIMIT}
 use Rattle.trac_rules.specs.Fronts.{IsFrontOf}
@@ -8,6 +8,7 @@ use Rattle.trac_streams.specs.declared.ending.Ending.{Ending}
 use Rattle.trac_streams.specs.declared.ending.Ending.TheVariants.{Ended, Budget, Limit, Memory, Write}
 use Rattle.trac_streams.specs.declared.lines.TheConstants.{LINE_COUNT_LIMIT}
 use Rattle.trac_streams.specs.declared.options.TheConstants.{BUDGET_LIMIT}
+use Rattle.trac_streams.specs.Widths.{width_of}
 use Rattle.trac_run.specs.Runs.{Shows}
 use Rattle.trac_debug.specs.Debugging.{MayShow, RepliesToFirst}
 use Rattle.trac_debug.specs.Debugs.{UnlessFault, UnlessWrite}
@@ -15,6 +16,9 @@ use Rattle.trac_walk.specs.Ends.{MayEnd}
 use Rattle.trac_findings.specs.declared.report.TheConstants.{PLACE_LIMIT}
 use Rattle.trac_findings.specs.declared.report.Halt.{Halt}
 use Rattle.trac_findings.specs.declared.report.Halt.TheVariants as halts
+use Rattle.trac_web.specs.declared.outcome.Outcome.{Outcome}
+use Rattle.trac_web.specs.declared.outcome.Outcome.TheVariants.{WrongDecimals}
+use Rattle.trac_web.specs.Replies.{Refuses}
 
 -- ---- numbers that are taken
 
@@ -25,6 +29,21 @@ IsBudget budget = (1 ≤ budget) × (budget ≤ BUDGET_LIMIT)
 -- so many records a journal may be allowed
 abbrev pub IsJournal : ℕ → Type 0
 IsJournal journal = (1 ≤ journal) × (journal ≤ JOURNAL_LIMIT)
+
+-- a number and how many bits numbers have are judged so: the width, where the number is taken and there are numbers of
+-- so many bits, and else which of the two is wrong
+pub record IsJudged (Taken : Type 0) (wrong : Outcome) (decimals : ℕ) (judged : Result Width Outcome) : Type 0 where
+  pub within : IfOk judged (λ width. Taken)
+  pub taken : (width : Width) → Taken → width_of decimals ≡ Some width → judged ≡ Ok width
+  pub not_taken : (Taken → ⊥) → judged ≡ Err wrong
+  pub no_width : Taken → width_of decimals ≡ None → judged ≡ Err WrongDecimals
+
+-- a host that gave such numbers is told what is answered by the width, or which of the two is wrong
+pub record Tells (Taken : Type 0) (wrong : Outcome) (decimals : ℕ)
+    (AnswersBy : Width → List ℕ → List ℕ → ℕ → ℕ → Type 0) (old new : List ℕ) (written status : ℕ) : Type 0 where
+  pub not_taken : (Taken → ⊥) → Refuses wrong old new written status
+  pub no_width : Taken → width_of decimals ≡ None → Refuses WrongDecimals old new written status
+  pub answers : (width : Width) → Taken → width_of decimals ≡ Some width → AnswersBy width old new written status
 
 -- ---- texts that are written
 

@@ -1,22 +1,20 @@
 //! What a host calls: each over slices alone, with any numbers.
-ghost use Rattle.std.specs.Prelude.{◌≡◌, ◌≤◌, ◌<◌, None, Some};
+ghost use Rattle.std.specs.Prelude.{◌≤◌};
 ghost use Rattle.trac_findings.specs.declared.report.TheConstants.{PLACE_LIMIT};
-ghost use Rattle.trac_rules.specs.declared.width.Width.{Width};
-ghost use Rattle.trac_streams.specs.Widths.{width_of};
-ghost use Rattle.trac_web.specs.declared.outcome.Outcome.TheVariants.{WrongBudget, WrongDecimals, WrongJournal};
-ghost use Rattle.trac_web.specs.Replies.{Answers, Refuses};
-ghost use Rattle.trac_web.specs.Requests.{IsBudget, IsJournal, WritesDoubts, WritesReplies, WritesRun, WritesTalk};
+ghost use Rattle.trac_web.specs.declared.outcome.Outcome.TheVariants.{WrongBudget, WrongJournal};
+ghost use Rattle.trac_web.specs.Replies.{Answers};
+ghost use Rattle.trac_web.specs.Requests.{IsBudget, IsJournal, Tells, WritesDoubts, WritesReplies, WritesRun, WritesTalk};
 ghost use Rattle.trac_web.specs.Ways.{AnswersWay};
 
-use crate::debugging::debug_texts;
 use crate::doubting::doubts_text;
 use crate::judging::{width_for_run, width_for_walk};
+use crate::reply::{Reply, deliver};
 use crate::running::run_text;
-use crate::walking::walk_texts;
-use crate::ways::{Spot, way_over};
+use crate::ways::{Spot, way_text};
 use std::alloc::Global;
-use trac_streams::Options;
-use trac_walk::Settings;
+use trac_debug::debug;
+use trac_streams::{Ending, Options};
+use trac_walk::{Settings, walk};
 
 /// Runs a program with all of its input by so many steps at most, with numbers of 64 or 128 bits. What it prints
 /// goes into `output`, how many bytes that are into `written`, and how many steps were accepted into `steps`.
@@ -31,11 +29,8 @@ pub extern "C" fn trac_web_run(
     written: &mut usize,
     steps: &mut u64,
 ) -> u32
-    ensures budget { (IsBudget budget → ⊥) → Refuses WrongBudget output.old output.new written.new result }
-    ensures decimals { IsBudget budget → width_of decimals ≡ None →
-        Refuses WrongDecimals output.old output.new written.new result }
-    ensures answers { (width : Width) → IsBudget budget → width_of decimals ≡ Some width →
-        Answers (WritesRun width budget input.now) output.old output.new written.new result }
+    ensures told { Tells (IsBudget budget) WrongBudget decimals (λ width. Answers (WritesRun width budget input.now))
+        output.old output.new written.new result }
     ensures steps { steps.new ≤ budget }
 {
     *written = 0;
@@ -59,11 +54,9 @@ pub extern "C" fn trac_web_debug(
     output: &mut [u8],
     written: &mut usize,
 ) -> u32
-    ensures journal { (IsJournal journal → ⊥) → Refuses WrongJournal output.old output.new written.new result }
-    ensures decimals { IsJournal journal → width_of decimals ≡ None →
-        Refuses WrongDecimals output.old output.new written.new result }
-    ensures answers { (width : Width) → IsJournal journal → width_of decimals ≡ Some width →
-        Answers (WritesReplies tape.now journal width commands.now) output.old output.new written.new result }
+    ensures { Tells (IsJournal journal) WrongJournal decimals
+        (λ width. Answers (WritesReplies tape.now journal width commands.now))
+        output.old output.new written.new result }
 {
     *written = 0;
     match width_for_walk(journal, decimals) {
@@ -73,7 +66,10 @@ pub extern "C" fn trac_web_debug(
                 journal: journal as usize,
                 decimals,
             };
-            debug_texts(alloc, tape, commands, options, output, written).status()
+            let mut rest = commands;
+            let mut reply = Reply::new(alloc, output.len());
+            let ending = debug(alloc, tape, &mut rest, &mut reply, options);
+            deliver(reply.text(), ending, output, written).status()
         }
         Err(why) => why.status(),
     }
@@ -93,11 +89,8 @@ pub extern "C" fn trac_web_walk(
     output: &mut [u8],
     written: &mut usize,
 ) -> u32
-    ensures journal { (IsJournal journal → ⊥) → Refuses WrongJournal output.old output.new written.new result }
-    ensures decimals { IsJournal journal → width_of decimals ≡ None →
-        Refuses WrongDecimals output.old output.new written.new result }
-    ensures answers { (width : Width) → IsJournal journal → width_of decimals ≡ Some width →
-        Answers (WritesTalk program.now) output.old output.new written.new result }
+    ensures { Tells (IsJournal journal) WrongJournal decimals (λ width. Answers (WritesTalk program.now))
+        output.old output.new written.new result }
 {
     *written = 0;
     match width_for_walk(journal, decimals) {
@@ -108,7 +101,10 @@ pub extern "C" fn trac_web_walk(
                 decimals,
                 prompt: false,
             };
-            walk_texts(alloc, program, lines, settings, output, written).status()
+            let mut rest = lines;
+            let mut reply = Reply::new(alloc, output.len());
+            let ending = walk(alloc, program, &mut rest, &mut reply, settings);
+            deliver(reply.text(), ending, output, written).status()
         }
         Err(why) => why.status(),
     }
@@ -134,12 +130,9 @@ pub extern "C" fn trac_web_way(
     output: &mut [u8],
     written: &mut usize,
 ) -> u32
-    ensures journal { (IsJournal journal → ⊥) → Refuses WrongJournal output.old output.new written.new result }
-    ensures decimals { IsJournal journal → width_of decimals ≡ None →
-        Refuses WrongDecimals output.old output.new written.new result }
-    ensures answers { (width : Width) → IsJournal journal → width_of decimals ≡ Some width → AnswersWay tape.now journal
-        width step (record { kind = kind; first = first; second = second; third = third; name = name.now }) output.old
-        output.new written.new result }
+    ensures { Tells (IsJournal journal) WrongJournal decimals (λ width. AnswersWay tape.now journal width step
+        (record { kind = kind; first = first; second = second; third = third; name = name.now }))
+        output.old output.new written.new result }
 {
     *written = 0;
     let spot = Spot {
@@ -150,17 +143,10 @@ pub extern "C" fn trac_web_way(
         name,
     };
     match width_for_walk(journal, decimals) {
-        Ok(width) => way_over(
-            alloc,
-            tape,
-            step,
-            spot,
-            journal as usize,
-            width,
-            output,
-            written,
-        )
-        .status(),
+        Ok(width) => match way_text(alloc, tape, step, spot, journal as usize, width) {
+            Ok(text) => deliver(text.as_slice(), Ending::Ended, output, written).status(),
+            Err(why) => why.status(),
+        },
         Err(why) => why.status(),
     }
 }
@@ -178,11 +164,8 @@ pub extern "C" fn trac_web_doubts(
     written: &mut usize,
     places: &mut usize,
 ) -> u32
-    ensures budget { (IsBudget budget → ⊥) → Refuses WrongBudget output.old output.new written.new result }
-    ensures decimals { IsBudget budget → width_of decimals ≡ None →
-        Refuses WrongDecimals output.old output.new written.new result }
-    ensures answers { (width : Width) → IsBudget budget → width_of decimals ≡ Some width →
-        Answers (WritesDoubts places.new) output.old output.new written.new result }
+    ensures told { Tells (IsBudget budget) WrongBudget decimals (λ width. Answers (WritesDoubts places.new))
+        output.old output.new written.new result }
     ensures places { places.new ≤ PLACE_LIMIT }
 {
     *written = 0;

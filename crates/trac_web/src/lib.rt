@@ -1,7 +1,6 @@
 //! The processor and its debuggers for a host that is no process, as a page of a browser: over slices alone.
 #![tactic(auto)]
 
-mod debugging;
 mod doubting;
 mod exports;
 mod judging;
@@ -9,7 +8,6 @@ mod outcome;
 mod reply;
 mod rows;
 mod running;
-mod walking;
 mod ways;
 
 pub use exports::{trac_web_debug, trac_web_doubts, trac_web_run, trac_web_walk, trac_web_way};

@@ -4,11 +4,9 @@ ghost use Rattle.std.specs.Option.{option_map};
 ghost use Rattle.trac_debug.specs.Debugging.{ready};
 ghost use Rattle.trac_follow.specs.Places.{place_of};
 ghost use Rattle.trac_run.specs.Runs.{TakesSteps};
-ghost use Rattle.trac_web.specs.Ways.{GivesWay, IsReason, IsSaid, IsWay, WritesWay, end_field, place_in, read_field};
-ghost use Rattle.trac_web.specs.Ways.{spot_seen};
+ghost use Rattle.trac_web.specs.Ways.{IsReason, IsSaid, IsWay, WritesWay, end_field, place_in, read_field, spot_seen};
 
 use crate::outcome::Outcome;
-use crate::reply::deliver;
 use crate::rows::{Rows, word_into};
 use std::alloc::{AllocError, Allocator};
 use trac_follow::{End, Place, trace};
@@ -32,33 +30,9 @@ pub struct Spot<'a> {
     pub name: &'a [u8],
 }
 
-/// Goes to a step of a program with all of its input, follows what stands at a place there back, and puts the rows of
-/// its way into the buffer of the host.
-pub fn way_over<A: Allocator + Copy>(
-    alloc: A,
-    tape: &[u8],
-    step: u64,
-    spot: Spot<'_>,
-    journal: usize,
-    width: Width,
-    output: &mut [u8],
-    written: &mut usize,
-) -> Outcome
-    requires some_records { 1 ≤ journal }
-    requires most_records { journal ≤ JOURNAL_LIMIT }
-    ensures { GivesWay tape.now journal width step (spot_seen spot.entry) output.old output.new written.new result }
-{
-    match way_text(alloc, tape, step, spot, journal, width) {
-        Ok(text) => deliver(text.as_slice(), Ending::Ended, output, written),
-        Err(why) => {
-            *written = 0;
-            why
-        }
-    }
-}
-
-// The rows of a way. The error is why there are none.
-fn way_text<A: Allocator + Copy>(
+/// Goes to a step of a program with all of its input, and follows what stands at a place there back. Returns the rows of
+/// its way. The error is why there are none.
+pub fn way_text<A: Allocator + Copy>(
     alloc: A,
     tape: &[u8],
     step: u64,

@@ -1,22 +1,11 @@
-use Rattle.trac_web.specs.Requests.{WritesReplies}
-use Rattle.trac_web.proofs.Told.{answered_so, not_both, refused_so}
+use Rattle.trac_web.proofs.Told.{told_refused, told_taken}
+use Rattle.trac_web.proofs.Whole.{gives_all, whole_replies}
 use Rattle.trac_web.proofs.exports.trac_web_debug.Goals as goal
 
-pub returns-in-Ok-clause-journal : goal.returns-in-Ok-clause-journal
-returns-in-Ok-clause-journal c = λ wrong. absurd (not_both _ _ _ c.in-Ok.is (c.width_for_walk.ensures.journal wrong))
+pub returns-in-Ok : goal.returns-in-Ok
+returns-in-Ok c =
+    let written = whole_replies _ _ _ _ _ _ _ c.debug-ending.result c.new-reply.ensures c.debug-ending.ensures.debugs c.debug-ending.ensures.too_long in
+    told_taken c.width_for_walk.ensures c.in-Ok.is (record { outcome = c.deliver.result; gives = gives_all c.text.ensures written c.deliver.ensures; told = c.status.ensures })
 
-pub returns-in-Ok-clause-decimals : goal.returns-in-Ok-clause-decimals
-returns-in-Ok-clause-decimals c = λ right none. absurd (not_both _ _ _ c.in-Ok.is (c.width_for_walk.ensures.decimals right none))
-
-pub returns-in-Ok-clause-answers : goal.returns-in-Ok-clause-answers
-returns-in-Ok-clause-answers c = λ width right is.
-    answered_so _ (λ w. WritesReplies c.args.tape.now c.args.journal w c.args.commands.now) _ width _ _ _ _ c.debug_texts.result c.in-Ok.is (c.width_for_walk.ensures.taken width right is) c.debug_texts.ensures c.status.ensures
-
-pub returns-in-Err-clause-journal : goal.returns-in-Err-clause-journal
-returns-in-Err-clause-journal c = λ wrong. refused_so _ _ _ _ _ c.in-Err.is (c.width_for_walk.ensures.journal wrong) c.status-in-Err.ensures
-
-pub returns-in-Err-clause-decimals : goal.returns-in-Err-clause-decimals
-returns-in-Err-clause-decimals c = λ right none. refused_so _ _ _ _ _ c.in-Err.is (c.width_for_walk.ensures.decimals right none) c.status-in-Err.ensures
-
-pub returns-in-Err-clause-answers : goal.returns-in-Err-clause-answers
-returns-in-Err-clause-answers c = λ width right is. absurd (not_both _ _ _ (c.width_for_walk.ensures.taken width right is) c.in-Err.is)
+pub returns-in-Err : goal.returns-in-Err
+returns-in-Err c = told_refused c.width_for_walk.ensures c.in-Err.is c.status-in-Err.ensures

@@ -1,21 +1,15 @@
-use Rattle.trac_web.proofs.Told.{answered_way, not_both, refused_so}
+use Rattle.std.proofs.Common.{inl, inr, refl}
+use Rattle.trac_web.proofs.Told.{told_refused, told_taken}
+use Rattle.trac_web.proofs.Whole.{gives_all}
 use Rattle.trac_web.proofs.exports.trac_web_way.Goals as goal
 
-pub returns-in-Ok-clause-journal : goal.returns-in-Ok-clause-journal
-returns-in-Ok-clause-journal c = λ wrong. absurd (not_both _ _ _ c.in-Ok.is (c.width_for_walk.ensures.journal wrong))
+pub returns-in-Ok-way_text : goal.returns-in-Ok-way_text
+returns-in-Ok-way_text c =
+    told_taken c.width_for_walk.ensures c.in-Ok.is (record { outcome = c.deliver.result; gives = inl (gives_all c.as_slice.ensures.value (refl, c.in-Ok-way_text.ensures.way) c.deliver.ensures); told = c.status.ensures })
 
-pub returns-in-Ok-clause-decimals : goal.returns-in-Ok-clause-decimals
-returns-in-Ok-clause-decimals c = λ right none. absurd (not_both _ _ _ c.in-Ok.is (c.width_for_walk.ensures.decimals right none))
+pub returns-in-Err-way_text : goal.returns-in-Err-way_text
+returns-in-Err-way_text c =
+    told_taken c.width_for_walk.ensures c.in-Ok.is (record { outcome = c.in-Err-way_text.why; gives = inr (record { why = c.in-Err-way_text.ensures.none; none = refl; same = refl }); told = c.status-in-Err-way_text.ensures })
 
-pub returns-in-Ok-clause-answers : goal.returns-in-Ok-clause-answers
-returns-in-Ok-clause-answers c = λ width right is.
-    answered_way _ _ _ _ width _ _ _ _ _ _ c.way_over.result c.in-Ok.is (c.width_for_walk.ensures.taken width right is) c.way_over.ensures c.status.ensures
-
-pub returns-in-Err-clause-journal : goal.returns-in-Err-clause-journal
-returns-in-Err-clause-journal c = λ wrong. refused_so _ _ _ _ _ c.in-Err.is (c.width_for_walk.ensures.journal wrong) c.status-in-Err.ensures
-
-pub returns-in-Err-clause-decimals : goal.returns-in-Err-clause-decimals
-returns-in-Err-clause-decimals c = λ right none. refused_so _ _ _ _ _ c.in-Err.is (c.width_for_walk.ensures.decimals right none) c.status-in-Err.ensures
-
-pub returns-in-Err-clause-answers : goal.returns-in-Err-clause-answers
-returns-in-Err-clause-answers c = λ width right is. absurd (not_both _ _ _ (c.width_for_walk.ensures.taken width right is) c.in-Err.is)
+pub returns-in-Err : goal.returns-in-Err
+returns-in-Err c = told_refused c.width_for_walk.ensures c.in-Err.is c.status-in-Err.ensures

@@ -1,9 +1,9 @@
-use Rattle.std.proofs.Common.{refl, sym, ap, subst}
-use Rattle.trac_rules.specs.Session.{PlainSession, new_session}
+use Rattle.std.proofs.Common.{refl, ap, subst}
+use Rattle.trac_rules.specs.Session.{PlainSession}
 use Rattle.trac_run.specs.Runs.{TakesSteps}
 use Rattle.trac_run.proofs.Stepped.{steps_none}
 use Rattle.trac_web.specs.Requests.{WritesRun}
-use Rattle.trac_web.proofs.Whole.{whole_run}
+use Rattle.trac_web.proofs.Whole.{gives_all, whole_run}
 use Rattle.trac_web.proofs.running.run_text.Goals as goal
 
 pub returns-in_default-clause-counted : goal.returns-in_default-clause-counted
@@ -14,12 +14,7 @@ returns-clause-gives g c =
     let report = c.run_session-report.result in
     let written = whole_run _ _ _ _ _ _ _ report.ending c.new-reply.ensures c.run_session-report.ensures.runs.runs in
     let of_width = subst (λ width. WritesRun width c.args.budget c.args.input.now c.run_session-report.new.output.text.items report.ending) (ap (λ (p : PlainSession). p.width) c.in-Ok.ensures.made) written in
-    record {
-      text = c.text.result.now;
-      ending = report.ending;
-      stated = subst (λ text. WritesRun c.args.width c.args.budget c.args.input.now text report.ending) (sym c.text.ensures) of_width;
-      delivered = c.deliver-2.ensures;
-    }
+    gives_all c.text.ensures of_width c.deliver-2.ensures
 
 pub returns-clause-counted : goal.returns-clause-counted
 returns-clause-counted g c =
