@@ -1,5 +1,5 @@
 -- The allocator that refuses, as `allocate` and `deallocate` are lent it, and the layout that they are given.
-use Rattle.trac_faults.proofs.Steps.{◌≡◌, ℕ, ◌+◌, [], ◌∷◌, Bor, Ty, Args, a_type, dnil, dcons, size, align, capped, up, Logic, Ura, usize, RefOf, yes, bounded, param, Slot, plain, Goes-dropped}
+use Rattle.trac_faults.proofs.Steps.{◌≡◌, ℕ, ◌+◌, [], ◌∷◌, Bor, Ty, Args, a_type, dnil, dcons, size, align, capped, up, RefOf, bounded, param, Slot, plain}
 use Rattle.std.proofs.alloc.Calls.{Al, α}
 use Rattle.trac_faults.specs.contracts.memory.Refusing as refusing
 

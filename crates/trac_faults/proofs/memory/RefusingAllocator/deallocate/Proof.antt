@@ -1,7 +1,7 @@
 -- `deallocate` hands the block to the backing, which gave it out. No count changes.
-use Rattle.trac_faults.proofs.Steps.{◌≡◌, ℕ, ◌+◌, ◌^◌, ◌<◌, List, [], ◌∷◌, refl, sym, subst, w64, Bor, Ura, Ty, Args, Fn, a_type, ty_unit, dnil, dcons, Val, vunit, vint, vptr, T, has_ty, WT, inst_fn, SProp, ent, id⊢, never_e, Lft, Share, ftrue, ffalse, fsep, froom, flft, Memory, size, align, capped, up, Routine, WpFn, Tables, Logic, Item, ‵, raw, ◌⊛◌, later, given, ◌$◌, ◌∵◌, !, qed, by, move, keep, use1, split, split3, join, learn, fsplit, fjoin, feq_i, suffices, await, at_ret, done, stop, fld, addr, no_more, and_then, of_opd, unit_lit, first, blocks, exec, returns, enter, alloc_all, pass_all, free_all, look_at, get, through, sets, lands_last, env, ◌⊑◌, ⊑_trans, Fun, fact, tables, tables_of, fm_of, WpFn-mono, usize, RawPtr, RefOf, yes, unhide, bounded, param, uint_vals, uint_Tells, owns, Ptr, block_ptr, null_ptr, ptr_val, rawptr_vals, rawptr_Tells, shr_vals, Slot, plain, types_at, heard, nothing, calls_at_last, Ended, Clauses, triple_of, Triple, entered, Stays, stay_dropped, walk_of, ends_at, walked, Goes-dropped, walk_Meets, after}
+use Rattle.trac_faults.proofs.Steps.{◌≡◌, ℕ, ◌^◌, ◌<◌, List, [], ◌∷◌, refl, sym, subst, w64, Bor, Ura, Ty, Fn, ty_unit, Val, vunit, vint, vptr, T, has_ty, WT, inst_fn, SProp, ent, id⊢, never_e, Lft, Share, ftrue, ffalse, fsep, froom, flft, Memory, Routine, WpFn, Tables, Logic, Item, ‵, raw, ◌⊛◌, later, given, ◌$◌, ◌∵◌, !, qed, by, move, keep, use1, split, split3, join, learn, fsplit, fjoin, feq_i, suffices, await, at_ret, done, stop, fld, addr, no_more, and_then, of_opd, unit_lit, first, blocks, exec, returns, enter, alloc_all, pass_all, free_all, look_at, get, through, sets, lands_last, env, ◌⊑◌, ⊑_trans, Fun, fact, tables, tables_of, fm_of, WpFn-mono, usize, RawPtr, yes, unhide, uint_vals, uint_Tells, owns, Ptr, block_ptr, null_ptr, ptr_val, rawptr_vals, rawptr_Tells, shr_vals, plain, types_at, heard, nothing, calls_at_last, Ended, Clauses, triple_of, Triple, entered, Stays, stay_dropped, walk_of, ends_at, walked, Goes-dropped, walk_Meets, after}
 use Rattle.trac_faults.proofs.Lent.{args, self, backing_in, Laid}
-use Rattle.std.proofs.alloc.Calls.{Al, α, token, seen, gives_key, Gives, at_gives, Gives-goes, Gives-Gives}
+use Rattle.std.proofs.alloc.Calls.{Al, token, seen, gives_key, Gives, at_gives, Gives-goes, Gives-Gives}
 use Rattle.trac_faults.specs.contracts.memory.Refusing as refusing
 use Rattle.trac_faults.specs.contracts.memory.RefusingAllocator.deallocate as this
 use Rattle.trac_faults.specs.contracts.memory.RefusingAllocator.deallocate.Key as key
