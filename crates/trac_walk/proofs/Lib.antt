@@ -1,4 +1,5 @@
 pub mod Ended
 pub mod SaidOfWays
 pub mod Searched
+pub mod SearchedOn
 pub mod SteppedBack

@@ -1,5 +1,5 @@
 -- Searches forward that stay where they began unless they meet something.
-use Rattle.std.specs.Prelude.{◌≡◌, ◌⊎◌, ℕ, ◌+◌, ◌<◌, min, Option, None, Some}
+use Rattle.std.specs.Prelude.{◌≡◌, ◌⊎◌, ℕ, ◌+◌, ◌<◌, min, Bool, true, false, Option, None, Some}
 use Rattle.trac_rules.specs.declared.refusal.Refusal.{Refusal}
 use Rattle.trac_rules.specs.declared.refusal.Refusal.TheVariants.{JournalFull, NotMet, TooLong}
 use Rattle.trac_rules.specs.Session.{PlainSession, Goal}
@@ -36,10 +36,21 @@ IsReason steps most (Some NotMet) why = (steps < most → why ≡ Some JournalFu
 IsReason steps most (Some TooLong) why = (why ≡ Some TooLong) ⊎ (why ≡ Some JournalFull)
 IsReason steps most said why = why ≡ said
 
--- a search that stops where the records weigh more than `weight`, and why it ended
-abbrev pub HasWalked : ℕ → Goal → ℕ → PlainSession → ℕ → Option Refusal → PlainSession → Type 0
-HasWalked weight goal most old steps why new =
-    (said : Option Refusal) × IsSearchWithin weight goal most old steps said new × IsReason steps most said why
+-- whether a search ended so that met nothing, and of which no step was refused
+abbrev pub is_unmet : Option Refusal → Bool
+is_unmet (Some NotMet) = true
+is_unmet why = false
+
+-- a search of at most `most` steps, which stops where the records weigh more than `weight` and takes at most `room` of
+-- these steps, and why it ended
+abbrev pub HasWalked : ℕ → Goal → ℕ → ℕ → PlainSession → ℕ → Option Refusal → PlainSession → Type 0
+HasWalked weight goal room most old steps why new =
+    (said : Option Refusal) × IsSearchWithin weight goal room old steps said new × IsReason steps most said why
+
+-- what a search found that ended so
+abbrev pub found_by : ℕ → Option Refusal → Search
+found_by steps None = Met
+found_by steps (Some refusal) = Unmet refusal steps
 
 -- what is answered of it, with where it came to: it stays there if it met its goal; that it lacked room is no
 -- answer, and then nothing is said here
@@ -49,6 +60,6 @@ IsAnswered steps (Some JournalFull) there found new = Unit {0}
 IsAnswered steps (Some refusal) there found new = found ≡ Unmet refusal steps
 
 -- so a search ends for which there is room
-abbrev pub IsAsNear : ℕ → Goal → ℕ → PlainSession → Search → PlainSession → Type 0
-IsAsNear weight goal most old found new = (steps : ℕ) × (why : Option Refusal) × (there : PlainSession)
-    × HasWalked weight goal most old steps why there × IsAnswered steps why there found new
+abbrev pub IsAsNear : ℕ → Goal → ℕ → ℕ → PlainSession → Search → PlainSession → Type 0
+IsAsNear weight goal room most old found new = (steps : ℕ) × (why : Option Refusal) × (there : PlainSession)
+    × HasWalked weight goal room most old steps why there × IsAnswered steps why there found new

@@ -1,9 +1,11 @@
 //! Searches forward that stay where they began unless they meet something.
-ghost use Rattle.std.specs.Prelude.{◌≡◌, ◌≤◌, None, Some, true};
+ghost use Rattle.std.specs.Prelude.{◌≡◌, ◌-◌, ◌<◌, ◌≤◌, None, Some, min, true};
+ghost use Rattle.trac_rules.specs.declared.refusal.Refusal.TheVariants.{NotMet};
 ghost use Rattle.trac_rules.specs.Session.{Step, repeated};
 ghost use Rattle.trac_rules.specs.Weights.{weights_from};
 ghost use Rattle.trac_walk.specs.Aims.{goal_of_aim};
-ghost use Rattle.trac_walk.specs.Searches.{HasStayed, HasWalked, IsAsNear, IsReason, near_weight};
+ghost use Rattle.trac_session.specs.Within.{IsSearchWithin};
+ghost use Rattle.trac_walk.specs.Searches.{HasStayed, IsAsNear, IsReason, found_by, is_unmet, near_weight};
 
 use crate::aim::{Aim, goal_for};
 use crate::walker::Walker;
@@ -12,9 +14,64 @@ use std::mem;
 use trac_screen::lacks_output_room;
 use trac_session::{Refusal, Session, Walk};
 
-// So much may be added to the weight of the records before the program is run anew: what they take is new memory, and
-// soon costs more than that run.
+// A search over more steps than are kept may add so much to the weight of the records before the program is run anew:
+// what they take is new memory, and soon costs more than that run.
 const NEAR_WEIGHT: u64 = 32_768;
+
+// How far a search goes before the program is run anew.
+#[derive(Clone, Copy)]
+struct Room {
+    // how many steps are kept
+    steps: u64,
+    // how much the records may weigh over so many
+    weight: u64,
+    // how much they may weigh over more
+    light: u64,
+    ghost lighter: { light ≤ weight },
+}
+
+// A part of a search: so many steps at most, while the records weigh no more than this.
+#[derive(Clone, Copy)]
+struct Leg {
+    most: u64,
+    weight: u64,
+}
+
+impl Room {
+    // Where a search by so many steps at most begins: while the records weigh little there is no difference between
+    // the steps that are kept and others.
+    fn first_leg(self, most: u64) -> Leg
+        ensures most { result.most ≡ min most self.steps }
+        ensures weight { result.weight ≡ self.light }
+    {
+        Leg {
+            most: most.min(self.steps),
+            weight: self.light,
+        }
+    }
+
+    // How it goes on after so many steps: over those that are left of the steps that are kept, whose records may weigh
+    // more, or else over all that are left.
+    fn second_leg(self, done: u64, most: u64) -> Leg
+        requires { done ≤ most }
+        ensures kept { done < min most self.steps →
+            (result.most ≡ min most self.steps - done) × (result.weight ≡ self.weight) }
+        ensures others { min most self.steps ≤ done → (result.most ≡ most - done) × (result.weight ≡ self.light) }
+    {
+        let kept = most.min(self.steps);
+        if done < kept {
+            Leg {
+                most: kept - done,
+                weight: self.weight,
+            }
+        } else {
+            Leg {
+                most: most - done,
+                weight: self.light,
+            }
+        }
+    }
+}
 
 /// How a search forward ended.
 #[derive(Clone, Copy)]
@@ -28,24 +85,41 @@ pub enum Search {
 
 impl<A: Allocator + Copy> Walker<A> {
     /// Goes forward to a goal, by so many steps at most. Where it is not met, or a step is refused before, also for
-    /// memory, all that is kept is as it was. To go further than 1,048,576 steps from the first one that is kept, or
-    /// over steps whose records weigh more than 32,768, the walker runs the program anew from its start, beside it.
+    /// memory, all that is kept is as it was. The walker runs the program anew from its start, beside it, to go further
+    /// than 1,048,576 steps from the first one that is kept, or over records that weigh more than it may keep. It does
+    /// so too after as many steps as it keeps, if the records weigh 32,768 more than at first.
     pub fn search(&mut self, aim: Aim<'_>, most: u64) -> Search
         ensures stayed { HasStayed result self.old.window self.new.window }
         ensures met { result ≡ Search.Met → goal_of_aim aim.entry self.new.window.session.last ≡ true }
         ensures near { weights_from self.old.window.session.earlier ≤ self.old.weight → IsAsNear
-            (near_weight self.old.weight self.old.window.session) (goal_of_aim aim.entry) most
+            (near_weight self.old.weight self.old.window.session) (goal_of_aim aim.entry) most most
+            self.old.window.session result self.new.window.session }
+        ensures kept { weights_from self.old.window.session.earlier ≤ self.old.weight → IsAsNear
+            self.old.weight (goal_of_aim aim.entry) (min most self.old.limit) most
             self.old.window.session result self.new.window.session }
     {
-        let weight = self.near_weight();
-        match search_near(&mut self.window.session, aim, most, weight) {
+        let room = self.search_room();
+        match search_near(&mut self.window.session, aim, most, room) {
             Search::Met => Search::Met,
             Search::Unmet(Refusal::JournalFull, done) => self.search_far(aim, done, most),
             Search::Unmet(refusal, done) => Search::Unmet(refusal, done),
         }
     }
 
-    // How much the records may weigh before the program is run anew.
+    // How far a search goes before the program is run anew.
+    fn search_room(&self) -> Room
+        ensures steps { result.steps ≡ self.now.limit }
+        ensures weight { result.weight ≡ self.now.weight }
+        ensures light { result.light ≡ near_weight self.now.weight self.now.window.session }
+    {
+        Room {
+            steps: self.limit() as u64,
+            weight: self.weight(),
+            light: self.near_weight(),
+        }
+    }
+
+    // How much the records may weigh over more steps than are kept.
     fn near_weight(&self) -> u64
         ensures { result ≡ near_weight self.now.weight self.now.window.session }
     {
@@ -97,14 +171,16 @@ fn search_near<A: Allocator + Copy>(
     session: &mut Session<A>,
     aim: Aim<'_>,
     most: u64,
-    weight: u64,
+    room: Room,
 ) -> Search
     ensures stayed { HasStayed result session.old session.new }
     ensures met { result ≡ Search.Met → goal_of_aim aim.entry session.new.last ≡ true }
-    ensures near { weights_from session.old.earlier ≤ weight →
-        IsAsNear weight (goal_of_aim aim.entry) most session.old result session.new }
+    ensures near { weights_from session.old.earlier ≤ room.light →
+        IsAsNear room.light (goal_of_aim aim.entry) most most session.old result session.new }
+    ensures kept { weights_from session.old.earlier ≤ room.light →
+        IsAsNear room.weight (goal_of_aim aim.entry) (min most room.steps) most session.old result session.new }
 {
-    let walk = walk_near(session, aim, most, weight);
+    let walk = walk_near(session, aim, most, room);
     let Some(refusal) = walk.why else {
         return Search::Met;
     };
@@ -117,33 +193,70 @@ fn walk_near<A: Allocator + Copy>(
     session: &mut Session<A>,
     aim: Aim<'_>,
     most: u64,
-    weight: u64,
+    room: Room,
 ) -> Walk
     ensures walked { repeated Step result.done session.old ≡ Some session.new }
     ensures met { result.why ≡ None → goal_of_aim aim.entry session.new.last ≡ true }
-    ensures near { weights_from session.old.earlier ≤ weight →
-        HasWalked weight (goal_of_aim aim.entry) most session.old result.done result.why session.new }
+    ensures near { weights_from session.old.earlier ≤ room.light → IsAsNear room.light
+        (goal_of_aim aim.entry) most most session.old (found_by result.done result.why) session.new }
+    ensures kept { weights_from session.old.earlier ≤ room.light → IsAsNear room.weight
+        (goal_of_aim aim.entry) (min most room.steps) most session.old (found_by result.done result.why) session.new }
 {
-    if session.weight() > weight {
+    let first = walk_leg(session, aim, room.first_leg(most));
+    if has_met_nothing(first) {
+        let leg = room.second_leg(first.done, most);
+        let second = walk_leg(session, aim, leg);
+        let done = first.done + second.done;
+        Walk {
+            done,
+            why: full_for(session, done, second.why, most),
+        }
+    } else {
+        Walk {
+            done: first.done,
+            why: full_for(session, first.done, first.why, most),
+        }
+    }
+}
+
+// Whether a walk towards a goal met nothing, and no step of it was refused.
+fn has_met_nothing(walk: Walk) -> bool
+    ensures { result ≡ is_unmet walk.why }
+{
+    matches!(walk.why, Some(Refusal::NotMet))
+}
+
+// Goes forward to a goal over one leg: `NotMet` where it meets nothing there.
+fn walk_leg<A: Allocator + Copy>(session: &mut Session<A>, aim: Aim<'_>, leg: Leg) -> Walk
+    ensures within { result.done ≤ leg.most }
+    ensures walked { repeated Step result.done session.old ≡ Some session.new }
+    ensures met { result.why ≡ None → goal_of_aim aim.entry session.new.last ≡ true }
+    ensures light { weights_from session.old.earlier ≤ leg.weight → IsSearchWithin leg.weight
+        (goal_of_aim aim.entry) leg.most session.old result.done result.why session.new }
+    ensures heavy { leg.weight < weights_from session.old.earlier →
+        (result.done ≡ 0) × (result.why ≡ Some NotMet) × (session.new ≡ session.old) }
+{
+    if session.weight() > leg.weight {
         return Walk {
             done: 0,
-            why: Some(Refusal::JournalFull),
+            why: Some(Refusal::NotMet),
         };
     }
-    let walk = session.forward_to_within(goal_for(aim), most, weight);
-    Walk {
-        done: walk.done,
-        why: full_for(session, walk, most),
-    }
+    session.forward_to_within(goal_for(aim), leg.most, leg.weight)
 }
 
 // Why a walk towards a goal ended. Where its records weigh too much before so many steps, or what is printed next has
 // no room beside what is kept, there is no room for the next step.
-fn full_for<A: Allocator + Copy>(session: &Session<A>, walk: Walk, most: u64) -> Option<Refusal>
-    ensures { IsReason walk.done most walk.why result }
+fn full_for<A: Allocator + Copy>(
+    session: &Session<A>,
+    done: u64,
+    why: Option<Refusal>,
+    most: u64,
+) -> Option<Refusal>
+    ensures { IsReason done most why result }
 {
-    match walk.why {
-        Some(Refusal::NotMet) if walk.done < most => Some(Refusal::JournalFull),
+    match why {
+        Some(Refusal::NotMet) if done < most => Some(Refusal::JournalFull),
         Some(Refusal::TooLong) if session.len() > 0 && lacks_output_room(session.machine()) => {
             Some(Refusal::JournalFull)
         }

@@ -84,6 +84,13 @@ impl<A: Allocator + Copy> Walker<A> {
         Ok(window)
     }
 
+    /// How many steps are kept.
+    pub(crate) fn limit(&self) -> usize
+        ensures { result ≡ self.now.limit }
+    {
+        self.limit
+    }
+
     /// How much the records may weigh.
     pub(crate) fn weight(&self) -> u64
         ensures { result ≡ self.now.weight }

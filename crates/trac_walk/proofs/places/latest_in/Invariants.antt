@@ -1,4 +1,4 @@
-use Rattle.std.proofs.Common.{ℕ, ◌-◌, length}
+use Rattle.std.proofs.Common.{◌-◌, length}
 use Rattle.trac_walk.specs.Places.{ArePassed}
 use Rattle.trac_walk.proofs.places.latest_in.Given as goal
 
