@@ -6,19 +6,33 @@ use Rattle.trac_rules.specs.Outcomes.{MayRefuse}
 use Rattle.trac_rules.specs.Records as rules
 use Rattle.trac_rules.specs.State.{Environment, State}
 use Rattle.trac_rules.specs.Stepping.{step}
-use Rattle.trac_journal.specs.Told.{record_with, said_by}
 use Rattle.trac_text.specs.Pieces.{all_texts, frames_in}
 use Rattle.trac_change.specs.Undone.{undone_in}
 use Rattle.trac_step.specs.declared.record.Record.{Record}
-use Rattle.trac_step.specs.declared.record.Record.TheVariants.{Short, Idle, Call}
+use Rattle.trac_step.specs.declared.record.Record.TheVariants.{Moved, Comma, Begun, Quoted, Deleted, Idle, Call}
 use Rattle.trac_step.specs.Layout.{Shown}
 use Rattle.trac_step.specs.Room.{IsNoLess, LacksRoomAhead}
 
 -- a record of the machine, read as one of the rules
 abbrev pub recorded_by : {A : Type 0} → Record A → rules.Record
-recorded_by (Short short) = said_by short
+recorded_by Moved = rules.Moved
+recorded_by Comma = rules.Comma
+recorded_by Begun = rules.Begun
+recorded_by (Quoted inner closed) = rules.Quoted inner closed
+recorded_by (Deleted b) = rules.Deleted b
 recorded_by (Idle base frames) = rules.Idle base.items (frames_in frames.items)
-recorded_by (Call called arguments undone) = rules.Called (record_with called (all_texts arguments) (undone_in undone))
+recorded_by (Call kind arguments value scanned printed read meta trace change) =
+    rules.Called (record {
+      kind = kind;
+      arguments = all_texts arguments;
+      value = value;
+      scanned = scanned;
+      printed = printed;
+      read = read;
+      meta = meta;
+      trace = trace;
+      undone = undone_in change;
+    })
 
 -- the state before, from the record of a step and the state after it
 abbrev pub before : {A : Type 0} → Record A → State → Option State

@@ -241,11 +241,7 @@ impl<E: TwoEnds<u8, A>, M: TwoEnds<Mark, A>, A: Allocator + Copy> Core<E, M, A> 
         self.make_room(made)?;
         let undone = self.change_storage(plan.beginning, change)?;
         self.end_call(plan, made);
-        Ok(Record::Call {
-            called: plan.called,
-            arguments,
-            undone,
-        })
+        Ok(Record::of_call(plan.called, arguments, undone))
     }
 
     // A `)`: the innermost function is performed, or the `)` is deleted where none is begun.

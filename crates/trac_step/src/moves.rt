@@ -90,7 +90,7 @@ impl<E: TwoEnds<u8, A>, M: TwoEnds<Mark, A>, A: Allocator + Copy> Core<E, M, A> 
             }
             _ => {
                 let short = self.move_briefly(front)?;
-                Ok(Record::Short(short))
+                Ok(Record::of_short(short))
             }
         }
     }

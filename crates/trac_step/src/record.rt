@@ -1,6 +1,10 @@
 //! What a step leaves for the way back, and going back.
 ghost use Rattle.std.specs.Prelude.{◌≡◌, ◌<◌, ◌^◌, IsSomeAnd, Some};
+ghost use Rattle.trac_rules.specs.Records as rules;
 ghost use Rattle.trac_rules.specs.Weights.{weight};
+ghost use Rattle.trac_text.specs.Pieces.{all_texts};
+ghost use Rattle.trac_journal.specs.Told.{record_with, said_by};
+ghost use Rattle.trac_change.specs.Undone.{undone_in};
 ghost use Rattle.trac_step.specs.Record.{before, recorded_by};
 ghost use Rattle.trac_step.specs.Room.{HasRoom, IsNoLess};
 
@@ -15,8 +19,21 @@ use trac_text::{Kind, Mark, Pieces};
 /// went.
 #[derive(Drop)]
 pub enum Record<A: Allocator + Copy = Global> {
-    /// No function was performed, and the texts were not emptied.
-    Short(Short),
+    /// A byte went to the current text.
+    Moved,
+    /// An argument was finished, and an empty one begun.
+    Comma,
+    /// A function was begun.
+    Begun,
+    /// A protected text went to the current text.
+    Quoted {
+        /// How many bytes it has.
+        inner: usize,
+        /// Whether a match of its `(` was deleted.
+        closed: bool,
+    },
+    /// This byte was deleted.
+    Deleted(u8),
     /// All text was emptied, and the idle program loaded.
     Idle {
         /// The text outside all begun functions.
@@ -27,16 +44,59 @@ pub enum Record<A: Allocator + Copy = Global> {
     },
     /// A function was performed.
     Call {
-        /// What is said beside the other two.
-        called: Called,
+        /// Its kind.
+        kind: Kind,
         /// All its arguments, its name being the first.
         arguments: Pieces<A>,
+        /// How many bytes its value has.
+        value: usize,
+        /// Whether the value went before the active text, to be scanned, and not to the current text.
+        scanned: bool,
+        /// How many bytes were printed.
+        printed: usize,
+        /// How many bytes of the tape were read.
+        read: usize,
+        /// The meta character before, where the call set one.
+        meta: Option<u8>,
+        /// Whether each call was printed before.
+        trace: bool,
         /// What was destroyed of forms and blocks.
-        undone: Undone<A>,
+        change: Undone<A>,
     },
 }
 
 impl<A: Allocator + Copy> Record<A> {
+    // A short record among those of all steps.
+    pub(crate) fn of_short(short: Short) -> Self
+        ensures { recorded_by result ≡ said_by short }
+    {
+        match short {
+            Short::Moved => Record::Moved,
+            Short::Comma => Record::Comma,
+            Short::Begun => Record::Begun,
+            Short::Quoted { inner, closed } => Record::Quoted { inner, closed },
+            Short::Deleted(byte) => Record::Deleted(byte),
+        }
+    }
+
+    // The record of a call, from what it says beside its arguments, these, and what the call
+    // destroyed of forms and blocks.
+    pub(crate) fn of_call(called: Called, arguments: Pieces<A>, undone: Undone<A>) -> Self
+        ensures { recorded_by result ≡ rules.Called (record_with called (all_texts arguments) (undone_in undone)) }
+    {
+        Record::Call {
+            kind: called.kind,
+            arguments,
+            value: called.value,
+            scanned: called.scanned,
+            printed: called.printed,
+            read: called.read,
+            meta: called.meta,
+            trace: called.trace,
+            change: undone,
+        }
+    }
+
     /// What the record keeps: bytes of texts and names, items of forms, and one for each gap that was made, `,`, begun
     /// function, name and meta character. Lengths, old pointers, numbers of blocks and flags are not weighed. The sum
     /// has to fit a `usize`, as it does for every record of a step. It takes no memory, and time for the begun
@@ -46,14 +106,15 @@ impl<A: Allocator + Copy> Record<A> {
         ensures { result ≡ weight (recorded_by self.now) }
     {
         match self {
-            Record::Short(Short::Deleted(_byte)) => 1,
-            Record::Short(Short::Moved | Short::Comma | Short::Begun | Short::Quoted { .. }) => 0,
+            Record::Moved | Record::Comma | Record::Begun | Record::Quoted { .. } => 0,
+            Record::Deleted(_byte) => 1,
             Record::Idle { base, frames } => base.len() + weigh_functions(frames.as_slice()),
             Record::Call {
-                called,
                 arguments,
-                undone,
-            } => weigh_call(weigh_pieces(arguments), called.meta, undone) as usize,
+                meta,
+                change: undone,
+                ..
+            } => weigh_call(weigh_pieces(arguments), *meta, undone) as usize,
         }
     }
 }
@@ -70,13 +131,32 @@ impl<E: TwoEnds<u8, A>, M: TwoEnds<Mark, A>, A: Allocator + Copy> Core<E, M, A> 
         ensures room { IsNoLess self.old self.new }
     {
         match taken {
-            Record::Short(short) => self.undo_short(short),
+            Record::Moved => self.undo_short(Short::Moved),
+            Record::Comma => self.undo_short(Short::Comma),
+            Record::Begun => self.undo_short(Short::Begun),
+            Record::Quoted { inner, closed } => self.undo_short(Short::Quoted { inner, closed }),
+            Record::Deleted(byte) => self.undo_short(Short::Deleted(byte)),
             Record::Idle { base, frames } => self.unload(base.as_slice(), frames),
             Record::Call {
-                called,
+                kind,
                 arguments,
-                undone,
+                value,
+                scanned,
+                printed,
+                read,
+                meta,
+                trace,
+                change: undone,
             } => {
+                let called = Called {
+                    kind,
+                    value,
+                    scanned,
+                    printed,
+                    read,
+                    meta,
+                    trace,
+                };
                 self.is_in_its_room();
                 self.begin_again(called, &arguments.lend());
                 self.restore_storage(undone);

@@ -24,7 +24,7 @@ pub returns-clause-recorded : goal.returns-clause-recorded
 returns-clause-recorded g c =
     let given = c.in_ok-arguments.ensures.same in
     let undone = c.in_ok-undone.ensures.undone ∙ ap (λ (s : State). undone_of c.args.change.now (storage_of s)) c.make_room.ensures.state in
-    λ i. Called (record_with c.args.plan.now.called (given i) (undone i))
+    c.of_call.ensures ∙ (λ i. Called (record_with c.args.plan.now.called (given i) (undone i)))
 
 pub returns-clause-room : goal.returns-clause-room
 returns-clause-room g c =
