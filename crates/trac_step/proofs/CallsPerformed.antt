@@ -1,16 +1,27 @@
 -- A call that is ready is performed: its memory is taken, then forms and blocks are changed, and then it is ended.
-use Rattle.std.proofs.Common.{◌≡◌, ◌+◌, length, sym, ap, ◌∙◌, subst, arith}
+use Rattle.std.proofs.Common.{◌≡◌, ℕ, ◌+◌, ◌-◌, List, length, refl, sym, ap, ◌∙◌, subst, arith}
+use Rattle.std.specs.List.{concat}
+use Rattle.std.proofs.lemmas.Result.{err_from_is_err_and}
+use Rattle.std.specs.Prelude.{Err, Result}
+use Rattle.std.specs.Result.{IsErrAnd}
+use Rattle.trac_rules.specs.declared.refusal.Refusal.{Refusal}
+use Rattle.trac_rules.specs.declared.refusal.Refusal.TheVariants.{Memory}
 use Rattle.trac_rules.specs.declared.scan.Front.TheVariants.{Closing}
 use Rattle.trac_rules.specs.Limits.{text_bytes}
 use Rattle.trac_rules.specs.Proper.{IsProper}
+use Rattle.trac_rules.specs.Records.{Record}
 use Rattle.trac_rules.specs.Scanning.{front_of, scan}
 use Rattle.trac_rules.specs.State.{State, storage_of}
+use Rattle.trac_rules.specs.Undone.{Undone}
 use Rattle.trac_change.specs.declared.change.Change.{Change}
 use Rattle.trac_prims.specs.declared.effect.Made.{Made}
 use Rattle.trac_change.specs.Changed.{changed}
 use Rattle.trac_text.specs.declared.calls.Beginning.{Beginning}
 use Rattle.trac_step.specs.declared.calling.Plan.{Plan}
 use Rattle.trac_step.specs.Calling.{BeginsInnermost, HasRoomFor, arguments_in, state_after, state_ended, with_storage}
+use Rattle.trac_journal.specs.declared.called.Called.{Called}
+use Rattle.trac_journal.specs.Journaled.{HasPlaceForCall, Journaled}
+use Rattle.trac_step.specs.Kept.{FitsJournal, HasRoomForCall, IsKeptAs}
 use Rattle.trac_step.specs.Layout.{Shown}
 use Rattle.trac_step.specs.Ready.{CanChange, CanEnd, IsReady}
 use Rattle.trac_step.specs.Room.{IsNoLess}
@@ -37,6 +48,22 @@ module _ {A : Type 0} (s t : State) (beginning : Beginning) (change : Change A) 
 
   pub given_then : arguments_in (scan t) ≡ arguments_in (scan s)
   given_then = ap (λ (x : State). arguments_in (scan x)) is ∙ arguments_stay s can.front (changed (arguments_in (scan s)) change (storage_of s))
+
+-- the record of a call has the same room where it stands with the same arguments, and destroyed the same
+pub room_for_call : (s t : State) (called : Called) (said undone : Undone) (journal : Journaled) → arguments_in (scan t) ≡ arguments_in (scan s) → said ≡ undone →
+    HasRoomForCall s called undone journal → HasRoomForCall t called said journal
+room_for_call s t called said undone journal given same room = record {
+  not_full = room.not_full;
+  place = subst (λ (texts : List (List ℕ)). HasPlaceForCall (length (concat texts)) (length texts - 1) journal) (sym given) room.place;
+  fits = subst (λ (texts : List (List ℕ)). FitsJournal called texts said) (sym given) (subst (FitsJournal called (arguments_in (scan s))) (sym same) room.fits);
+}
+
+-- memory is refused to a call
+pub not_kept : {R : Type 0} (r : Result R Refusal) (kept : Record) (state : State) (m n : Shown) (old new : Journaled) (e : Refusal) → IsErrAnd r (λ said. said ≡ e) → e ≡ Memory → n.state ≡ m.state → new.records ≡ old.records →
+    IsNoLess m n → IsKeptAs kept state r m n old new
+not_kept r kept state m n old new e is memory same records room =
+    let why = err_from_is_err_and r is in
+    subst (λ r. IsKeptAs kept state r m n old new) (sym (why.1 ∙ ap Err (why.2 ∙ memory))) (record { done = tt; added = tt; unchanged = (same, records); err = refl; room = room })
 
 -- the machine with its memory taken, and then with its forms and blocks changed
 module _ {A : Type 0} (s : State) (m n : Shown) (plan : Plan) (made : Made A) (change : Change A) (ready : IsReady s made plan change) (same : m.state ≡ s)

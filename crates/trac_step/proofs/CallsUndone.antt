@@ -284,9 +284,9 @@ before_capacity false n arguments e = refl
 pub same_parts : (called : Called) (a : Arguments) (old text : Ends ℕ) (old_marks ms : Ends Mark) (store : Stored) (old_meta meta : ℕ) (trace : Bool) (position : ℕ) (printed output : Window ℕ) →
     text ≡ before_call called.scanned called.value (all_texts a) old →
     ms.left ≡ old_marks.left ++ function_marks (length (without_value called.scanned called.value old).left) called.kind (map length a.finished) →
-    ms.capacity ≡ old_marks.capacity → meta ≡ unwrap_or called.meta old_meta → output ≡ record printed { items = take (length printed.items - called.printed) printed.items } →
+    ms.capacity ≡ old_marks.capacity → meta ≡ unwrap_or called.meta old_meta → (n : ℕ) → n ≡ length printed.items → output ≡ record printed { items = take (n - called.printed) printed.items } →
     parts_of text ms store meta called.trace (position - called.read) output ≡ parts_before called a (parts_of old old_marks store old_meta trace position printed)
-same_parts called a old text old_marks ms store old_meta meta trace position printed output text_is marks_are mark_room meta_is output_is i =
+same_parts called a old text old_marks ms store old_meta meta trace position printed output text_is marks_are mark_room meta_is n count cut i =
     record (parts_before called a (parts_of old old_marks store old_meta trace position printed)) {
       active = (text_is i).right;
       text = (text_is i).left;
@@ -298,6 +298,9 @@ same_parts called a old text old_marks ms store old_meta meta trace position pri
       output_room = (output_is i).capacity;
     }
   where
+    output_is : output ≡ record printed { items = take (length printed.items - called.printed) printed.items }
+    output_is = cut ∙ ap (λ (n : ℕ). record printed { items = take (n - called.printed) printed.items }) count
+
     room : text.capacity ≡ old.capacity
     room = ap (λ (e : Ends ℕ). e.capacity) text_is ∙ before_capacity called.scanned called.value (all_texts a) old
 

@@ -1,13 +1,14 @@
 -- What each rule does to the parts of a machine: they stay sound, and show the state that the rule names.
-use Rattle.std.proofs.Common.{◌≡◌, ℕ, zero, suc, ◌+◌, ◌<◌, ◌≤◌, List, [], ◌∷◌, ◌++◌, length, drop, reverse, refl, sym, ap, ◌∙◌, subst, arith, true, false, Bool}
+use Rattle.std.proofs.Common.{◌≡◌, ℕ, zero, suc, ◌+◌, ◌<◌, ◌≤◌, List, [], ◌∷◌, ◌++◌, length, take, drop, reverse, refl, sym, ap, ◌∙◌, subst, arith, true, false, Bool}
 use Rattle.std.specs.Prelude.{Option, None, ◌==◌}
-use Rattle.std.proofs.lemmas.List.{length-append, length-drop}
+use Rattle.std.proofs.lemmas.List.{length-append, length-drop, length-take}
 use Rattle.std.specs.FinSet as set
 use Rattle.trac_gap.specs.Ends.{Ends, item_count}
 use Rattle.trac_gap.specs.Window.{Window}
 use Rattle.trac_rules.specs.declared.kind.Kind.{Kind}
 use Rattle.trac_rules.specs.declared.limit.TheConstants.{MARK_LIMIT}
 use Rattle.trac_rules.specs.declared.byte.TheConstants.{APOSTROPHE}
+use Rattle.trac_rules.specs.declared.width.Width.{Width}
 use Rattle.trac_rules.specs.Bytes.{idle_program}
 use Rattle.trac_rules.specs.State.{Frame, State, initial, storage_of}
 use Rattle.trac_rules.proofs.ProperStates.{initial_proper}
@@ -16,7 +17,7 @@ use Rattle.trac_rules.specs.Scanning.{gather}
 use Rattle.trac_rules.specs.Limits.{marks}
 use Rattle.trac_text.specs.declared.mark.Mark.{Mark}
 use Rattle.trac_forms.specs.Stored.{Stored, nothing_stored, storage_in}
-use Rattle.trac_step.specs.Layout.{Parts, parts_of, state_of, IsSound}
+use Rattle.trac_step.specs.Layout.{Parts, parts_of, shown_by, state_of, IsSound}
 use Rattle.trac_text.proofs.Neutral.{AreMarks-longer}
 use Rattle.trac_text.specs.Marks.{mark_at}
 use Rattle.trac_text.proofs.Protected.{protected_length}
@@ -60,6 +61,22 @@ sound_gather p active more sound h = record {
 
 pub gather_parts : (p : Parts) (active more : List ℕ) → IsSound p → state_of (record p { active = active; text = p.text ++ more }) ≡ gather more (record (state_of p) { active = active })
 gather_parts p active more sound = gathers (record p { active = active }) more sound.ordered
+
+-- so many bytes of it are moved
+module _ (n : ℕ) (old new : Ends ℕ) (ms : Ends Mark) (store : Stored) (meta : ℕ) (trace : Bool) (position : ℕ) (output : Window ℕ)
+    (is : new ≡ record old { left = old.left ++ take n old.right; right = drop n old.right }) (sound : IsSound (parts_of old ms store meta trace position output)) where
+  abbrev parts : Ends ℕ → Parts
+  parts e = parts_of e ms store meta trace position output
+
+  pub sound_moved : IsSound (parts new)
+  sound_moved =
+      subst (λ (e : Ends ℕ). IsSound (parts e)) (sym is)
+      (sound_gather (parts old) (drop n old.right) (take n old.right) sound (omega (arith, length-take n old.right, length-drop n old.right)))
+
+  pub shows_moved : (width : Width) → shown_by width (parts new) ≡ record (shown_by width (parts old)) { state = gather (take n old.right) (record (state_of (parts old)) { active = drop n old.right }) }
+  shows_moved width =
+      ap (λ (e : Ends ℕ). shown_by width (parts e)) is
+      ∙ ap (λ (s : State). record (shown_by width (parts old)) { state = s }) (gather_parts (parts old) (drop n old.right) (take n old.right) sound)
 
 -- ---- what a `(` protects
 

@@ -1,10 +1,12 @@
 -- Limits on a state, and what is true of the parts of a machine, from one another.
-use Rattle.std.proofs.Common.{◌≡◌, ◌+◌, ◌<◌, ◌≤◌, length, reverse, refl, arith, true, false}
+use Rattle.std.proofs.Common.{◌≡◌, ◌+◌, ◌<◌, ◌≤◌, length, reverse, refl, sym, arith, true, false}
 use Rattle.std.proofs.lemmas.Bool.{false_from_ne_true, le-leb}
+use Rattle.std.proofs.lemmas.List.{length-drop}
 use Rattle.trac_rules.specs.declared.limit.TheConstants.{TEXT_LIMIT, MARK_LIMIT, OUTPUT_LIMIT}
 use Rattle.trac_rules.specs.State.{State}
 use Rattle.trac_rules.specs.Limits.{text_bytes, marks, texts_fit}
 use Rattle.trac_rules.specs.Proper.{IsProper}
+use Rattle.trac_rules.specs.Scanning.{deleted}
 use Rattle.trac_text.specs.Neutral.{AreMarks}
 use Rattle.trac_storage.proofs.Judged.{limits_kept}
 use Rattle.trac_step.specs.Layout.{Parts, state_of, IsSound}
@@ -21,6 +23,12 @@ beyond_limits_of_marks s h = false_from_ne_true (texts_fit s) (λ e. let kept = 
 within_limits_by : (s : State) → text_bytes s ≤ TEXT_LIMIT → marks s.frames ≤ MARK_LIMIT → length s.output ≤ OUTPUT_LIMIT → texts_fit s ≡ true
 unfolding texts_fit
 within_limits_by s t m o = rw (le-leb _ _ t, le-leb _ _ m, le-leb _ _ o) refl
+
+-- a proper state without the first byte of its active text is
+pub fits_deleted : (s : State) → IsProper s → true ≡ texts_fit (deleted 1 s)
+fits_deleted s proper =
+    let kept = limits_kept s proper.texts in
+    sym (within_limits_by (deleted 1 s) (omega (arith, kept.text, length-drop 1 s.active)) kept.marked kept.output)
 
 -- a machine's state is within the limits
 pub within_limits : (p : Parts) → IsSound p → texts_fit (state_of p) ≡ true

@@ -15,6 +15,7 @@ use Rattle.trac_rules.specs.State.{Frame, State}
 use Rattle.trac_rules.specs.Matching.{protected}
 use Rattle.trac_rules.specs.Scanning.{Moves, front_of, scan, scan_at, protect, deleted, begun, comma_in, closing_in, gather_first}
 use Rattle.trac_rules.specs.Limits.{texts_fit, marks}
+use Rattle.trac_rules.specs.Proper.{IsProper}
 use Rattle.trac_text.specs.declared.mark.Mark.{Mark}
 use Rattle.trac_text.specs.Neutral.{neutral}
 use Rattle.trac_step.specs.Layout.{Parts, state_of, IsSound}
@@ -22,9 +23,9 @@ use Rattle.trac_step.specs.Calling.{IfMoves, IsMove}
 use Rattle.trac_text.specs.Moving.{adds_mark}
 use Rattle.trac_text.specs.Marks.{mark_at}
 use Rattle.trac_step.proofs.Rules.{begins, next_argument, ordered_push, marks-parts}
-use Rattle.trac_step.proofs.Limited.{beyond_limits_of_marks, within_limits}
+use Rattle.trac_step.proofs.Limited.{beyond_limits_of_marks, fits_deleted, within_limits}
 use Rattle.trac_storage.proofs.Judged.{limits_kept}
-use Rattle.trac_step.proofs.Scans.{scan_front}
+use Rattle.trac_step.proofs.Scans.{is_move, scan_front}
 use Rattle.trac_step.proofs.Changes.{sound_push, sound_gather, gather_parts}
 use Rattle.trac_text.proofs.Protected.{protected_length}
 
@@ -148,9 +149,17 @@ room_for_argument s h e = room_in (deleted 1 s) s.frames h e
 pub of_moves : (s t : State) (P : State → Type 0) → scan s ≡ Moves t → IfMoves (scan s) P → P t
 of_moves s t P e h = subst (λ x. IfMoves x P) e h
 
+-- a `)` is deleted where no function is begun, or where scanning is known to move on
+pub closing_outside : (s : State) → front_of s.active ≡ Closing → s.frames ≡ [] → IsMove (scan s)
+closing_outside s is none = is_move s Closing (sym is) (λ _. none)
+
 pub closing_move : (s : State) → front_of s.active ≡ Closing → IsMove (scan s) → scan s ≡ Moves (deleted 1 s)
 closing_move s e moves = scan_front s Closing e ∙ closing_by s.frames (subst IsMove (scan_front s Closing e) moves)
   where
     closing_by : (fs : List Frame) → IsMove (closing_in fs (deleted 1 s)) → closing_in fs (deleted 1 s) ≡ Moves (deleted 1 s)
     closing_by [] h = refl
     closing_by (f ∷ fs) h = absurd h
+
+-- and then the state is within the limits still
+pub closing_fits : (s : State) → IsProper s → front_of s.active ≡ Closing → s.frames ≡ [] → IfMoves (scan s) (λ t. true ≡ texts_fit t)
+closing_fits s proper is none = subst (λ x. IfMoves x (λ t. true ≡ texts_fit t)) (sym (closing_move s is (closing_outside s is none))) (fits_deleted s proper)

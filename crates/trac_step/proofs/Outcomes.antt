@@ -7,7 +7,7 @@ use Rattle.trac_rules.specs.State.{Environment, State}
 use Rattle.trac_rules.specs.Records.{Record}
 use Rattle.trac_rules.specs.Scanning.{Scanned, Moves, scan}
 use Rattle.trac_rules.specs.Limits.{texts_fit}
-use Rattle.trac_rules.specs.Outcomes.{limited, MayLackMemory, MayRefuse}
+use Rattle.trac_rules.specs.Outcomes.{limited, MayLackMemory}
 use Rattle.trac_rules.specs.Stepping.{step, carried_out}
 use Rattle.trac_rules.proofs.Outcomes.{lacks_limited, limited_beyond, limited_within}
 use Rattle.trac_step.specs.Calling.{IfMoves, IsMove}

@@ -1,6 +1,9 @@
 -- The room of a machine, which holds its own state.
 use Rattle.std.proofs.Common.{◌≡◌, ℕ, ◌+◌, ◌≤◌, List, [], ◌∷◌, length, take, drop, refl, sym, ap, ◌∙◌, subst, arith}
 use Rattle.std.proofs.lemmas.List.{length-append, take-append-drop}
+use Rattle.std.proofs.lemmas.Result.{on_ok_weaker}
+use Rattle.std.specs.Prelude.{OnOk, Result}
+use Rattle.trac_rules.specs.declared.refusal.Refusal.{Refusal}
 use Rattle.trac_rules.specs.declared.width.Width.{Width}
 use Rattle.trac_forms.specs.Stored.{KnowsAll}
 use Rattle.trac_rules.specs.Limits.{marks}
@@ -38,6 +41,9 @@ HasRoom-kept m n s more room = record {
   output = omega (arith, more.output, room.output);
   names = λ name h. more.names name (room.names name h);
 }
+
+pub held_after : {R : Type 0} (r : Result R Refusal) (Q : Type 0) (m n : Shown) (s : State) → IsNoLess m n → HasRoom m s → OnOk r Q → OnOk r (HasRoom n s)
+held_after r Q m n s more room h = on_ok_weaker r (λ _. HasRoom-kept m n s more room) h
 
 -- where the active text begins with so many bytes, what holds a state holds it with these bytes at the end of the current text
 pub HasRoom-moved_on : (m : Shown) (s : State) (n : ℕ) → n ≤ length s.active → HasRoom m s → HasRoom m (moved_on n s)

@@ -239,6 +239,10 @@ pub record IsBack (r : Record) (p q : Parts) : Type 0 where
   pub state : restored r (state_of p) ≡ Some (state_of q)
   pub sound : IsSound q
 
+-- and the same where it has parts that are these
+pub back_as : (r : Record) (p q n : Parts) → IsBack r p q → n ≡ q → IsBack r p n
+back_as r p q n back same = subst (IsBack r p) (sym same) back
+
 -- the parts with a protected text of this length before the active text
 abbrev pub unprotected_parts : ℕ → Bool → Parts → Parts
 unprotected_parts inner closed p =

@@ -1,7 +1,9 @@
 -- What scanning says of a state, from what its active text begins with.
 use Rattle.std.proofs.Common.{◌≡◌, ◌<◌, List, [], ◌∷◌, length, refl, sym, ap, ◌∙◌, subst, arith, true, false, not, Bool}
+use denote.Enum.Bare.{sameb}
 use Rattle.std.proofs.lemmas.Bool.{eqb-true}
 use Rattle.std.specs.Prelude.{◌==◌, None}
+use Rattle.trac_rules.specs.contracts.scan.Front.{the_type}
 use Rattle.trac_rules.specs.declared.scan.Front.{Front}
 use Rattle.trac_rules.specs.declared.scan.Front.TheVariants.{Nothing, Opening, Layout, Comma, ActiveCall, NeutralCall, Sharp, Closing, Plain}
 use Rattle.trac_rules.specs.Goals.{call_asked, next_call}
@@ -31,6 +33,10 @@ is_move s front at none = subst IsMove (sym (scan_front s front (sym at))) (move
     move_at Sharp none = tt
     move_at Plain none = tt
 
+-- so where a test for a `)` says no
+pub is_move_unless : (s : State) (front : Front) (b : Bool) → front ≡ front_of s.active → b ≡ sameb the_type front Closing → b ≡ false → IsMove (scan s)
+is_move_unless s front b at is unset = is_move s front at (λ same. absurd (let set : true ≡ false = sym (ap (λ f. sameb the_type f Closing) same) ∙ sym is ∙ unset in cc))
+
 -- where there are none, no function is begun
 pub no_frames : (fs : List Frame) (b : Bool) → b ≡ (length fs == 0) → b ≡ true → fs ≡ []
 no_frames [] b is h = refl
@@ -43,21 +49,15 @@ some_frames (f ∷ fs) b is h = omega arith
 
 -- ---- the call that the next step would perform
 
--- where the active text does not begin with `)`, there is none
-pub no_call_before : (s : State) (front : Front) → front ≡ front_of s.active → (front ≡ Closing → ⊥) → next_call s ≡ None
-no_call_before s front at other = ap call_asked (scan_front s front (sym at)) ∙ none_at front other
-  where
-    none_at : (front : Front) → (front ≡ Closing → ⊥) → call_asked (scan_at front s) ≡ None
-    none_at Closing other = absurd (other refl)
-    none_at Nothing other = refl
-    none_at Opening other = refl
-    none_at Layout other = refl
-    none_at Comma other = refl
-    none_at ActiveCall other = refl
-    none_at NeutralCall other = refl
-    none_at Sharp other = refl
-    none_at Plain other = refl
+-- where scanning moves on, there is none
+no_call : (x : Scanned) → IsMove x → call_asked x ≡ None
+no_call (Moves t) h = refl
+no_call (Calls call) h = absurd h
 
--- nor outside any function
+-- so where the active text does not begin with `)`
+pub no_call_before : (s : State) (front : Front) → front ≡ front_of s.active → (front ≡ Closing → ⊥) → next_call s ≡ None
+no_call_before s front at other = no_call (scan s) (is_move s front at (λ is. absurd (other is)))
+
+-- and outside any function
 pub no_call_outside : (s : State) → front_of s.active ≡ Closing → s.frames ≡ [] → next_call s ≡ None
-no_call_outside s at none = ap call_asked (scan_front s Closing at) ∙ ap (λ fs. call_asked (closing_in fs (deleted 1 s))) none
+no_call_outside s at none = no_call (scan s) (is_move s Closing (sym at) (λ _. none))

@@ -1,5 +1,7 @@
 -- A step whose record is kept, from the rule that is carried out.
 use Rattle.std.proofs.Common.{◌≡◌, ℕ, ◌+◌, ◌<◌, ◌≤◌, List, [], ◌++◌, ◌∷◌, get_or, length, ◌⊎◌, inl, inr, refl, sym, ap, ◌∙◌, subst, arith, true, false}
+use Rattle.std.proofs.lemmas.Result.{err_from_is_err_and}
+use Rattle.std.specs.Result.{IsErrAnd}
 use Rattle.std.specs.Prelude.{Result, Ok, Err, Option, None, Some, replicate}
 use Rattle.trac_rules.specs.declared.kind.Kind.{Kind}
 use Rattle.trac_rules.specs.declared.limit.TheConstants.{MARK_LIMIT}
@@ -40,8 +42,10 @@ not_carried_out r m n old new is same records lacks = subst (λ r. IsCarriedOut 
 })
 
 -- by the journal, which has no place
-pub no_place : {R : Type 0} (r : Result R Refusal) (m : Shown) (old new : Journaled) → r ≡ Err Memory → new.records ≡ old.records → old.places ≡ 0 → IsCarriedOut r m m old new
-no_place r m old new is same full = not_carried_out r m m old new is refl same (λ place. absurd (omega (arith, place, full)))
+pub no_place : {R : Type 0} (r : Result R Refusal) (m : Shown) (old new : Journaled) (e : Refusal) → IsErrAnd r (λ said. said ≡ e) → e ≡ Memory → new.records ≡ old.records → old.places ≡ 0 → IsCarriedOut r m m old new
+no_place r m old new e is memory same full =
+    let why = err_from_is_err_and r is in
+    not_carried_out r m m old new (why.1 ∙ ap Err (why.2 ∙ memory)) refl same (λ place. absurd (omega (arith, place, full)))
 
 -- or the state is that to which scanning moves on, and the record is added
 pub carried_out : {R : Type 0} (x : R) (m n : Shown) (old new : Journaled) (t : State) → scan m.state ≡ Moves t → n.state ≡ t → new.records ≡ recorded m.state ∷ old.records → IsNoLess m n →

@@ -35,9 +35,18 @@ with_mark None s = comma_in s.frames s
 
 -- ---- scanning asks for a call
 
+-- the arguments of the call that scanning asks for
+abbrev pub arguments_in : Scanned → List (List ℕ)
+arguments_in (Moves t) = []
+arguments_in (Calls call) = call.arguments
+
 -- the state with other forms and blocks
 abbrev pub with_storage : Storage → State → State
 with_storage storage s = record s { forms = storage.forms; blocks = storage.blocks }
+
+-- the state with forms and blocks as this change makes them, for the call that scanning asks for
+abbrev pub with_change : {A : Type 0} → Scanned → Change A → State → State
+with_change scanned change s = with_storage (changed (arguments_in scanned) change (storage_of s)) s
 
 -- what a planned call does where these texts are made for it, and forms and blocks are these after it
 abbrev pub effect_with : {A : Type 0} → Plan → Made A → Storage → Effect
@@ -61,11 +70,6 @@ state_after plan made change (Calls call) =
 abbrev pub state_ended : {A : Type 0} → Plan → Made A → Scanned → State
 state_ended plan made (Moves t) = t
 state_ended plan made (Calls call) = after_call call (effect_with plan made (storage_of call.state))
-
--- the arguments of the call that scanning asks for
-abbrev pub arguments_in : Scanned → List (List ℕ)
-arguments_in (Moves t) = []
-arguments_in (Calls call) = call.arguments
 
 -- the first of the frames, the innermost function, begins here: the base text and the other frames stand before it
 abbrev pub BeginsFirst : List Frame → List ℕ → Beginning → Type 0

@@ -1,14 +1,16 @@
 -- Steps whose records go into a journal, and the way back over them.
-use Rattle.std.specs.Prelude.{◌≡◌, ◌≤◌, ℕ, List, [], ◌∷◌, length, Option, None, Some, IsSomeAnd}
+use Rattle.std.specs.Prelude.{◌≡◌, ◌<◌, ◌≤◌, ◌-◌, ◌^◌, ℕ, List, [], ◌∷◌, length, Option, None, Some, IsSomeAnd}
 use Rattle.std.specs.Prelude.{Result, Ok, IfErr, IsOkUnless, OnErr, OnOk}
 use Rattle.std.specs.List.{concat}
 use Rattle.trac_journal.specs.declared.called.Called.{Called}
-use Rattle.trac_journal.specs.Journaled.{IsLight, Journaled}
+use Rattle.trac_journal.specs.Journaled.{HasPlaceForCall, IsLight, Journaled}
 use Rattle.trac_journal.specs.Listed.{AreSmall}
 use Rattle.trac_journal.specs.Told.{record_with}
+use Rattle.trac_rules.specs.declared.limit.TheConstants.{JOURNAL_LIMIT}
 use Rattle.trac_rules.specs.declared.refusal.Refusal.{Refusal}
 use Rattle.trac_rules.specs.declared.refusal.Refusal.TheVariants.{Memory}
 use Rattle.trac_rules.specs.Outcomes.{MayRefuse}
+use Rattle.trac_rules.specs.Proper.{IsProper}
 use Rattle.trac_rules.specs.Records.{Record, record_of, recorded, state_before}
 use Rattle.trac_rules.specs.Records.{Called as CallOf}
 use Rattle.trac_rules.specs.Scanning.{Moves, scan}
@@ -16,6 +18,7 @@ use Rattle.trac_rules.specs.State.{Environment, State}
 use Rattle.trac_rules.specs.Stepping.{step}
 use Rattle.trac_rules.specs.Undone.{Undone}
 use Rattle.trac_rules.specs.Weights.{loss, weight}
+use Rattle.trac_step.specs.Calling.{arguments_in}
 use Rattle.trac_step.specs.Layout.{Shown}
 use Rattle.trac_step.specs.Room.{HasRoom, IsNoLess, LacksRoomAhead}
 
@@ -24,6 +27,29 @@ use Rattle.trac_step.specs.Room.{HasRoom, IsNoLess, LacksRoomAhead}
 pub record FitsJournal (called : Called) (arguments : List (List ℕ)) (undone : Undone) : Type 0 where
   pub small : AreSmall called (length (concat arguments)) (length arguments)
   pub light : IsLight (CallOf (record_with called arguments undone))
+
+-- a journal has room for the record of the call at which a state stands, where this is said of the call, and this is
+-- what it destroyed of forms and blocks
+pub record HasRoomForCall (s : State) (called : Called) (undone : Undone) (journal : Journaled) : Type 0 where
+  pub not_full : length journal.records < JOURNAL_LIMIT
+  pub place : HasPlaceForCall (length (concat (arguments_in (scan s)))) (length (arguments_in (scan s)) - 1) journal
+  pub fits : FitsJournal called (arguments_in (scan s)) undone
+
+-- a machine comes to this state, and this record is added; or memory is refused, and nothing but rooms changes
+pub record IsKeptAs {R : Type 0} (kept : Record) (state : State) (result : Result R Refusal) (before after : Shown)
+    (old new : Journaled) : Type 0 where
+  pub done : OnOk result (after.state ≡ state)
+  pub added : OnOk result (new.records ≡ kept ∷ old.records)
+  pub unchanged : OnErr result ((after.state ≡ before.state) × (new.records ≡ old.records))
+  pub err : IsOkUnless result Memory
+  pub room : IsNoLess before after
+
+-- a machine may take a step whose record is added
+pub record CanStep (environment : Environment) (m : Shown) (journal : Journaled) : Type 0 where
+  pub proper : IsProper m.state
+  pub position : m.state.position ≤ length environment.tape.bytes
+  pub short : length environment.tape.bytes < 2 ^ 32
+  pub not_full : length journal.records < JOURNAL_LIMIT
 
 -- the records have this one more, the newest
 abbrev pub IsAdded : Option Record → List Record → List Record → Type 0

@@ -1,5 +1,5 @@
 -- A call that is planned, and may be performed.
-use Rattle.std.specs.Prelude.{◌≡◌, ◌+◌, ◌≤◌, length, Some, Ok}
+use Rattle.std.specs.Prelude.{◌≡◌, ◌+◌, ◌≤◌, [], length, Option, None, Some, Ok}
 use Rattle.std.specs.List.{concat}
 use Rattle.trac_rules.specs.declared.scan.Front.TheVariants.{Closing}
 use Rattle.trac_rules.specs.Limits.{text_bytes}
@@ -39,6 +39,11 @@ pub record IsPlanned {A : Type 0} (environment : Environment) (s : State) (made 
   pub ready : IsReady s made plan change
   pub taken : step environment s ≡ Ok (state_after plan made change (scan s))
   pub recorded : record_of environment s ≡ Some (recorded_after plan change s)
+
+-- what may be performed where a `)` stands: nothing where no function is begun
+abbrev pub IsFound : {A : Type 0} → Environment → State → Made A → Change A → Option Plan → Type 0
+IsFound environment s made change None = s.frames ≡ []
+IsFound environment s made change (Some plan) = IsPlanned environment s made plan change
 
 -- forms and blocks can be changed so, by the call at which a state stands, whose function begins here
 pub record CanChange {A : Type 0} (s : State) (beginning : Beginning) (change : Change A) : Type 0 where

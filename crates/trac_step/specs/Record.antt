@@ -1,11 +1,17 @@
 -- What a record says of the state before its step.
-use Rattle.std.specs.Prelude.{Option}
+use Rattle.std.specs.Prelude.{◌≡◌, IfErr, IfOk, OnOk, Ok, Option, Result, Some}
+use Rattle.trac_rules.specs.declared.refusal.Refusal.{Refusal}
+use Rattle.trac_rules.specs.declared.refusal.Refusal.TheVariants.{Memory}
+use Rattle.trac_rules.specs.Outcomes.{MayRefuse}
 use Rattle.trac_rules.specs.Records as rules
-use Rattle.trac_rules.specs.State.{State}
+use Rattle.trac_rules.specs.State.{Environment, State}
+use Rattle.trac_rules.specs.Stepping.{step}
 use Rattle.trac_text.specs.Pieces.{all_texts, frames_in}
 use Rattle.trac_change.specs.Undone.{undone_in}
 use Rattle.trac_step.specs.declared.record.Record.{Record}
 use Rattle.trac_step.specs.declared.record.Record.TheVariants.{Moved, Comma, Begun, Quoted, Deleted, Idle, Call}
+use Rattle.trac_step.specs.Layout.{Shown}
+use Rattle.trac_step.specs.Room.{IsNoLess, LacksRoomAhead}
 
 -- a record of the machine, read as one of the rules
 abbrev pub recorded_by : {A : Type 0} → Record A → rules.Record
@@ -31,3 +37,13 @@ recorded_by (Call kind arguments value scanned printed read meta trace change) =
 -- the state before, from the record of a step and the state after it
 abbrev pub before : {A : Type 0} → Record A → State → Option State
 before r t = rules.state_before (recorded_by r) t
+
+-- a machine takes its next step and its record is given, or the step is refused, and nothing but rooms changes; a step
+-- of scanning is refused memory only where the machine lacks room
+pub record IsTaken {A : Type 0} (environment : Environment) (result : Result (Record A) Refusal) (before after : Shown)
+    : Type 0 where
+  pub taken : OnOk result (step environment before.state ≡ Ok after.state)
+  pub recorded : IfOk result (λ r. rules.record_of environment before.state ≡ Some (recorded_by r))
+  pub refused : IfErr result (λ e. (after.state ≡ before.state) × MayRefuse (step environment before.state) e)
+  pub lacking : IfErr result (λ e. e ≡ Memory → LacksRoomAhead before)
+  pub room : IsNoLess before after

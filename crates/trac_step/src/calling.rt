@@ -1,32 +1,28 @@
 //! The steps that perform a function.
 ghost use Rattle.std.specs.Prelude.{◌≡◌, ◌<◌, ◌≤◌, ◌+◌, ◌-◌, ◌++◌, ◌^◌, ◌∷◌, length, take, drop, option_map, IfErr};
-ghost use Rattle.std.specs.Prelude.{IfOk, IsOkUnless, OnErr, OnOk, Ok, Some};
-ghost use Rattle.std.specs.List.{concat};
+ghost use Rattle.std.specs.Prelude.{IfOk, IsOkUnless, OnErr, OnOk, Ok};
 ghost use Rattle.trac_gap.specs.Ends.{item_count};
 ghost use Rattle.trac_rules.specs.declared.limit.TheConstants.{JOURNAL_LIMIT};
 ghost use Rattle.trac_rules.specs.Outcomes.{MayRefuse};
-ghost use Rattle.trac_rules.specs.Proper.{IsProper};
 ghost use Rattle.trac_rules.specs.Records as rules;
-ghost use Rattle.trac_rules.specs.Records.{is_scanned, record_of};
+ghost use Rattle.trac_rules.specs.Records.{is_scanned};
 ghost use Rattle.trac_rules.specs.State.{storage_of};
 ghost use Rattle.trac_rules.specs.Scanning.{front_of, scan};
 ghost use Rattle.trac_rules.specs.Stepping.{step};
 ghost use Rattle.trac_text.specs.Cuts.{cut};
 ghost use Rattle.trac_change.specs.declared.change.Change.TheVariants.{Keep};
-ghost use Rattle.trac_change.specs.Changed.{changed};
 ghost use Rattle.trac_prims.specs.Tape.{environment_of};
 ghost use Rattle.trac_change.specs.Changes.{undone_of};
 ghost use Rattle.trac_text.specs.Pieces.{all_texts};
-ghost use Rattle.trac_journal.specs.Journaled.{HasPlaceForCall};
 ghost use Rattle.trac_journal.specs.Told.{record_with};
 ghost use Rattle.trac_change.specs.Undone.{undone_in};
 ghost use Rattle.trac_step.specs.Calling.{BeginsInnermost, HasRoomFor, IsBegun, arguments_in, state_after, state_ended};
-ghost use Rattle.trac_step.specs.Calling.{with_storage};
+ghost use Rattle.trac_step.specs.Calling.{with_change};
 ghost use Rattle.trac_text.specs.Moving.{with_value};
-ghost use Rattle.trac_step.specs.Kept.{FitsJournal, IsStepped};
-ghost use Rattle.trac_step.specs.Ready.{CanChange, CanEnd, IsPlanned, IsReady, recorded_after};
-ghost use Rattle.trac_step.specs.Record.{recorded_by};
-ghost use Rattle.trac_step.specs.Room.{IsNoLess, LacksRoomAhead};
+ghost use Rattle.trac_step.specs.Kept.{CanStep, FitsJournal, HasRoomForCall, IsKeptAs, IsStepped};
+ghost use Rattle.trac_step.specs.Ready.{CanChange, CanEnd, IsFound, IsReady, recorded_after};
+ghost use Rattle.trac_step.specs.Record.{IsTaken, recorded_by};
+ghost use Rattle.trac_step.specs.Room.{IsNoLess};
 
 use crate::engine::Core;
 use crate::record::Record;
@@ -107,24 +103,24 @@ fn put_printed<A: Allocator>(output: &mut SlidingBuf<u8, A>, printed: &[u8])
 }
 
 impl<E: TwoEnds<u8, A>, M: TwoEnds<Mark, A>, A: Allocator + Copy> Core<E, M, A> {
-    // Plans the call that the next step performs: its texts are made, and what becomes of forms and blocks is put in
-    // place of a change that keeps them. Or why it is refused.
+    // Plans the call of the innermost function: its texts are made, and what becomes of forms and blocks is put in
+    // place of a change that keeps them. Or why it is refused. None where no function is begun.
     fn planned(
         &self,
         tape: Tape<'_>,
         made: &mut Made<A>,
         change: &mut Change<A>,
-    ) -> Result<Plan, Refusal>
+    ) -> Result<Option<Plan>, Refusal>
         requires keeps { change.old ≡ Keep }
         requires front { front_of self.now.state.active ≡ Front.Closing }
-        requires inside { 0 < length self.now.state.frames }
         requires within { self.now.state.position ≤ length tape.bytes.now }
         ensures planned { IfOk result
-            (λ plan. IsPlanned (environment_of self.now.width tape.entry) self.now.state made.new plan change.new) }
+            (IsFound (environment_of self.now.width tape.entry) self.now.state made.new change.new) }
         ensures refused { IfErr result (MayRefuse (step (environment_of self.now.width tape.entry) self.now.state)) }
+        ensures inside { OnErr result (0 < length self.now.state.frames) }
     {
         let Some(function) = self.neutral().innermost() else {
-            unreachable!()
+            return Ok(None);
         };
         let now = Now {
             meta: self.meta,
@@ -144,7 +140,7 @@ impl<E: TwoEnds<u8, A>, M: TwoEnds<Mark, A>, A: Allocator + Copy> Core<E, M, A> 
             made,
             change,
         )?;
-        Ok(Plan {
+        Ok(Some(Plan {
             beginning: Beginning {
                 number: function.number,
                 place: function.place,
@@ -157,7 +153,7 @@ impl<E: TwoEnds<u8, A>, M: TwoEnds<Mark, A>, A: Allocator + Copy> Core<E, M, A> 
             position: now.position + deed.read,
             meta: deed.meta,
             trace: deed.trace,
-        })
+        }))
     }
 
     // Makes room for the texts that the call adds, so that ending it needs no memory. The state stays.
@@ -181,8 +177,8 @@ impl<E: TwoEnds<u8, A>, M: TwoEnds<Mark, A>, A: Allocator + Copy> Core<E, M, A> 
         change: &mut Change<A>,
     ) -> Result<Undone<A>, Refusal>
         requires { CanChange self.old.state beginning change.old }
-        ensures changed { OnOk result (self.new.state ≡ with_storage
-            (changed (arguments_in (scan self.old.state)) change.old (storage_of self.old.state)) self.old.state) }
+        ensures changed { OnOk result
+            (self.new.state ≡ with_change (scan self.old.state) change.old self.old.state) }
         ensures undone { IfOk result (λ undone. undone_in undone ≡ undone_of change.old (storage_of self.old.state)) }
         ensures unchanged { OnErr result (self.new.state ≡ self.old.state) }
         ensures room { IsNoLess self.old self.new }
@@ -248,23 +244,17 @@ impl<E: TwoEnds<u8, A>, M: TwoEnds<Mark, A>, A: Allocator + Copy> Core<E, M, A> 
         Ok(Record::of_call(plan.called, arguments, undone))
     }
 
-    // The next step, where it performs a function.
-    pub(crate) fn call_step(&mut self, tape: Tape<'_>) -> Result<Record<A>, Refusal>
+    // A `)`: the innermost function is performed, or the `)` is deleted where none is begun.
+    pub(crate) fn close(&mut self, tape: Tape<'_>) -> Result<Record<A>, Refusal>
         requires front { front_of self.old.state.active ≡ Front.Closing }
-        requires inside { 0 < length self.old.state.frames }
         requires within { self.old.state.position ≤ length tape.bytes.now }
-        ensures taken { OnOk result
-            (step (environment_of self.old.width tape.entry) self.old.state ≡ Ok self.new.state) }
-        ensures recorded { IfOk result
-            (λ r. record_of (environment_of self.old.width tape.entry) self.old.state ≡ Some (recorded_by r)) }
-        ensures refused { IfErr result (λ e. (self.new.state ≡ self.old.state)
-            × MayRefuse (step (environment_of self.old.width tape.entry) self.old.state) e) }
-        ensures lacking { LacksRoomAhead self.old }
-        ensures room { IsNoLess self.old self.new }
+        ensures { IsTaken (environment_of self.old.width tape.entry) result self.old self.new }
     {
         let mut made = Made::new(*self.output.allocator());
         let mut change = Change::Keep;
-        let plan = self.planned(tape, &mut made, &mut change)?;
+        let Some(plan) = self.planned(tape, &mut made, &mut change)? else {
+            return self.move_step(Front::Closing);
+        };
         self.perform(&plan, &made, &mut change)
     }
 
@@ -274,10 +264,7 @@ impl<E: TwoEnds<u8, A>, M: TwoEnds<Mark, A>, A: Allocator + Copy> Core<E, M, A> 
     fn keep_call(&self, journal: &mut Journal<A>, plan: &Plan, undone: Undone<A>)
         requires front { front_of self.now.state.active ≡ Front.Closing }
         requires begins { BeginsInnermost self.now.state plan.now.beginning }
-        requires not_full { length journal.old.records < JOURNAL_LIMIT }
-        requires place { HasPlaceForCall (length (concat (arguments_in (scan self.now.state))))
-            (length (arguments_in (scan self.now.state)) - 1) journal.old }
-        requires fits { FitsJournal plan.now.called (arguments_in (scan self.now.state)) (undone_in undone) }
+        requires room { HasRoomForCall self.now.state plan.now.called (undone_in undone) journal.old }
         ensures { journal.new.records
             ≡ rules.Called (record_with plan.now.called (arguments_in (scan self.now.state)) (undone_in undone))
             ∷ journal.old.records }
@@ -296,19 +283,11 @@ impl<E: TwoEnds<u8, A>, M: TwoEnds<Mark, A>, A: Allocator + Copy> Core<E, M, A> 
         change: &mut Change<A>,
     ) -> Result<(), Refusal>
         requires can { CanChange self.old.state plan.now.beginning change.old }
-        requires not_full { length journal.old.records < JOURNAL_LIMIT }
-        requires place { HasPlaceForCall (length (concat (arguments_in (scan self.old.state))))
-            (length (arguments_in (scan self.old.state)) - 1) journal.old }
-        requires fits { FitsJournal plan.now.called (arguments_in (scan self.old.state))
-            (undone_of change.old (storage_of self.old.state)) }
-        ensures changed { OnOk result (self.new.state ≡ with_storage
-            (changed (arguments_in (scan self.old.state)) change.old (storage_of self.old.state)) self.old.state) }
-        ensures kept { OnOk result
-            (journal.new.records ≡ recorded_after plan.now change.old self.old.state ∷ journal.old.records) }
-        ensures unchanged { OnErr result
-            ((self.new.state ≡ self.old.state) × (journal.new.records ≡ journal.old.records)) }
-        ensures err { IsOkUnless result Refusal.Memory }
-        ensures room { IsNoLess self.old self.new }
+        requires room { HasRoomForCall self.old.state plan.now.called
+            (undone_of change.old (storage_of self.old.state)) journal.old }
+        ensures { IsKeptAs (recorded_after plan.now change.old self.old.state)
+            (with_change (scan self.old.state) change.old self.old.state) result self.old self.new journal.old
+            journal.new }
     {
         if let Change::Keep = change {
             self.keep_call(journal, plan, Undone::Nothing);
@@ -327,19 +306,11 @@ impl<E: TwoEnds<u8, A>, M: TwoEnds<Mark, A>, A: Allocator + Copy> Core<E, M, A> 
         change: &mut Change<A>,
     ) -> Result<(), Refusal>
         requires can { CanChange self.old.state plan.beginning change.old }
-        requires not_full { length journal.old.records < JOURNAL_LIMIT }
-        requires place { HasPlaceForCall (length (concat (arguments_in (scan self.old.state))))
-            (length (arguments_in (scan self.old.state)) - 1) journal.old }
-        requires fits { FitsJournal plan.called (arguments_in (scan self.old.state))
-            (undone_of change.old (storage_of self.old.state)) }
-        ensures changed { OnOk result (self.new.state ≡ with_storage
-            (changed (arguments_in (scan self.old.state)) change.old (storage_of self.old.state)) self.old.state) }
-        ensures kept { OnOk result
-            (journal.new.records ≡ recorded_after plan change.old self.old.state ∷ journal.old.records) }
-        ensures unchanged { OnErr result
-            ((self.new.state ≡ self.old.state) × (journal.new.records ≡ journal.old.records)) }
-        ensures err { IsOkUnless result Refusal.Memory }
-        ensures room { IsNoLess self.old self.new }
+        requires room { HasRoomForCall self.old.state plan.called
+            (undone_of change.old (storage_of self.old.state)) journal.old }
+        ensures { IsKeptAs (recorded_after plan change.old self.old.state)
+            (with_change (scan self.old.state) change.old self.old.state) result self.old self.new journal.old
+            journal.new }
     {
         let undone = self.change_storage(plan.beginning, change)?;
         self.keep_call(journal, &plan, undone);
@@ -359,13 +330,9 @@ impl<E: TwoEnds<u8, A>, M: TwoEnds<Mark, A>, A: Allocator + Copy> Core<E, M, A> 
         requires not_full { length journal.old.records < JOURNAL_LIMIT }
         requires fits { FitsJournal plan.now.called (arguments_in (scan self.old.state))
             (undone_of change.old (storage_of self.old.state)) }
-        ensures done { OnOk result (self.new.state ≡ state_after plan.now made.now change.old (scan self.old.state)) }
-        ensures kept { OnOk result
-            (journal.new.records ≡ recorded_after plan.now change.old self.old.state ∷ journal.old.records) }
-        ensures unchanged { OnErr result
-            ((self.new.state ≡ self.old.state) × (journal.new.records ≡ journal.old.records)) }
-        ensures err { IsOkUnless result Refusal.Memory }
-        ensures room { IsNoLess self.old self.new }
+        ensures { IsKeptAs (recorded_after plan.now change.old self.old.state)
+            (state_after plan.now made.now change.old (scan self.old.state)) result self.old self.new journal.old
+            journal.new }
     {
         journal.reserve_call(plan.bytes, plan.commas)?;
         self.make_room(made)?;
@@ -374,26 +341,24 @@ impl<E: TwoEnds<u8, A>, M: TwoEnds<Mark, A>, A: Allocator + Copy> Core<E, M, A> 
         Ok(())
     }
 
-    // The next step, where it performs a function, and its record is kept. Its texts are made in these buffers. The
-    // loop of a walk calls it, and has the steps of scanning in itself.
+    // A `)`, as `close` has it, where the record is kept. The texts of the call are made in these buffers. The loop of
+    // a walk calls it, and has the steps of scanning in itself.
     #[inline(never)]
-    pub(crate) fn call_step_into(
+    pub(crate) fn close_into(
         &mut self,
         journal: &mut Journal<A>,
         tape: Tape<'_>,
         made: &mut Made<A>,
     ) -> Result<(), Refusal>
         requires front { front_of self.old.state.active ≡ Front.Closing }
-        requires inside { 0 < length self.old.state.frames }
-        requires within { self.old.state.position ≤ length tape.bytes.now }
-        requires short { length tape.bytes.now < 2 ^ 32 }
-        requires proper { IsProper self.old.state }
-        requires not_full { length journal.old.records < JOURNAL_LIMIT }
+        requires can { CanStep (environment_of self.old.width tape) self.old journal.old }
         ensures { IsStepped (environment_of self.old.width tape.entry) result self.old self.new journal.old
             journal.new }
     {
         let mut change = Change::Keep;
-        let plan = self.planned(tape, made, &mut change)?;
+        let Some(plan) = self.planned(tape, made, &mut change)? else {
+            return self.delete_into(journal);
+        };
         self.perform_into(journal, &plan, made, &mut change)
     }
 }

@@ -1,17 +1,16 @@
 //! The steps that perform no function.
-ghost use Rattle.std.specs.Prelude.{◌≡◌, ◌≢◌, ◌<◌, ◌≤◌, get_or, length, true, None, Ok};
-ghost use Rattle.std.specs.Prelude.{IfErr, IfOk, IsOkUnless, OnErr, OnOk};
+ghost use Rattle.std.specs.Prelude.{◌≡◌, ◌≢◌, ◌<◌, ◌≤◌, get_or, length, true, None};
+ghost use Rattle.std.specs.Prelude.{IfOk, IsOkUnless, OnErr, OnOk};
 ghost use Rattle.trac_rules.specs.Scanning.{deleted, front_of, scan, Moves};
 ghost use Rattle.trac_rules.specs.declared.limit.TheConstants.{JOURNAL_LIMIT};
 ghost use Rattle.trac_rules.specs.Limits.{texts_fit};
-ghost use Rattle.trac_rules.specs.Outcomes.{MayRefuse};
 ghost use Rattle.trac_rules.specs.Proper.{IsProper};
 ghost use Rattle.trac_rules.specs.Records.{Deleted, recorded};
-ghost use Rattle.trac_rules.specs.Stepping.{step};
+ghost use Rattle.trac_rules.specs.State.{Environment};
 ghost use Rattle.trac_step.specs.Calling.{IfMoves, IsMove, with_mark};
 ghost use Rattle.trac_step.specs.Kept.{IsCarriedOut};
 ghost use Rattle.trac_text.specs.Moving.{adds_mark};
-ghost use Rattle.trac_step.specs.Record.{recorded_by};
+ghost use Rattle.trac_step.specs.Record.{IsTaken, recorded_by};
 ghost use Rattle.trac_journal.specs.Told.{said_by};
 ghost use Rattle.trac_step.specs.Room.{IsNoLess, LacksRoomAhead};
 
@@ -100,12 +99,7 @@ impl<E: TwoEnds<u8, A>, M: TwoEnds<Mark, A>, A: Allocator + Copy> Core<E, M, A> 
     pub(crate) fn move_step(&mut self, front: Front) -> Result<Record<A>, Refusal>
         requires front { front ≡ front_of self.old.state.active }
         requires moves { IsMove (scan self.old.state) }
-        ensures taken { OnOk result ((environment : _) → step environment self.old.state ≡ Ok self.new.state) }
-        ensures recorded { IfOk result (λ r. recorded_by r ≡ recorded self.old.state) }
-        ensures refused { IfErr result (λ e.
-            (self.new.state ≡ self.old.state) × ((environment : _) → MayRefuse (step environment self.old.state) e)) }
-        ensures lacking { IfErr result (λ e. e ≡ Refusal.Memory → LacksRoomAhead self.old) }
-        ensures room { IsNoLess self.old self.new }
+        ensures { (environment : Environment) → IsTaken environment result self.old self.new }
     {
         if !self.move_fits(front) {
             return Err(Refusal::TooLong);
@@ -174,7 +168,7 @@ impl<E: TwoEnds<u8, A>, M: TwoEnds<Mark, A>, A: Allocator + Copy> Core<E, M, A> 
 
     // The first byte of the active text is deleted, and kept.
     #[inline(never)]
-    fn delete_into(&mut self, journal: &mut Journal<A>) -> Result<(), Refusal>
+    pub(crate) fn delete_into(&mut self, journal: &mut Journal<A>) -> Result<(), Refusal>
         requires moves { scan self.old.state ≡ Moves (deleted 1 self.old.state) }
         requires some { 0 < length self.old.state.active }
         requires told { recorded self.old.state ≡ Deleted (get_or self.old.state.active 0 0) }

@@ -1,18 +1,16 @@
 //! One step of the machine.
-ghost use Rattle.std.specs.Prelude.{◌≡◌, ◌<◌, ◌≤◌, ◌^◌, false, length, IfOk, IfErr, IsTrue, OnErr, OnOk, Ok, Some};
+ghost use Rattle.std.specs.Prelude.{◌≡◌, ◌<◌, ◌≤◌, ◌^◌, length, IfOk, IfErr, OnErr, OnOk, Ok, Some};
 ghost use Rattle.trac_rules.specs.declared.limit.TheConstants.{JOURNAL_LIMIT};
 ghost use Rattle.trac_rules.specs.Outcomes.{MayRefuse};
 ghost use Rattle.trac_rules.specs.Proper.{IsProper};
 ghost use Rattle.trac_rules.specs.Records.{CallRecord, Called, record_of, rest_before, rest_of, texts_before, texts_in};
-ghost use Rattle.trac_rules.specs.Scanning.{front_of, scan};
 ghost use Rattle.trac_rules.specs.State.{storage_of};
 ghost use Rattle.trac_rules.specs.Stepping.{step};
 ghost use Rattle.trac_rules.specs.Undone.{storage_before};
 ghost use Rattle.trac_rules.specs.Weights.{loss, weight};
 ghost use Rattle.trac_prims.specs.Tape.{environment_of};
-ghost use Rattle.trac_step.specs.Calling.{IsMove};
-ghost use Rattle.trac_step.specs.Kept.{IsKept, IsStepped};
-ghost use Rattle.trac_step.specs.Record.{before, recorded_by};
+ghost use Rattle.trac_step.specs.Kept.{CanStep, IsKept, IsStepped};
+ghost use Rattle.trac_step.specs.Record.{IsTaken, before, recorded_by};
 ghost use Rattle.trac_step.specs.Room.{HasRoom, IsNoLess, LacksRoomAhead};
 
 use crate::engine::Core;
@@ -96,8 +94,20 @@ impl<E: TwoEnds<u8, A>, M: TwoEnds<Mark, A>, A: Allocator + Copy> Core<E, M, A> 
         self.next_step_into(journal, tape, made)
     }
 
-    // Takes the next step and keeps its record, or changes nothing but rooms. A `)` inside a function performs that.
-    // Whatever else the active text begins with has a rule of scanning, which only one mark too many can refuse.
+    // The step itself. A `)` performs the innermost function. Whatever else the active text begins with has a rule of
+    // scanning, which only one mark too many can refuse.
+    fn next_step(&mut self, tape: Tape<'_>) -> Result<Record<A>, Refusal>
+        requires { self.old.state.position ≤ length tape.bytes.now }
+        ensures { IsTaken (environment_of self.old.width tape.entry) result self.old self.new }
+    {
+        let front = front_at(self.text.right());
+        if front == Front::Closing {
+            return self.close(tape);
+        }
+        self.move_step(front)
+    }
+
+    // The same, where its record is kept.
     #[inline(always)]
     fn next_step_into(
         &mut self,
@@ -105,16 +115,13 @@ impl<E: TwoEnds<u8, A>, M: TwoEnds<Mark, A>, A: Allocator + Copy> Core<E, M, A> 
         tape: Tape<'_>,
         made: &mut Made<A>,
     ) -> Result<(), Refusal>
-        requires position { self.old.state.position ≤ length tape.bytes.now }
-        requires short { length tape.bytes.now < 2 ^ 32 }
-        requires proper { IsProper self.old.state }
-        requires not_full { length journal.old.records < JOURNAL_LIMIT }
+        requires { CanStep (environment_of self.old.width tape) self.old journal.old }
         ensures { IsStepped (environment_of self.old.width tape.entry) result self.old self.new journal.old
             journal.new }
     {
         let front = front_at(self.text.right());
-        if self.performs(front) {
-            return self.call_step_into(journal, tape, made);
+        if front == Front::Closing {
+            return self.close_into(journal, tape, made);
         }
         if !self.move_fits(front) {
             return Err(Refusal::TooLong);
@@ -129,37 +136,5 @@ impl<E: TwoEnds<u8, A>, M: TwoEnds<Mark, A>, A: Allocator + Copy> Core<E, M, A> 
     {
         let _room = self.output.capacity();
         self.store.knows_its_forms();
-    }
-
-    // Whether the next step performs a function, where the active text has this front: a `)` inside a function.
-    fn performs(&self, front: Front) -> bool
-        requires { front ≡ front_of self.now.state.active }
-        ensures closing { IsTrue result → front_of self.now.state.active ≡ Front.Closing }
-        ensures inside { IsTrue result → 0 < length self.now.state.frames }
-        ensures moves { result ≡ false → IsMove (scan self.now.state) }
-    {
-        if front != Front::Closing {
-            return false;
-        }
-        !self.neutral().is_outside()
-    }
-
-    // The same, with the record returned.
-    fn next_step(&mut self, tape: Tape<'_>) -> Result<Record<A>, Refusal>
-        requires { self.old.state.position ≤ length tape.bytes.now }
-        ensures taken { OnOk result
-            (step (environment_of self.old.width tape.entry) self.old.state ≡ Ok self.new.state) }
-        ensures recorded { IfOk result
-            (λ r. record_of (environment_of self.old.width tape.entry) self.old.state ≡ Some (recorded_by r)) }
-        ensures refused { IfErr result (λ e. (self.new.state ≡ self.old.state)
-            × MayRefuse (step (environment_of self.old.width tape.entry) self.old.state) e) }
-        ensures lacking { IfErr result (λ e. e ≡ Refusal.Memory → LacksRoomAhead self.old) }
-        ensures room { IsNoLess self.old self.new }
-    {
-        let front = front_at(self.text.right());
-        if self.performs(front) {
-            return self.call_step(tape);
-        }
-        self.move_step(front)
     }
 }

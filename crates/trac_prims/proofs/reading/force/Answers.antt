@@ -1,9 +1,8 @@
 -- The text is the value, and it is forced.
-use Rattle.std.proofs.Common.{sym, ap, true, refl}
+use Rattle.std.proofs.Common.{sym, true, refl}
 use Rattle.std.proofs.lemmas.List.{append-nil}
 use Rattle.trac_rules.specs.Effect.{forces}
 use Rattle.trac_change.specs.declared.change.Change.TheVariants.{Point}
-use Rattle.trac_prims.specs.declared.effect.Deed.{Deed}
 use Rattle.trac_prims.specs.Effects.{nothing}
 use Rattle.trac_prims.proofs.Given.{unmoved_so}
 use Rattle.trac_prims.proofs.Kept.{as_said}

@@ -1,7 +1,5 @@
 -- The parts before the call are there: the lemmas of CallsUndone, at the machine's own lists.
-use Rattle.std.proofs.Common.{ℕ, ◌-◌, length, map, sym, ap, ◌∙◌, subst, arith}
-use Rattle.std.specs.Prelude.{take}
-use Rattle.trac_gap.specs.Window.{Window}
+use Rattle.std.proofs.Common.{length, map, sym, ap, subst, arith}
 use Rattle.trac_text.specs.Cuts.{function_count}
 use Rattle.trac_text.specs.MovingBack.{without_value}
 use Rattle.trac_step.specs.Layout.{IsSound, parts_of}
@@ -38,10 +36,8 @@ pub invariant_of-self : goal.invariant_of-self
 invariant_of-self g c =
     let i = c.self.inside in
     let p = parts_of (g.E.TwoEnds.ends c.self.inside.text) (g.M.TwoEnds.ends c.self.inside.marks) c.self.inside.store c.self.inside.meta c.self.inside.trace c.self.inside.position c.self.inside.output in
-    let cut = λ (n : ℕ). let w : Window ℕ = record i.output { items = take (n - c.args.called.printed) i.output.items } in w in
     let q_is = same_parts c.args.called c.args.arguments.now (g.E.TwoEnds.ends i.text) (g.E.TwoEnds.ends c.put_call.new.text) (g.M.TwoEnds.ends i.marks) (g.M.TwoEnds.ends c.put_call.new.marks) i.store
-    i.meta c.unwrap_or-meta.result i.trace i.position i.output c.truncate.new.self c.put_call.ensures.text c.put_call.ensures.marks c.put_call.ensures.mark_room c.unwrap_or-meta.ensures
-    (c.truncate.ensures ∙ ap cut c.len.ensures.len) in
+    i.meta c.unwrap_or-meta.result i.trace i.position i.output c.truncate.new.self c.put_call.ensures.text c.put_call.ensures.marks c.put_call.ensures.mark_room c.unwrap_or-meta.ensures c.len.result c.len.ensures.len c.truncate.ensures in
     let place = length (without_value c.args.called.scanned c.args.called.value (g.E.TwoEnds.ends i.text)).left in
     record {
       sound = subst IsSound (sym q_is) (sound_before c.args.called c.args.arguments.now p c.args.self.now c.self.invariant.sound c.self.view_is c.requires);
@@ -57,8 +53,6 @@ pub returns : goal.returns
 returns g c =
     let i = c.self.inside in
     let p = parts_of (g.E.TwoEnds.ends c.self.inside.text) (g.M.TwoEnds.ends c.self.inside.marks) c.self.inside.store c.self.inside.meta c.self.inside.trace c.self.inside.position c.self.inside.output in
-    let cut = λ (n : ℕ). let w : Window ℕ = record i.output { items = take (n - c.args.called.printed) i.output.items } in w in
     let q_is = same_parts c.args.called c.args.arguments.now (g.E.TwoEnds.ends i.text) (g.E.TwoEnds.ends c.put_call.new.text) (g.M.TwoEnds.ends i.marks) (g.M.TwoEnds.ends c.put_call.new.marks) i.store
-    i.meta c.unwrap_or-meta.result i.trace i.position i.output c.truncate.new.self c.put_call.ensures.text c.put_call.ensures.marks c.put_call.ensures.mark_room c.unwrap_or-meta.ensures
-    (c.truncate.ensures ∙ ap cut c.len.ensures.len) in
+    i.meta c.unwrap_or-meta.result i.trace i.position i.output c.truncate.new.self c.put_call.ensures.text c.put_call.ensures.marks c.put_call.ensures.mark_room c.unwrap_or-meta.ensures c.len.result c.len.ensures.len c.truncate.ensures in
     stands_again c.args.called c.args.arguments.now p c.args.self.now c.self.invariant.sound c.self.view_is c.requires _ q_is

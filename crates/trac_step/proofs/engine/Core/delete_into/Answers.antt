@@ -1,6 +1,4 @@
 use Rattle.std.proofs.Common.{◌∷◌, ◌∙◌, sym, ap}
-use Rattle.std.proofs.lemmas.Result.{err_from_is_err_and}
-use Rattle.std.specs.Prelude.{Err}
 use Rattle.trac_rules.specs.Records.{Deleted}
 use Rattle.trac_rules.specs.Scanning.{deleted}
 use Rattle.trac_step.proofs.Stepped.{carried_so, no_place}
@@ -8,8 +6,7 @@ use Rattle.trac_step.proofs.engine.Core.delete_into.Goals as goal
 
 pub returns-in_err-reserve_short : goal.returns-in_err-reserve_short
 returns-in_err-reserve_short g c =
-    let p = err_from_is_err_and c.from_residual.result c.from_residual.ensures.1 in
-    no_place c.from_residual.result c.args.self.now c.args.journal.now c.reserve_short.new.self (p.1 ∙ ap Err (p.2 ∙ c.in_err-reserve_short.ensures.err)) c.reserve_short.ensures.same c.in_err-reserve_short.ensures.full
+    no_place c.from_residual.result c.args.self.now c.args.journal.now c.reserve_short.new.self _ c.from_residual.ensures.1 c.in_err-reserve_short.ensures.err c.reserve_short.ensures.same c.in_err-reserve_short.ensures.full
 
 pub returns : goal.returns
 returns g c =

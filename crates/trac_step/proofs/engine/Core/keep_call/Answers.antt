@@ -20,10 +20,10 @@ push_call-requires g c =
     let called = c.args.plan.now.called in
     let given = c.arguments_at-arguments.ensures ∙ given_here (parts_of (g.E.TwoEnds.ends i.text) (g.M.TwoEnds.ends i.marks) i.store i.meta i.trace i.position i.output) c.args.self.now c.args.plan.now.beginning c.self.invariant.sound c.self.view_is c.requires.begins c.requires.front in
     record {
-      not_full = c.requires.not_full;
-      small = subst (λ (texts : List (List ℕ)). AreSmall called (length (concat texts)) (length texts)) (sym given) c.requires.fits.small;
-      light = subst (λ (texts : List (List ℕ)). IsLight (Called (record_with called texts (undone_in c.args.undone)))) (sym given) c.requires.fits.light;
-      room = subst (λ (texts : List (List ℕ)). HasPlaceForCall (length (concat texts)) (length texts - 1) c.args.journal.now) (sym given) c.requires.place;
+      not_full = c.requires.room.not_full;
+      small = subst (λ (texts : List (List ℕ)). AreSmall called (length (concat texts)) (length texts)) (sym given) c.requires.room.fits.small;
+      light = subst (λ (texts : List (List ℕ)). IsLight (Called (record_with called texts (undone_in c.args.undone)))) (sym given) c.requires.room.fits.light;
+      room = subst (λ (texts : List (List ℕ)). HasPlaceForCall (length (concat texts)) (length texts - 1) c.args.journal.now) (sym given) c.requires.room.place;
     }
 
 pub returns : goal.returns

@@ -16,8 +16,7 @@ push_short-requires-clause-fits g c = short_fits c.args.short c.args.self.now.st
 
 pub returns-in_err-reserve_short : goal.returns-in_err-reserve_short
 returns-in_err-reserve_short g c =
-    let p = err_from_is_err_and c.from_residual.result c.from_residual.ensures.1 in
-    no_place c.from_residual.result c.args.self.now c.args.journal.now c.reserve_short.new.self (p.1 ∙ ap Err (p.2 ∙ c.in_err-reserve_short.ensures.err)) c.reserve_short.ensures.same c.in_err-reserve_short.ensures.full
+    no_place c.from_residual.result c.args.self.now c.args.journal.now c.reserve_short.new.self _ c.from_residual.ensures.1 c.in_err-reserve_short.ensures.err c.reserve_short.ensures.same c.in_err-reserve_short.ensures.full
 
 pub returns-in_err-mark : goal.returns-in_err-mark
 returns-in_err-mark g c =

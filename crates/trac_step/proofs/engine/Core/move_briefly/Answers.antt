@@ -1,4 +1,4 @@
-use Rattle.std.proofs.Common.{◌≡◌, ◌<◌, ◌≤◌, length, sym, ap, ◌∙◌, arith, true, inl, inr}
+use Rattle.std.proofs.Common.{◌≡◌, ◌<◌, ◌≤◌, length, sym, ap, ◌∙◌, true, inl, inr}
 use Rattle.std.proofs.lemmas.Result.{on_err_weaker, on_ok_weaker}
 use Rattle.trac_forms.proofs.Going.{on_err}
 use Rattle.trac_rules.specs.declared.kind.Kind.TheVariants.{Active, Neutral}
@@ -7,7 +7,7 @@ use Rattle.trac_rules.specs.Scanning.{Moves, deleted, begun, comma_in}
 use Rattle.trac_rules.specs.Limits.{marks, texts_fit}
 use Rattle.trac_rules.specs.Records.{Deleted}
 use Rattle.trac_step.specs.Layout.{Shown}
-use Rattle.trac_step.proofs.Recorded.{argument_marks, closing_kept, lacks_a_mark, recorded_front}
+use Rattle.trac_step.proofs.Recorded.{argument_marks, closing_kept, lacks_a_mark, lacks_to_begin, recorded_front}
 use Rattle.trac_step.proofs.Scans.{scan_front}
 use Rattle.trac_step.proofs.Moving.{room_to_begin, room_for_argument, of_moves, closing_move}
 use Rattle.trac_step.proofs.engine.Core.move_briefly.Goals as goal
@@ -48,24 +48,16 @@ returns-in-Comma-clause-lacking g c =
     c.comma.ensures.full
 
 pub returns-in_ok-mark-in-ActiveCall-clause-ok : goal.returns-in_ok-mark-in-ActiveCall-clause-ok
-returns-in_ok-mark-in-ActiveCall-clause-ok g c =
-    scan_front c.args.self.now.state ActiveCall (sym c.requires.front ∙ c.in-ActiveCall.is) ∙ ap Moves (sym c.in_ok-mark-in-ActiveCall.ensures.ok)
+returns-in_ok-mark-in-ActiveCall-clause-ok g c = scan_front c.args.self.now.state ActiveCall (sym c.requires.front ∙ c.in-ActiveCall.is) ∙ ap Moves (sym c.in_ok-mark-in-ActiveCall.ensures.ok)
 
 pub returns-in_err-mark-in-ActiveCall-clause-lacking : goal.returns-in_err-mark-in-ActiveCall-clause-lacking
-returns-in_err-mark-in-ActiveCall-clause-lacking g c =
-    let s = c.args.self.now.state in
-    let scanned = scan_front s ActiveCall (sym c.requires.front ∙ c.in-ActiveCall.is) in
-    on_err _ (lacks_a_mark c.args.self.now (begun Active (deleted 2 s)) c.in_err-mark-in-ActiveCall.ensures.full (omega arith) scanned)
+returns-in_err-mark-in-ActiveCall-clause-lacking g c = on_err _ (lacks_to_begin Active 2 c.args.self.now c.in_err-mark-in-ActiveCall.ensures.full (scan_front _ ActiveCall (sym c.requires.front ∙ c.in-ActiveCall.is)))
 
 pub returns-in_ok-mark-in-NeutralCall-clause-ok : goal.returns-in_ok-mark-in-NeutralCall-clause-ok
-returns-in_ok-mark-in-NeutralCall-clause-ok g c =
-    scan_front c.args.self.now.state NeutralCall (sym c.requires.front ∙ c.in-NeutralCall.is) ∙ ap Moves (sym c.in_ok-mark-in-NeutralCall.ensures.ok)
+returns-in_ok-mark-in-NeutralCall-clause-ok g c = scan_front c.args.self.now.state NeutralCall (sym c.requires.front ∙ c.in-NeutralCall.is) ∙ ap Moves (sym c.in_ok-mark-in-NeutralCall.ensures.ok)
 
 pub returns-in_err-mark-in-NeutralCall-clause-lacking : goal.returns-in_err-mark-in-NeutralCall-clause-lacking
-returns-in_err-mark-in-NeutralCall-clause-lacking g c =
-    let s = c.args.self.now.state in
-    let scanned = scan_front s NeutralCall (sym c.requires.front ∙ c.in-NeutralCall.is) in
-    on_err _ (lacks_a_mark c.args.self.now (begun Neutral (deleted 3 s)) c.in_err-mark-in-NeutralCall.ensures.full (omega arith) scanned)
+returns-in_err-mark-in-NeutralCall-clause-lacking g c = on_err _ (lacks_to_begin Neutral 3 c.args.self.now c.in_err-mark-in-NeutralCall.ensures.full (scan_front _ NeutralCall (sym c.requires.front ∙ c.in-NeutralCall.is)))
 
 pub returns-in-Sharp-clause-ok : goal.returns-in-Sharp-clause-ok
 returns-in-Sharp-clause-ok g c = elim c.in-Sharp.is [

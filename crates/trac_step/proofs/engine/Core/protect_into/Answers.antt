@@ -1,6 +1,4 @@
-use Rattle.std.proofs.Common.{◌∷◌, ◌∙◌, ap, drop, sym}
-use Rattle.std.proofs.lemmas.Result.{err_from_is_err_and}
-use Rattle.std.specs.Prelude.{Err}
+use Rattle.std.proofs.Common.{◌∷◌, ◌∙◌, drop, sym}
 use Rattle.trac_rules.specs.declared.scan.Front.TheVariants.{Opening}
 use Rattle.trac_rules.specs.Matching.{protected}
 use Rattle.trac_rules.specs.Records.{Quoted}
@@ -20,8 +18,7 @@ push_short-requires-clause-fits g c =
 
 pub returns-in_err-reserve_short : goal.returns-in_err-reserve_short
 returns-in_err-reserve_short g c =
-    let p = err_from_is_err_and c.from_residual.result c.from_residual.ensures.1 in
-    no_place c.from_residual.result c.args.self.now c.args.journal.now c.reserve_short.new.self (p.1 ∙ ap Err (p.2 ∙ c.in_err-reserve_short.ensures.err)) c.reserve_short.ensures.same c.in_err-reserve_short.ensures.full
+    no_place c.from_residual.result c.args.self.now c.args.journal.now c.reserve_short.new.self _ c.from_residual.ensures.1 c.in_err-reserve_short.ensures.err c.reserve_short.ensures.same c.in_err-reserve_short.ensures.full
 
 pub returns : goal.returns
 returns g c =

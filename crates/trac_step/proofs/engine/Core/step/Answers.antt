@@ -1,9 +1,7 @@
-use Rattle.std.proofs.lemmas.Result.{on_ok_weaker}
-use Rattle.trac_rules.proofs.ProperStates.{step_proper}
 use Rattle.trac_prims.specs.Tape.{environment_of}
 use Rattle.trac_step.specs.Record.{recorded_by}
-use Rattle.trac_step.proofs.Recorded.{rest_is_back, storage_is_back, taken_and_before, texts_are_back, weighs_within}
-use Rattle.trac_step.proofs.Rooms.{HasRoom-kept}
+use Rattle.trac_step.proofs.Recorded.{proper_after, rest_is_back, storage_is_back, taken_and_before, texts_are_back, weighs_within}
+use Rattle.trac_step.proofs.Rooms.{held_after}
 use Rattle.trac_step.proofs.engine.Core.step.Goals as goal
 
 pub returns-clause-taken : goal.returns-clause-taken
@@ -27,12 +25,7 @@ returns-clause-rest g c =
     rest_is_back recorded_by (environment_of c.args.self.now.width c.args.tape) c.args.self.now.state c.next_step.new.self.state c.next_step.result c.next_step.ensures.taken c.next_step.ensures.recorded
 
 pub returns-clause-proper : goal.returns-clause-proper
-returns-clause-proper g c =
-    on_ok_weaker c.next_step.result (λ h. step_proper (environment_of c.args.self.now.width c.args.tape) c.args.self.now.state c.next_step.new.self.state c.is_in_its_room.ensures.proper h)
-    c.next_step.ensures.taken
+returns-clause-proper g c = proper_after c.next_step.result (environment_of c.args.self.now.width c.args.tape) c.args.self.now.state c.next_step.new.self.state c.is_in_its_room.ensures.proper c.next_step.ensures.taken
 
 pub returns-clause-held : goal.returns-clause-held
-returns-clause-held g c =
-    on_ok_weaker c.next_step.result
-    (λ h. HasRoom-kept c.args.self.now c.next_step.new.self c.args.self.now.state c.next_step.ensures.room c.is_in_its_room.ensures.room)
-    c.next_step.ensures.taken
+returns-clause-held g c = held_after c.next_step.result _ c.args.self.now c.next_step.new.self c.args.self.now.state c.next_step.ensures.room c.is_in_its_room.ensures.room c.next_step.ensures.taken

@@ -1,9 +1,16 @@
-use Rattle.std.proofs.lemmas.Result.{on_ok_weaker}
-use Rattle.trac_rules.proofs.ProperStates.{step_proper}
 use Rattle.trac_prims.specs.Tape.{environment_of}
 use Rattle.trac_step.proofs.Fitting.{kept_by}
-use Rattle.trac_step.proofs.Rooms.{HasRoom-kept}
+use Rattle.trac_step.proofs.Recorded.{proper_after}
+use Rattle.trac_step.proofs.Rooms.{held_after}
 use Rattle.trac_step.proofs.engine.Core.step_into.Goals as goal
+
+pub next_step_into-requires : goal.next_step_into-requires
+next_step_into-requires g c = record {
+  proper = c.is_in_its_room.ensures.proper;
+  position = c.requires.position;
+  short = c.requires.short;
+  not_full = c.requires.not_full;
+}
 
 pub returns-clause-kept : goal.returns-clause-kept
 returns-clause-kept g c =
@@ -11,12 +18,7 @@ returns-clause-kept g c =
     c.is_in_its_room.ensures.proper c.next_step_into.ensures.taken c.next_step_into.ensures.kept
 
 pub returns-clause-proper : goal.returns-clause-proper
-returns-clause-proper g c =
-    on_ok_weaker c.next_step_into.result (λ h. step_proper (environment_of c.args.self.now.width c.args.tape) c.args.self.now.state c.next_step_into.new.self.state c.is_in_its_room.ensures.proper h)
-    c.next_step_into.ensures.taken
+returns-clause-proper g c = proper_after c.next_step_into.result (environment_of c.args.self.now.width c.args.tape) c.args.self.now.state c.next_step_into.new.self.state c.is_in_its_room.ensures.proper c.next_step_into.ensures.taken
 
 pub returns-clause-held : goal.returns-clause-held
-returns-clause-held g c =
-    on_ok_weaker c.next_step_into.result
-    (λ h. HasRoom-kept c.args.self.now c.next_step_into.new.self c.args.self.now.state c.next_step_into.ensures.room c.is_in_its_room.ensures.room)
-    c.next_step_into.ensures.taken
+returns-clause-held g c = held_after c.next_step_into.result _ c.args.self.now c.next_step_into.new.self c.args.self.now.state c.next_step_into.ensures.room c.is_in_its_room.ensures.room c.next_step_into.ensures.taken

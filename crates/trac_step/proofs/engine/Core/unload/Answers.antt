@@ -30,18 +30,13 @@ invariant_of-self g c =
           ∙ sym (counted_read (marked_in (g.E.TwoEnds.ends c.put_functions.new.text) (g.M.TwoEnds.ends c.put_functions.new.marks)) _ back.same);
     }
 
-pub returns-clause-state : goal.returns-clause-state
-returns-clause-state g c =
+pub returns : goal.returns
+returns g c =
     let back = c.put_functions.ensures in
     let shows = back_shows (g.E.TwoEnds.ends c.self.inside.text) (g.E.TwoEnds.ends c.put_functions.new.text) (g.M.TwoEnds.ends c.self.inside.marks) (g.M.TwoEnds.ends c.put_functions.new.marks)
     c.self.inside.store c.self.inside.meta c.self.inside.trace c.self.inside.position c.self.inside.output c.args.base.now (frames_in c.args.functions.items) c.args.self.now
     c.self.view_is back.right back.text_room back.mark_room back.same in
-    (can_leave c.args.base.now (frames_in c.args.functions.items) c.args.self.now c.requires).state ∙ ap (λ (m : Shown). Some m.state) (sym shows)
-
-pub returns-clause-others : goal.returns-clause-others
-returns-clause-others g c =
-    let back = c.put_functions.ensures in
-    let shows = back_shows (g.E.TwoEnds.ends c.self.inside.text) (g.E.TwoEnds.ends c.put_functions.new.text) (g.M.TwoEnds.ends c.self.inside.marks) (g.M.TwoEnds.ends c.put_functions.new.marks)
-    c.self.inside.store c.self.inside.meta c.self.inside.trace c.self.inside.position c.self.inside.output c.args.base.now (frames_in c.args.functions.items) c.args.self.now
-    c.self.view_is back.right back.text_room back.mark_room back.same in
-    subst (λ (m : Shown). m ≡ record c.args.self.now { state = m.state }) (sym shows) refl
+    record {
+      state = (can_leave c.args.base.now (frames_in c.args.functions.items) c.args.self.now c.requires).state ∙ ap (λ (m : Shown). Some m.state) (sym shows);
+      others = subst (λ (m : Shown). m ≡ record c.args.self.now { state = m.state }) (sym shows) refl;
+    }

@@ -1,0 +1,86 @@
+use Rattle.std.proofs.Common.{◌≡◌, ◌≤◌, refl, sym, subst}
+use Rattle.std.proofs.lemmas.Result.{err_from_is_err_and}
+use Rattle.trac_rules.specs.declared.refusal.Refusal.TheVariants.{Memory}
+use Rattle.trac_rules.specs.Outcomes.{MayRefuse}
+use Rattle.trac_rules.specs.Records.{record_of}
+use Rattle.trac_rules.specs.Scanning.{scan}
+use Rattle.trac_rules.specs.State.{storage_of}
+use Rattle.trac_rules.specs.Stepping.{step}
+use Rattle.trac_change.specs.Changes.{undone_of}
+use Rattle.trac_prims.specs.Tape.{environment_of}
+use Rattle.trac_step.specs.Calling.{state_after}
+use Rattle.trac_step.specs.Ready.{IsFound, recorded_after}
+use Rattle.trac_step.specs.Room.{LacksRoomAhead}
+use Rattle.trac_step.proofs.Beginnings.{some_frame}
+use Rattle.trac_step.proofs.Fitting.{added_as, call_fits}
+use Rattle.trac_step.proofs.Moving.{closing_fits, closing_move, closing_outside}
+use Rattle.trac_step.proofs.Outcomes.{if_err_always, refused_for_memory, taken_by, taken_lacks}
+use Rattle.trac_step.proofs.Recorded.{call_lacks_nothing, closing_kept}
+use Rattle.trac_step.proofs.Rooms.{no_less}
+use Rattle.trac_step.proofs.Stepped.{stepped}
+use Rattle.trac_step.proofs.engine.Core.close_into.Goals as goal
+
+pub returns-in_err-plan : goal.returns-in_err-plan
+returns-in_err-plan g c =
+    let p = err_from_is_err_and c.from_residual.result c.from_residual.ensures.1 in
+    rw p.1 (record {
+      taken = tt;
+      kept = tt;
+      refused = subst (MayRefuse (step (environment_of c.args.self.now.width c.args.tape) c.args.self.now.state)) (sym p.2) c.in_err-plan.ensures.refused;
+      unchanged = (refl, refl);
+      lacking = λ is place. call_lacks_nothing c.args.self.now c.requires.front c.in_err-plan.ensures.inside;
+      room = no_less c.args.self.now;
+    })
+
+-- ---- no function is begun
+
+pub delete_into-requires-clause-moves : goal.delete_into-requires-clause-moves
+delete_into-requires-clause-moves g c =
+    let s = c.args.self.now.state in
+    let none = subst (IsFound (environment_of c.args.self.now.width c.args.tape) s c.planned.new.made c.planned.new.change) c.in_default.is c.in_ok-plan.ensures.planned in
+    closing_move s c.requires.front (closing_outside s c.requires.front none)
+
+pub delete_into-requires-clause-told : goal.delete_into-requires-clause-told
+delete_into-requires-clause-told g c = closing_kept c.args.self.now.state c.requires.front
+
+pub returns-in_default : goal.returns-in_default
+returns-in_default g c =
+    let s = c.args.self.now.state in
+    let e = environment_of c.args.self.now.width c.args.tape in
+    let none = subst (IsFound e s c.planned.new.made c.planned.new.change) c.in_default.is c.in_ok-plan.ensures.planned in
+    stepped e c.delete_into.result c.args.self.now c.delete_into.new.self c.args.journal.now c.delete_into.new.journal (closing_outside s c.requires.front none)
+    (closing_fits s c.requires.can.proper c.requires.front none) c.delete_into.ensures
+
+-- ---- the innermost function is performed
+
+pub perform_into-requires-clause-ready : goal.perform_into-requires-clause-ready
+perform_into-requires-clause-ready g c =
+    (subst (IsFound (environment_of c.args.self.now.width c.args.tape) c.args.self.now.state c.planned.new.made c.planned.new.change) c.in-Some.is c.in_ok-plan.ensures.planned).ready
+
+pub perform_into-requires-clause-fits : goal.perform_into-requires-clause-fits
+perform_into-requires-clause-fits g c =
+    let s = c.args.self.now.state in
+    let e = environment_of c.args.self.now.width c.args.tape in
+    let plan = c.in-Some.plan in
+    let planned = subst (IsFound e s c.planned.new.made c.planned.new.change) c.in-Some.is c.in_ok-plan.ensures.planned in
+    let can = c.requires.can in
+    call_fits e s (state_after plan c.planned.new.made c.planned.new.change (scan s)) plan.called (undone_of c.planned.new.change (storage_of s)) can.proper
+    planned.ready.proper c.requires.front (some_frame s.frames s.base plan.beginning planned.ready.begins) can.position can.short planned.taken planned.recorded
+
+pub returns : goal.returns
+returns g c =
+    let s = c.args.self.now.state in
+    let e = environment_of c.args.self.now.width c.args.tape in
+    let plan = c.in-Some.plan in
+    let planned = subst (IsFound e s c.planned.new.made c.planned.new.change) c.in-Some.is c.in_ok-plan.ensures.planned in
+    let t = state_after plan c.planned.new.made c.planned.new.change (scan s) in
+    let done = c.perform_into.ensures in
+    record {
+      taken = taken_by c.perform_into.result (step e s) t c.perform_into.new.self.state planned.taken done.done;
+      kept = added_as c.perform_into.result (record_of e s) (recorded_after plan c.planned.new.change s) c.args.journal.now.records c.perform_into.new.journal.records planned.recorded done.added;
+      refused = refused_for_memory c.perform_into.result (λ refusal. MayRefuse (step e s) refusal) done.unchanged done.err (λ same. taken_lacks (step e s) t planned.taken);
+      unchanged = done.unchanged;
+      lacking = if_err_always c.perform_into.result (λ refusal. refusal ≡ Memory → 1 ≤ c.args.journal.now.places → LacksRoomAhead c.args.self.now)
+          (λ refusal is place. call_lacks_nothing c.args.self.now c.requires.front (some_frame s.frames s.base plan.beginning planned.ready.begins));
+      room = done.room;
+    }
