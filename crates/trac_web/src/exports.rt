@@ -3,7 +3,8 @@ ghost use Rattle.std.specs.Prelude.{◌≤◌};
 ghost use Rattle.trac_findings.specs.declared.report.TheConstants.{PLACE_LIMIT};
 ghost use Rattle.trac_web.specs.declared.outcome.Outcome.TheVariants.{WrongBudget, WrongJournal};
 ghost use Rattle.trac_web.specs.Replies.{Answers};
-ghost use Rattle.trac_web.specs.Requests.{IsBudget, IsJournal, Tells, WritesDoubts, WritesReplies, WritesRun, WritesTalk};
+ghost use Rattle.trac_web.specs.Requests.{IsBudget, IsJournal, Tells};
+ghost use Rattle.trac_web.specs.Requests.{WritesDoubts, WritesReplies, WritesRun, WritesTalk};
 ghost use Rattle.trac_web.specs.Ways.{AnswersWay};
 
 use crate::doubting::doubts_text;

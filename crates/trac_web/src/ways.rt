@@ -30,8 +30,8 @@ pub struct Spot<'a> {
     pub name: &'a [u8],
 }
 
-/// Goes to a step of a program with all of its input, and follows what stands at a place there back. Returns the rows of
-/// its way. The error is why there are none.
+/// Goes to a step of a program with all of its input, and follows what stands at a place there back. Returns the rows
+/// of its way. The error is why there are none.
 pub fn way_text<A: Allocator + Copy>(
     alloc: A,
     tape: &[u8],
