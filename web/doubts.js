@@ -19,7 +19,7 @@ function doubtsSaid(bytes, tape) {
   return doubts;
 }
 
-// What a note adds to the words of a doubt: which parenthesis may be wrong, and where.
+// What a note adds to the words of a doubt: which parenthesis may be wrong, or where a form of nearly the name is defined.
 function noteSaid([, line, column, missing, surplus, why]) {
   const where = `line ${line}, column ${column}`;
   return missing ? `${missing} at ${where}` : `the ${surplus} at ${where} ${why}`;

@@ -10,6 +10,7 @@ import advice
 
 IDLE = b"#(ps,#(rs))"
 DELETED = b"\r\n\t"
+DIGITS = b"0123456789"
 
 # How many arguments a primitive uses, its name not counted; None: all that there are. `cl` is judged by its form.
 USES = {
@@ -32,7 +33,7 @@ class Gap:
 
 class Form:
     def __init__(self, items):
-        self.items, self.pointer = list(items), 0
+        self.items, self.pointer, self.defined = list(items), 0, None
 
     def copy(self):
         form = Form(self.items)
@@ -194,7 +195,11 @@ class Machine:
         is_active, arguments, begun = self.frames[-1]
         call = Call(self, arguments, begun)
         self.judge(call)
+        before = {name: form.defined for name, form in self.forms.items()}
         value, is_forced = call.perform()
+        for name, form in self.forms.items():
+            new = call.argument(1)[0][1] if name and name == call.text(1) else None
+            form.defined = before.get(name, new)
         self.frames.pop()
         self.active.pop()
         if is_active or is_forced:
@@ -211,6 +216,16 @@ class Machine:
             self.doubts.append((place, words, self.steps))
             if kind in ("opening", "closing") or kind[0] == "unended":
                 self.advise()
+            if kind == "no form":
+                self.tell_near()
+
+    def tell_near(self):
+        """Notes where the form is defined whose name is nearly that of which there is none."""
+        name = bytes_of(self.frames[-1][1][1]) if len(self.frames[-1][1]) > 1 else b""
+        near = sorted((not is_same, other) for other in self.forms for is_same in [bare(other) == bare(name)]
+                      if is_same or is_slip(bare(other), bare(name)))
+        if near and self.forms[near[0][1]].defined is not None:
+            self.doubts.append((self.forms[near[0][1]].defined, b"note: a form of nearly this name is defined here", None))
 
     def advise(self):
         """Notes which parenthesis is probably wrong in the text that the idle program read last, once for each text."""
@@ -252,6 +267,29 @@ class Machine:
                 if call.text(k) and not call.cut(form, k)[1]:
                     words = b"argument %d of %s is nowhere in the form %s" % (k, says, first)
                     self.doubt(("nowhere", k), call.place(k), words)
+
+
+def bare(name):
+    return bytes(byte for byte in name.lower() if byte not in b" \t\r\n")
+
+
+def is_slip(one, other):
+    """Whether a name of five bytes or more becomes the other one by one byte more or less, another one, or two swapped, which
+    are not digits."""
+    shorter, longer = sorted([one, other], key=len)
+    if len(shorter) < 5:
+        return False
+    if len(longer) == len(shorter) + 1:
+        return any(longer[:i] + longer[i + 1 :] == shorter and longer[i] not in DIGITS for i in range(len(longer)))
+    if len(longer) > len(shorter):
+        return False
+    wrong = [i for i in range(len(one)) if one[i] != other[i]]
+    if not wrong or all(one[i] in DIGITS and other[i] in DIGITS for i in wrong):
+        return False
+    return len(wrong) == 1 or (
+        len(wrong) == 2 and wrong[1] == wrong[0] + 1
+        and one[wrong[0]] == other[wrong[1]] and one[wrong[1]] == other[wrong[0]]
+    )
 
 
 def unended(count):

@@ -10,7 +10,7 @@ import sys
 
 import model
 
-FORMS = ["F", "G", "H", "ps", ""]
+FORMS = ["F", "G", "H", " F", "forms", "froms", "ps", ""]
 NAMES = sorted(model.USES) + ["pr", "PS", "Cl", " ps", "cal", "", "F", "G"]
 CLOSED = ["ps", "cl", "ds", "ss", "ad", "dv", "eq", "cs", "cc", "cn", "in", "sb", "fb"]
 TEXTS = ["a", "b", "x", "ab", "7", "-3", "12", "x5", "0", "", "9" * 40, "a b", "\n", ",", "(a,b)", ";"]
@@ -40,7 +40,7 @@ class Author:
         count = self.random.choice([0, 1, 2, 2, 3, 3, 4, 5])
         arguments = [self.argument(depth) for _ in range(count)]
         if arguments and self.random.random() < 0.7 and name.lower() in model.NEED_FORM | {"ds", "sb"}:
-            arguments[0] = self.random.choice(FORMS[:3])
+            arguments[0] = self.random.choice(FORMS[:6])
         sign = self.random.choice(["#(", "#(", "##("])
         return sign + ",".join([name] + arguments) + self.random.choice([")"] * 30 + ["", "))"])
 

@@ -120,6 +120,17 @@ def press_in(page, selector, *keys):
         page.press(key)
 
 
+def check_noted(page):
+    """A note goes on with its doubt: where the form is that was probably meant, or which parenthesis is probably wrong."""
+    for program, wanted in (
+        ("#(ds,greeting,hi)'#(cl,greting)'", "no form is named greting; a form of nearly this name is defined at line 1, column 6"),
+        ("a)b'", ") ends no call; the ) at line 1, column 2 may be one too many"),
+    ):
+        page.type(program)
+        page.run()
+        page.until("document.querySelector('#doubts .doubt')?.textContent === " + json.dumps(wanted), "the note: " + wanted)
+
+
 def check_heard(page):
     """What was asked for is said: a call that one goes to, where a byte comes from, how much is doubted, and what is opened."""
     page.script(SAID)
@@ -149,6 +160,6 @@ def check_reading(kind, file):
     """All that, in Chromium."""
     with opened(kind, file) as page:
         all_named(page, "at the start")
-        for part in (check_stored, check_named, check_changes, check_said, check_heard):
+        for part in (check_stored, check_named, check_changes, check_said, check_noted, check_heard):
             part(page)
             page.well(part.__name__)

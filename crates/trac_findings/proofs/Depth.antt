@@ -1,7 +1,6 @@
 -- How many `(` of a front of a text have no match in it.
 use Rattle.std.proofs.Common.{◌≡◌, ℕ, ◌+◌, ◌<◌, ◌≢◌, List, length, take, get_or, zero, suc, true, false, refl, ap, ◌∙◌, ◌≤◌, ⊎_elim, arith}
 use Rattle.std.proofs.lemmas.Bool.{cases_lt}
-use Rattle.std.proofs.lemmas.List.{take_all}
 use Rattle.std.specs.Prelude.{Option, None, Some, is_some}
 use Rattle.std.specs.Option.{option_to_list}
 use Rattle.trac_rules.specs.declared.byte.TheConstants.{OPENING, CLOSING}
@@ -57,18 +56,3 @@ fronts_further text i depth fronts deep n within = ⊎_elim
     let same : n ≡ i + 1 = omega (arith, last, within) in
     omega (arith, deep, ap (λ k. count_of CLOSING (take k text)) same, ap (λ k. count_of OPENING (take k text)) same))
     (cases_lt n (i + 1))
-
--- a whole text is balanced if none of its `(` lacks its match
-pub whole_balanced : (text : List ℕ) (i : ℕ) → HasFronts text i → IsDeep text i 0 → i ≡ length text → IsBalanced text
-whole_balanced text i fronts deep all =
-    let whole : take i text ≡ text = ap (λ k. take k text) all ∙ take_all (length text) text (omega arith) in
-    let even : count_of OPENING text ≡ count_of CLOSING text = omega (arith, deep, ap (count_of OPENING) whole, ap (count_of CLOSING) whole) in
-    record {
-      even = even;
-      fronts = λ n. ⊎_elim
-          (λ (within : n < i + 1). fronts n (omega (arith, within)))
-          (λ (past : i + 1 ≤ n).
-          let same : take n text ≡ text = take_all n text (omega (arith, past, all)) in
-          omega (arith, even, ap (count_of OPENING) same, ap (count_of CLOSING) same))
-          (cases_lt n (i + 1));
-    }

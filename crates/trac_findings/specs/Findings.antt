@@ -21,12 +21,12 @@ line_text place words step =
 abbrev pub note_text : List ℕ → List ℕ → List ℕ
 note_text place words = place ++ (codes ": note: " ++ (words ++ feed))
 
--- the last line, where so many places more are not told
+-- the last line, if so many places more are not told
 abbrev pub more_text : ℕ → List ℕ
 more_text more =
     codes ".. and " ++ (decimal more ++ (codes " more place" ++ ((if nat_lt 1 more then codes "s" else []) ++ feed)))
 
--- so many places are told by a text: no more than are, and none just where it is empty
+-- so many places are told by a text: no more than are, and none exactly if it is empty
 pub record IsReport (told : ℕ) (text : List ℕ) : Type 0 where
   pub most : told ≤ PLACE_LIMIT
   pub none : told ≡ 0 → text ≡ []
@@ -37,7 +37,7 @@ pub record Lines : Type 0 where
   pub told : ℕ
   pub text : List ℕ
 
--- what was found is written: nothing just where no place is told, but for a writer that fails
+-- what was found is written: nothing exactly if no place is told, but for a writer that fails
 pub record IsWritten (old new : Option (List ℕ)) (found : Found) : Type 0 where
   pub written : List ℕ
   pub gave : Appends old new written

@@ -40,8 +40,8 @@ pub struct Found {
 }
 
 impl Found {
-    /// The exit status of the program: 2 where the program was not run, or was refused memory, or its doubts were not
-    /// written; else 1 where there are some, and 0 for none.
+    /// The exit status of the program: 2 if the program was not run, or was refused memory, or its doubts were not
+    /// written. Else it is 1 if there are some, and 0 for none.
     pub fn status(&self) -> u8
         ensures { result ≡ status_of self.now }
     {
@@ -149,7 +149,7 @@ impl<A: Allocator + Copy> Report<A> {
     }
 }
 
-/// Writes the lines of a report, and flushes: what was found by a run that ended so, or `Write` where the writer fails.
+/// Writes the lines of a report, and flushes: what was found by a run that ended so, or `Write` if the writer fails.
 #[tactic(auto, using(crate::proofs::Written::all_is_written, crate::proofs::Written::front_is_written))]
 pub fn write_found<W: Write, A: Allocator + Copy>(
     output: &mut W,

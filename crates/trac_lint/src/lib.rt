@@ -4,6 +4,7 @@
 
 mod linting;
 mod memory;
+mod near;
 mod origins;
 mod scout;
 mod texts;

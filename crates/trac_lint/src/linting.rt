@@ -4,6 +4,7 @@ ghost use Rattle.trac_findings.specs.Findings.{IsWritten};
 ghost use Rattle.trac_findings.specs.declared.report.TheConstants.{PLACE_LIMIT};
 
 use crate::memory::{Meeting, Memory, kind_of, number_of};
+use crate::near::{definition_of, near_name};
 use crate::origins::Origins;
 use crate::scout::Run;
 use crate::texts::{read_number, text_before, text_read};
@@ -19,6 +20,12 @@ use trac_walk::{Aim, Walker};
 
 // What is said beside a doubt of which no place is known, after its words.
 const UNPLACED: &[u8] = b"; its place is not known: this text was read last";
+
+// What is said where a form is defined that has nearly the name of which there is none.
+const NEAR: &[u8] = b"a form of nearly this name is defined here";
+
+// To look at the name of a form counts for so many steps that are gone over.
+const NAME_STEPS: u64 = 8;
 
 // The call that reads a text.
 const READ: &[&[u8]] = &[b"rs"];
@@ -50,14 +57,14 @@ struct Linter<'s, A: Allocator + Copy> {
     more: u64,
 }
 
-/// Runs a program to its end, by so many steps at most, and writes a line for each doubt, once for each place: the
-/// file, the line and the column, what is doubtful, and the number of the step. What the program prints is thrown away.
-/// After 1,000 places it says how many more there are.
+/// Runs a program to its end, by so many steps at most, and writes a line for each doubt, once for each place. Each
+/// line has the file, the line and the column, what is doubtful, and the number of the step. What the program prints is
+/// thrown away. After 1,000 places it says how many more there are.
 ///
-/// It ends with `Ended` where the program does, or waits for more than the files have; with `Spent` after so many
-/// steps; with `Limit` where a step would pass a limit; with `TooLong`, and nothing done, where the files have more
-/// than 33,554,432 bytes; with `Memory` where memory is refused, once what was found is written; and with `Write` where
-/// the writer fails.
+/// It ends with `Ended` if the program does, or waits for more than the files have. It ends with `Spent` after so many
+/// steps, and with `Limit` if a step would pass a limit. It ends with `TooLong`, and nothing done, if the files have
+/// more than 33,554,432 bytes. It ends with `Memory` if memory is refused, once what was found is written; and with
+/// `Write` if the writer fails.
 pub fn lint<W: Write, A: Allocator + Copy>(
     alloc: A,
     sources: Sources<'_>,
@@ -165,7 +172,7 @@ impl<'s, A: Allocator + Copy> Linter<'s, A> {
         }
     }
 
-    // Tells a doubt of the state at which it stands in these words, unless it was told, or counts it where no more are
+    // Tells a doubt of the state at which it stands in these words, unless it was told, or counts it if no more are
     // told. One of which no place is known has that of the text that was read last, which is said, and is not counted.
     fn tell(
         &mut self,
@@ -194,10 +201,43 @@ impl<'s, A: Allocator + Copy> Linter<'s, A> {
         };
         let spot = self.origins.sources.spot(number);
         report.tell(self.alloc, spot, words.bytes(), self.walker.step())?;
-        if is_of_parenthesis(doubt) {
-            self.advise(report)?;
+        match doubt {
+            Doubt::NoForm => self.tell_near(report),
+            Doubt::Unended(_) | Doubt::Unclosed | Doubt::EndsNothing => self.advise(report),
+            _ => Ok(()),
+        }
+    }
+
+    // Says where the form is defined that has nearly the name of which there is none. It goes back, and forward again.
+    fn tell_near(&mut self, report: &mut Report<A>) -> Result<(), Refusal>
+        requires { 0 < report.old.told }
+        ensures { report.new.told ≡ report.old.told }
+    {
+        if !self.origins.is_counting() {
+            return Ok(());
+        }
+        let forms = self.walker.sight().store.form_count() as u64;
+        self.origins.spend(forms.saturating_mul(NAME_STEPS));
+        let Some(name) = near_name(self.alloc, &self.walker)? else {
+            return Ok(());
+        };
+        if let Some(number) = self.definition(name.as_slice())? {
+            let spot = self.origins.sources.spot(number);
+            report.note(self.alloc, spot, NEAR)?;
         }
         Ok(())
+    }
+
+    // The number of the first byte of this name where the form is defined that has it; none if that is not known.
+    fn definition(&mut self, name: &[u8]) -> Result<Option<u64>, Refusal> {
+        let end = self.walker.step();
+        if let Some(place) = definition_of(self.alloc, &mut self.walker, name)? {
+            return self.origins.number_at(&mut self.walker, place, end);
+        }
+        match self.walker.go_to(end) {
+            Some(refusal) => Err(refusal),
+            None => Ok(None),
+        }
     }
 
     // Says which parenthesis is probably wrong in the text that the idle program read last, once for each text.
@@ -242,7 +282,7 @@ impl<'s, A: Allocator + Copy> Linter<'s, A> {
         }
     }
 
-    // Counts a doubt that is not told, of the byte of this number, where one is known.
+    // Counts a doubt that is not told, of the byte of this number, if one is known.
     fn count(&mut self, doubt: Doubt, number: Option<u64>) -> Result<(), Refusal> {
         if let Some(number) = number {
             self.memory.keep(doubt, number)?;
@@ -272,14 +312,6 @@ fn halt_of(refusal: Refusal, steps: u64) -> Halt {
 // Whether the `rs` that comes next is that of the idle program, which reads a text to be scanned.
 fn reads_text(glance: Glance) -> bool {
     glance.depth == 2 && glance.rest == 2
-}
-
-// Whether a doubt comes of a parenthesis that is missing or one too many.
-fn is_of_parenthesis(doubt: Doubt) -> bool {
-    matches!(
-        doubt,
-        Doubt::Unended(_) | Doubt::Unclosed | Doubt::EndsNothing
-    )
 }
 
 // What is said of a doubt of the next step. The error is that memory was refused.

@@ -76,8 +76,8 @@ impl<A: Allocator + Copy> Memory<A> {
         }
     }
 
-    /// Whether this doubt of the byte of this number is kept, or, where none is known, it was told in these words or
-    /// enough of its kind were told so. Where no more places can be kept, each is taken for one that is.
+    /// Whether this doubt of the byte of this number is kept; or, if no number is known, whether it was told in these
+    /// words or enough of its kind were told so. If no more places can be kept, each is taken for one that is.
     pub(crate) fn is_kept(&self, doubt: Doubt, number: Option<u64>, words: &[u8]) -> bool {
         match number {
             Some(number) => {

@@ -5,6 +5,7 @@ use crate::track::{Next, Track};
 use crate::ways::{Post, Ways};
 use std::alloc::Allocator;
 use trac_findings::Sources;
+use trac_follow::Place;
 use trac_rules::doubt::Doubt;
 use trac_rules::refusal::Refusal;
 use trac_walk::{Walker, place_of};
@@ -21,7 +22,7 @@ const COUNTED_WAYS: u64 = 20_000_000;
 // A way counts for so many steps at least.
 const LEAST_WAY: u64 = 64;
 
-// The walker that looks for doubts goes back so far at most where a scout can go to instead.
+// The walker that looks for doubts goes back so far at most, if a scout can go further back instead.
 const NEAR: u64 = 65_536;
 
 /// Finds from which bytes of the files the bytes come that doubts are about.
@@ -67,9 +68,9 @@ impl<'s, A: Allocator + Copy> Origins<'s, A> {
         self.left == 0
     }
 
-    /// The number of the byte of the files from which that of a doubt of the next step comes, the first being number
-    /// 0; none where too many steps were gone over. It goes back, and forward again; the refusal is of a step on that
-    /// way.
+    /// The number of the byte of the files from which that of a doubt of the next step comes, the first being number 0.
+    /// None if too many steps were gone over. It goes back, and forward again; the refusal is of a step on that way,
+    /// here and below.
     pub(crate) fn number(
         &mut self,
         walker: &mut Walker<A>,
@@ -80,6 +81,17 @@ impl<'s, A: Allocator + Copy> Origins<'s, A> {
         }
         let end = walker.step();
         let place = place_of(walker, doubt);
+        self.number_at(walker, place, end)
+    }
+
+    /// The same for the byte at a place of the state at which a walker stands, which has gone back to there from step
+    /// `end`, and goes forward to that again.
+    pub(crate) fn number_at(
+        &mut self,
+        walker: &mut Walker<A>,
+        place: Place<'_>,
+        end: u64,
+    ) -> Result<Option<u64>, Refusal> {
         let mut track = Track::new(self.alloc, walker, place);
         let next = track.go_back(walker, &self.sources, &mut self.ways, NEAR)?;
         let steps = end.saturating_sub(walker.step());
@@ -119,8 +131,8 @@ impl<'s, A: Allocator + Copy> Origins<'s, A> {
         Ok(())
     }
 
-    // Counts so many steps.
-    fn spend(&mut self, steps: u64) {
+    /// Counts so many steps.
+    pub(crate) fn spend(&mut self, steps: u64) {
         self.left = self.left.saturating_sub(steps);
     }
 }

@@ -31,7 +31,7 @@ impl<'s> Run<'s> {
     }
 }
 
-/// The scout, where there is one.
+/// The scout, if there is one.
 #[derive(Drop)]
 pub(crate) struct Scout<'s, A: Allocator + Copy> {
     alloc: A,

@@ -45,7 +45,7 @@ pub(crate) fn read_number<A: Allocator + Copy>(walker: &Walker<A>) -> u64 {
     walker.input_number(position)
 }
 
-// Whether it is a blank, a tab or a line end.
-fn is_blank(byte: u8) -> bool {
+/// Whether it is a blank, a tab or a line end.
+pub(crate) fn is_blank(byte: u8) -> bool {
     matches!(byte, b' ' | TAB | CARRIAGE_RETURN | LINE_FEED)
 }

@@ -2,10 +2,10 @@
 
 use crate::memory::number_of;
 use crate::texts::{read_number, text_from};
-use crate::ways::{Post, Since, Span, Stand, Ways, place_at, stand_of};
+use crate::ways::{Post, Since, Span, Ways};
 use std::alloc::{AllocError, Allocator};
 use trac_findings::Sources;
-use trac_follow::{Place, Source};
+use trac_follow::{Nameless, Place, Source, parts, with_name};
 use trac_rules::doubt::Doubt;
 use trac_walk::{Walker, place_of};
 
@@ -27,7 +27,7 @@ pub(crate) enum Next {
 #[derive(Drop)]
 pub(crate) struct Track<A: Allocator + Copy> {
     alloc: A,
-    stand: Stand,
+    stand: Nameless,
     // the form in which it stands, or stood last, and how many items that has
     name: Vec<u8, A>,
     name_number: u64,
@@ -43,7 +43,7 @@ impl<A: Allocator + Copy> Track<A> {
     pub(crate) fn new(alloc: A, walker: &Walker<A>, place: Place<'_>) -> Self {
         Track {
             alloc,
-            stand: stand_of(place),
+            stand: parts(place).0,
             name: Vec::new(alloc),
             name_number: 0,
             len: 0,
@@ -90,7 +90,7 @@ impl<A: Allocator + Copy> Track<A> {
     // Since which step the byte is known to stand where it is.
     fn since(&self, step: u64, ways: &mut Ways<A>) -> Result<Since, AllocError> {
         match self.stand {
-            Stand::Form(_) => ways.since(
+            Nameless::Form(_) => ways.since(
                 self.name_number,
                 Span {
                     from: step,
@@ -108,7 +108,7 @@ impl<A: Allocator + Copy> Track<A> {
     // Where it stands, at this step.
     fn post(&self, step: u64) -> Post {
         let name = match self.stand {
-            Stand::Form(_) | Stand::Held(_, _) => self.name_number,
+            Nameless::Form(_) | Nameless::Held(_, _) => self.name_number,
             _ => 0,
         };
         Post {
@@ -127,13 +127,13 @@ impl<A: Allocator + Copy> Track<A> {
         post: Post,
         most: u64,
     ) -> Result<Option<Next>, AllocError> {
-        match leg_of(walker, place_at(self.stand, self.name.as_slice()), most) {
+        match leg_of(walker, with_name(self.stand, self.name.as_slice()), most) {
             Leg::Here(stand) => return Ok(self.stay(walker, sources, stand)),
             Leg::On(stand) => self.stand = stand,
             Leg::OfForm(item) => {
                 self.name = walker.argument(self.alloc, 1)?;
                 self.name_number = number_of(self.name.as_slice());
-                self.stand = Stand::Form(item);
+                self.stand = Nameless::Form(item);
             }
             Leg::Read(n) => return self.found(post, walker.input_number(n)),
             Leg::Idle => return self.found(post, text_from(sources.tape, read_number(walker))),
@@ -151,7 +151,7 @@ impl<A: Allocator + Copy> Track<A> {
     }
 
     // It stands here, to where a walker has gone back.
-    fn stay(&mut self, walker: &Walker<A>, sources: &Sources<'_>, stand: Stand) -> Option<Next> {
+    fn stay(&mut self, walker: &Walker<A>, sources: &Sources<'_>, stand: Nameless) -> Option<Next> {
         let same = self.stand == stand && self.len == self.form_len(walker);
         self.stand = stand;
         if !same {
@@ -173,7 +173,7 @@ impl<A: Allocator + Copy> Track<A> {
     // How many items its form has; 0 if it is in none.
     fn form_len(&self, walker: &Walker<A>) -> usize {
         match self.stand {
-            Stand::Form(_) => walker.form_len(self.name.as_slice()),
+            Nameless::Form(_) => walker.form_len(self.name.as_slice()),
             _ => 0,
         }
     }
@@ -191,9 +191,9 @@ impl<A: Allocator + Copy> Track<A> {
 #[derive(Clone, Copy)]
 enum Leg {
     // It stands here before all steps that were gone over.
-    Here(Stand),
+    Here(Nameless),
     // It stood here, and the call that comes next passed it on.
-    On(Stand),
+    On(Nameless),
     // That call took it out of this item of the form that its argument 1 names.
     OfForm(usize),
     // The next step read it.
@@ -207,12 +207,12 @@ enum Leg {
 // Follows a byte over so many steps at most. Of one that a call made, the name of the call is followed on.
 fn leg_of<A: Allocator + Copy>(walker: &mut Walker<A>, place: Place<'_>, most: u64) -> Leg {
     match walker.follow(place, most).source {
-        Source::Here(there) => Leg::Here(stand_of(there)),
-        Source::Passed(there) => Leg::On(stand_of(there)),
+        Source::Here(there) => Leg::Here(parts(there).0),
+        Source::Passed(there) => Leg::On(parts(there).0),
         Source::OfForm(item) => Leg::OfForm(item),
         Source::Read(n) => Leg::Read(n),
         Source::Made if walker.glance().performs => {
-            Leg::On(stand_of(place_of(walker, Doubt::NoPrimitive)))
+            Leg::On(parts(place_of(walker, Doubt::NoPrimitive)).0)
         }
         Source::Made => Leg::Idle,
         Source::Nothing => Leg::Nothing,

@@ -2,7 +2,7 @@
 
 use std::alloc::{AllocError, Allocator};
 use std::collections::BTreeMap;
-use trac_follow::Place;
+use trac_follow::Nameless;
 
 // So many places in forms, and so many others, are remembered; if there are more, all of them are forgotten.
 const KNOWN_LIMIT: usize = 262_144;
@@ -13,22 +13,11 @@ const PART: u64 = 4_096;
 // So many forms are remembered; if there are more, all of them are forgotten.
 const FORM_LIMIT: usize = 65_536;
 
-/// A place of a state, without the name of its form.
-#[derive(Clone, Copy, PartialEq, Eq, PartialOrd, Ord, Debug)]
-pub(crate) enum Stand {
-    Active(usize),
-    Base(usize),
-    Argument(usize, usize, usize),
-    Form(usize),
-    Held(usize, usize),
-    Output(usize),
-}
-
 /// A place of the state before the step of a number, with a number for the name of its form.
 #[derive(Clone, Copy, PartialEq, Eq, PartialOrd, Ord, Debug)]
 pub(crate) struct Post {
     pub(crate) step: u64,
-    pub(crate) stand: Stand,
+    pub(crate) stand: Nameless,
     pub(crate) name: u64,
 }
 
@@ -78,7 +67,7 @@ impl<A: Allocator + Copy> Ways<A> {
     /// Which byte of the files stands at a place, if that is known.
     pub(crate) fn number(&self, post: Post) -> Option<u64> {
         let known = match post.stand {
-            Stand::Form(_) => self.forms.get(&post),
+            Nameless::Form(_) => self.forms.get(&post),
             _ => self.others.get(&post),
         };
         known.copied()
@@ -87,7 +76,7 @@ impl<A: Allocator + Copy> Ways<A> {
     /// Keeps which byte of the files stands at a place. The error is that memory was refused, here and below.
     pub(crate) fn keep(&mut self, post: Post, number: u64) -> Result<(), AllocError> {
         match post.stand {
-            Stand::Form(_) => keep_in(&mut self.forms, KNOWN_LIMIT, post, number),
+            Nameless::Form(_) => keep_in(&mut self.forms, KNOWN_LIMIT, post, number),
             _ => keep_in(&mut self.others, KNOWN_LIMIT, post, number),
         }
     }
@@ -168,37 +157,5 @@ fn keep_in<K: Ord + Drop, V: Drop, A: Allocator + Copy>(
     match map.insert(key, value) {
         Ok(_) => Ok(()),
         Err(_) => Err(AllocError),
-    }
-}
-
-/// A place without the name of its form.
-pub(crate) fn stand_of(place: Place<'_>) -> Stand {
-    match place {
-        Place::Active(i) => Stand::Active(i),
-        Place::Base(i) => Stand::Base(i),
-        Place::Argument {
-            function,
-            argument,
-            byte,
-        } => Stand::Argument(function, argument, byte),
-        Place::Form(_, i) => Stand::Form(i),
-        Place::Held(number, _, i) => Stand::Held(number, i),
-        Place::Output(i) => Stand::Output(i),
-    }
-}
-
-/// A place with the name of its form.
-pub(crate) fn place_at<'n>(stand: Stand, name: &'n [u8]) -> Place<'n> {
-    match stand {
-        Stand::Active(i) => Place::Active(i),
-        Stand::Base(i) => Place::Base(i),
-        Stand::Argument(function, argument, byte) => Place::Argument {
-            function,
-            argument,
-            byte,
-        },
-        Stand::Form(i) => Place::Form(name, i),
-        Stand::Held(number, i) => Place::Held(number, name, i),
-        Stand::Output(i) => Place::Output(i),
     }
 }
