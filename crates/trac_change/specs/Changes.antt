@@ -17,7 +17,7 @@ use Rattle.trac_change.specs.declared.change.Change.TheVariants.{Erase}
 use Rattle.trac_change.specs.Changed.{named_forms}
 use Rattle.trac_text.specs.Framing.{texts_of}
 
--- the gaps of a cut are made in a form, where there is one, and its pointer is lost
+-- the gaps of a cut are made in a form, if there is one, and its pointer is lost
 abbrev pub cut_lost : List CutGap → Option Form → Undone
 cut_lost cut None = Nothing
 cut_lost cut (Some form) = Join cut (length form.before)
@@ -35,9 +35,9 @@ undone_of (MoveIn held name address) storage =
 undone_of (Bring number forms) storage = Unbring number (moved_out (names_in (named_forms forms.items)) storage.forms)
 undone_of (Erase number name) storage = block_lost (Some number) (finite.get storage.forms name.items) storage.blocks
 
--- a change names what a call of these arguments gives: a form by the first argument after the name, in which
--- just these gaps are made where texts are cut out; the forms that go into a new block, each that is there once;
--- and a block that is not erased
+-- a change names what a call of these arguments gives: a form by the first argument after the name, in which just these
+-- gaps are made if texts are cut out; the forms that go into a new block, each that is there once; and a block that is
+-- not erased
 abbrev pub NamesGiven : {A : Type 0} → List (List ℕ) → Storage → code.Change A → Type 0
 NamesGiven arguments storage (Put name form) = name.items ≡ argument 1 arguments
 NamesGiven arguments storage (Cut name cut) = (name.items ≡ argument 1 arguments)

@@ -20,7 +20,7 @@ impl<'a> Model for LaterArguments<'a> {
     ghost view = { λ later. drop later.passed later.args.now };
 }
 
-/// All arguments but the first n; none where there are no more than n. Nothing is copied.
+/// All arguments but the first n; none if there are no more than n. Nothing is copied.
 pub fn after<'a>(args: &'a Args<'a>, n: usize) -> LaterArguments<'a>
     ensures { result ≡ drop n args.now }
 {

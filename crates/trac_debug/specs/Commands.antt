@@ -60,7 +60,7 @@ with_one word first =
     if bytes_eq word (codes "c") then option_map Commit (count_of first) else
     None
 
--- until a name is met: where there are both a name and a count
+-- until a name is met: if there are both a name and a count
 abbrev pub until_met : Option (List ℕ) → Option ℕ → Option LineCommand
 until_met None count = None
 until_met (Some name) None = None

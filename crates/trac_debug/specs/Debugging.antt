@@ -38,9 +38,9 @@ turn_at number (b ∷ bs) = if nat_le number LINE_COUNT_LIMIT
 
 -- ---- all lines
 
--- where the next line comes to this turn, this text in all may be written from this session on, and then the
--- session ends so; `Replied` says how a command may be replied to, and `Rest` the same of the lines after,
--- from the session after the turn
+-- if the next line comes to this turn, this text in all may be written from this session on, and then the session ends
+-- so. `Replied` says how a command may be replied to, and `Rest` the same of the lines after, from the session after
+-- the turn
 abbrev pub TakesBy : (LineCommand → PlainSession → List ℕ → PlainSession → Type 0) → Turn → PlainSession →
     (PlainSession → List ℕ → Type 0) → List ℕ → Ending → Type 0
 TakesBy Replied Passes p Rest text ending = Rest p text
@@ -48,8 +48,8 @@ TakesBy Replied (Does command) p Rest text ending = (reply : List ℕ) × (q : P
     × Replied command p reply q × (text ≡ reply ++ rest) × Rest q rest
 TakesBy Replied (Ends stop) p Rest text ending = (text ≡ []) × (ending ≡ stop)
 
--- from this session, where the lines from this number on are these and commands are replied to so, this text may be
--- written, and then the session ends so: at the end of the lines as if asked to
+-- if the lines from this number on are these and commands are replied to so, this text may be written from this session
+-- on, and then the session ends so: at the end of the lines as if asked to
 abbrev pub WritesBy : (LineCommand → PlainSession → List ℕ → PlainSession → Type 0) → List (List ℕ) → ℕ → PlainSession →
     List ℕ → Ending → Type 0
 WritesBy Replied [] number p text ending = (text ≡ []) × (ending ≡ Ended)
@@ -67,8 +67,8 @@ MayWrite lines number p text ending = WritesBy Replies lines number p text endin
 abbrev pub MayFollow : PlainSession → List ℕ → List ℕ → Ending → Type 0
 MayFollow p commands text ending = MayWrite (lines_of commands) 1 p text ending
 
--- from this session on, this text may be written where the first so many of the lines of these
--- commands are all that there are
+-- from this session on, this text may be written if the first so many of the lines of these commands are all that there
+-- are
 abbrev pub FollowsFirst : PlainSession → ℕ → List ℕ → List ℕ → Type 0
 FollowsFirst p count commands text = MayWrite (take count (lines_of commands)) 1 p text Ended
 
@@ -78,8 +78,8 @@ FollowsFirst p count commands text = MayWrite (take count (lines_of commands)) 1
 abbrev pub ready : List ℕ → ℕ → Width → PlainSession
 ready tape limit width = record (new_session limit width) { tape = record { bytes = tape; ended = true } }
 
--- the same over any tape, by whether it is not too long: nothing is written where it is. `Writes` says
--- what is written from a session on
+-- the same over any tape, by whether it is not too long: nothing is written if it is too long. `Writes` says what is
+-- written from a session on
 abbrev pub shown_by : (List (List ℕ) → ℕ → PlainSession → List ℕ → Ending → Type 0) → List ℕ → ℕ → Width → List ℕ →
     List ℕ → Ending → Bool → Type 0
 shown_by Writes tape limit width commands text ending true =
@@ -96,13 +96,13 @@ abbrev pub MayShow : List ℕ → ℕ → Width → List ℕ → List ℕ → En
 MayShow tape limit width commands text ending =
     shown_where tape limit width commands text ending (nat_le (length tape) TAPE_LIMIT)
 
--- the same where there is memory for each step: no reply says that memory was refused
+-- the same if there is memory for each step: no reply says that memory was refused
 abbrev pub ShowsWithMemory : List ℕ → ℕ → Width → List ℕ → List ℕ → Ending → Type 0
 ShowsWithMemory tape limit width commands text ending =
     shown_by (WritesBy RepliesWithMemory) tape limit width commands text ending (nat_le (length tape) TAPE_LIMIT)
 
--- over this tape, with such a journal and such numbers, this text may be written where the first so many of the lines
--- of these commands are all that there are: each of them is replied to whole
+-- over this tape, with such a journal and such numbers, this text may be written if the first so many of the lines of
+-- these commands are all that there are. Each of them is replied to whole
 abbrev pub RepliesToFirst : List ℕ → ℕ → Width → ℕ → List ℕ → List ℕ → Type 0
 RepliesToFirst tape limit width count commands text =
     MayWrite (take count (lines_of commands)) 1 (ready tape limit width) text Ended

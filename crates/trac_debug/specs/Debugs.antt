@@ -35,11 +35,11 @@ UnlessWrite ending Fact = Fact
 abbrev pub MOST_READ : ℕ
 MOST_READ = LINE_COUNT_LIMIT * (LINE_LIMIT + 2) + HELD_LIMIT
 
--- a session read some commands, no more than it may, and perhaps saw the end of them, and wrote some bytes: however the
--- commands go on after what was read (not at all where the end was seen), what was written is a front of a text that is
--- stated for all of the commands; where its ending is not a fault or want of memory it is a whole one, with that
--- ending; and unless the writer failed, what was written are whole replies, those to the first so many lines: so a
--- reply for which memory was refused is not written in part
+-- a session read some commands, no more than it may, and perhaps saw the end of them, and wrote some bytes. However the
+-- commands go on after what was read (not at all if the end was seen), what was written is a front of a text that is
+-- stated for all of the commands. If the ending of the session is not a fault or want of memory, what was written is a
+-- whole one, with that ending. Unless the writer failed, what was written are whole replies, those to the first so many
+-- lines: so a reply for which memory was refused is not written in part
 pub record Debugs (in_old in_new out_old out_new : Option (List ℕ)) (Stated : List ℕ → List ℕ → Ending → Type 0)
     (ToFirst : ℕ → List ℕ → List ℕ → Type 0) (ending : Ending) : Type 0 where
   pub got : List ℕ

@@ -21,7 +21,7 @@ refusal_name refusals.AtStart = codes "AtStart"
 refusal_name refusals.Closed = codes "Closed"
 refusal_name refusals.NotMet = codes "NotMet"
 
--- after how many steps were taken: why no more were, where there is a reason
+-- after how many steps were taken: why no more were, if there is a reason
 abbrev pub reason : Option Refusal → List ℕ
 reason None = []
 reason (Some refusal) = codes " " ++ refusal_name refusal
@@ -57,7 +57,7 @@ Replies (Commit keep) old reply new =
 -- it is never replied to: the session ends
 Replies Quit old reply new = (reply ≡ []) × (new ≡ old)
 
--- the same where there is memory for each step: then a walk says of no step that memory was refused for it
+-- the same if there is memory for each step: then a walk says of no step that memory was refused for it
 abbrev pub RepliesWithMemory : LineCommand → PlainSession → List ℕ → PlainSession → Type 0
 RepliesWithMemory (Forward n) old reply new =
     ShowsWalk (λ steps why. IsWalk session.Step no_goal n old steps why new × (why ≡ Some refusals.Memory → ⊥))
@@ -76,8 +76,8 @@ abbrev pub HasMemoryReply : List ℕ → Type 0
 HasMemoryReply text =
     (before : List ℕ) × (reply : List ℕ) × (after : List ℕ) × SaysMemory reply × (text ≡ before ++ (reply ++ after))
 
--- what stands where memory is refused for the reply to this command: it is carried out, and there is a reply to
--- that; but nothing is committed
+-- what stands if memory is refused for the reply to this command: it is carried out, and there is a reply to that; but
+-- nothing is committed
 abbrev pub StandsUnreplied : LineCommand → PlainSession → PlainSession → Type 0
 StandsUnreplied (Commit keep) old new = new ≡ old
 StandsUnreplied command old new = (reply : List ℕ) × Replies command old reply new

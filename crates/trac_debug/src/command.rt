@@ -31,8 +31,8 @@ pub enum LineCommand<'a> {
     Quit,
 }
 
-/// The command that a line says, without what ends it; none where it is not understood. Words are separated by exactly
-/// one space. It takes no memory.
+/// The command that a line says, without what ends it; none if it is not understood. Words are separated by exactly one
+/// space. It takes no memory.
 pub fn command_in(line: &[u8]) -> Option<LineCommand<'_>>
     ensures { option_map command_seen result ≡ command_of line.now }
 {

@@ -35,11 +35,11 @@ pub struct DebugReport {
 /// carries each of them out, and writes the reply to it, which is flushed before more is read. The commands are read by
 /// at most 4,096 bytes at a time.
 ///
-/// The session ends with `Ended` at the end of the commands, and where it is asked to; with `NotUnderstood` at a line
-/// that says no command; with `Budget` where there is a line after the first 1,048,576; with `Limit`, and nothing
-/// written, where the tape has more than 33,554,432 bytes; with `Read` and `Write` where the reader or the writer
-/// fails; and with `Memory` where there is no memory for the session, for a line or for a reply, of which nothing is
-/// written then. A walk for which memory was refused is replied to as any other.
+/// The session ends with `Ended` at the end of the commands, and when it is asked to. It ends with `NotUnderstood` at a
+/// line that says no command, and with `Budget` if there is a line after the first 1,048,576. It ends with `Limit`, and
+/// nothing is written, if the tape has more than 33,554,432 bytes. It ends with `Read` if the reader fails, and with
+/// `Write` if the writer fails. It ends with `Memory` if there is no memory for the session, for a line or for a reply,
+/// of which nothing is written then. A walk for which memory was refused is replied to as any other.
 pub fn debug<R: Read, W: Write, A: Allocator + Copy>(
     alloc: A,
     tape: &[u8],

@@ -1,4 +1,4 @@
-//! The law that the debugger has one text where there is memory for each step.
+//! The law that the debugger has one text if there is memory for each step.
 ghost use Rattle.std.specs.Prelude.{◌≡◌, ◌⊎◌, List, ℕ};
 ghost use Rattle.trac_rules.specs.Session.{PlainSession};
 ghost use Rattle.trac_rules.specs.declared.width.Width.{Width};

@@ -45,8 +45,7 @@ pub fn state_lines<A: Allocator + Copy>(
     machine_lines(alloc, session.machine(), session.len())
 }
 
-// Keeps so many steps, and shows what was released, as a line. Nothing is committed where memory is
-// refused for the line.
+// Keeps so many steps, and shows what was released, as a line. Nothing is committed if memory is refused for the line.
 fn commit_reply<A: Allocator + Copy>(
     alloc: A,
     session: &mut Session<A>,

@@ -32,13 +32,13 @@ struct Taking {
     passing: bool,
 }
 
-/// Reads lines, and writes the reply to each, which is flushed before more is read. A line of more than
-/// 4,096 bytes is said not to be understood, and nobody is asked. Before each line the replier's number is
-/// written where a prompt is wanted.
+/// Reads lines, and writes the reply to each, which is flushed before more is read. A line of more than 4,096 bytes is
+/// said not to be understood, and nobody is asked. Before each line the replier's number is written if a prompt is
+/// wanted.
 ///
-/// It ends with `Ended` at the end of the lines, and where the replier ends it; with `Read` and `Write` where the
-/// reader or the writer fails; with `Memory` where there is no memory for a line or for what is to be written; and with
-/// `Budget` after as many lines as a number of 64 bits counts.
+/// It ends with `Ended` at the end of the lines, and if the replier ends it. It ends with `Read` if the reader fails,
+/// and with `Write` if the writer does. It ends with `Memory` if there is no memory for a line or for what is to be
+/// written. It ends with `Budget` after as many lines as a number of 64 bits counts.
 #[tactic(auto, using(crate::proofs::Talked::for_converse))]
 pub fn converse<R: Read, W: Write, A: Allocator + Copy, T: Replier<A>>(
     alloc: A,
@@ -100,7 +100,7 @@ fn take_line<R: Read, W: Write, A: Allocator + Copy, T: Replier<A>>(
     }
 }
 
-// Writes a number as a prompt before a line, where one is wanted.
+// Writes a number as a prompt before a line, if one is wanted.
 fn ask<W: Write, A: Allocator + Copy>(
     alloc: A,
     number: u64,
@@ -132,7 +132,7 @@ fn pass_part<W: Write, A: Allocator + Copy>(
     write_text(output, Vec::from_slice(alloc, NOT_UNDERSTOOD))
 }
 
-// Writes and flushes a text, where there was memory for it.
+// Writes and flushes a text, if there was memory for it.
 fn write_text<W: Write, A: Allocator>(
     output: &mut W,
     text: Result<Vec<u8, A>, AllocError>,
@@ -179,8 +179,8 @@ fn answer<W: Write, A: Allocator + Copy, T: Replier<A>>(
     }
 }
 
-// What is to be said of a line, once what it asks for is done; none where it asks for the end. The
-// error is that memory was refused.
+// What is to be said of a line, once what it asks for is done; none if it asks for the end. The error is that memory
+// was refused.
 fn reply_to<A: Allocator + Copy, T: Replier<A>>(
     alloc: A,
     replier: &mut T,

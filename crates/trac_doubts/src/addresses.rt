@@ -26,7 +26,7 @@ pub(crate) fn is_address<A: Allocator + Copy>(form: &Form<A>, store: &Store<A>) 
     }
 }
 
-// The bytes of a form on both sides of its pointer, its gaps left out; none where these are too many for a number.
+// The bytes of a form on both sides of its pointer, its gaps left out; none if these are too many for a number.
 fn short_text<A: Allocator + Copy>(form: &Form<A>) -> Option<ArrayVec<u8, DIGITS>>
     ensures { MatchOption result (DIGITS < length (bytes_in (all_items form.now)))
         (λ text. text.items ≡ bytes_in (all_items form.now)) }

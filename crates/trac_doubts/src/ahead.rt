@@ -44,8 +44,8 @@ impl<'a, A: Allocator + Copy> Ahead<'a, A> {
         in_call || scanning_doubt(self.active, self.depth).is_some()
     }
 
-    /// Puts all doubts at the end of `out`, in the order in which they are defined. Refused with `Memory` where
-    /// the allocator of `out` refuses.
+    /// Puts all doubts at the end of `out`, in the order in which they are defined. Refused with `Memory` if the
+    /// allocator of `out` refuses.
     pub fn doubts_into<B: Allocator>(&self, out: &mut Vec<Doubt, B>) -> Result<(), Refusal>
         ensures ok { OnOk result (out.new.items ≡ out.old.items ++ doubts_ahead self.now) }
         ensures err { IsOkUnless result Refusal.Memory }

@@ -88,7 +88,7 @@ fn use_doubts_into<A: Allocator + Copy, B: Allocator>(
     nowhere_into(primitive, args, form, out)
 }
 
-// Puts a doubt, where there is one, at the end of `out`.
+// Puts a doubt, if there is one, at the end of `out`.
 pub(crate) fn add<B: Allocator>(
     doubt: Option<Doubt>,
     out: &mut Vec<Doubt, B>,

@@ -22,7 +22,7 @@ pub(crate) fn highest_ordinal<A: Allocator + Copy>(form: &Form<A>) -> u32
     highest
 }
 
-// The ordinal of a gap; 0 of a byte, and where there is no item.
+// The ordinal of a gap; 0 of a byte, and if there is no item.
 fn ordinal_of(item: Option<Item>) -> u32
     ensures { result ≡ option_map_or ordinal_of item 0 }
 {

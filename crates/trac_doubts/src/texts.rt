@@ -113,7 +113,7 @@ fn stands_in<A: Allocator + Copy>(text: &[u8], form: &Form<A>) -> bool
     begins_at(text, form, last)
 }
 
-// The last place of a form from which on it has so many items; none where it has fewer.
+// The last place of a form from which on it has so many items; none if it has fewer.
 fn last_place<A: Allocator + Copy>(form: &Form<A>, size: usize) -> Option<usize>
     ensures place { MatchOption result (length (all_items form.now) < size)
         (λ last. last + size ≡ length (all_items form.now)) }
@@ -122,8 +122,7 @@ fn last_place<A: Allocator + Copy>(form: &Form<A>, size: usize) -> Option<usize>
     form.len().checked_sub(size)
 }
 
-// Whether a text stands at this place of a form, where as many bytes from there on have one sum, and the text has the
-// other.
+// Whether a text stands at this place of a form. As many bytes from there on have one sum, and the text has the other.
 fn begins_with_sum<A: Allocator + Copy>(
     text: &[u8],
     form: &Form<A>,

@@ -64,7 +64,7 @@ fails_next r room = fails_by_number r || fails_by_end r room
 abbrev pub piece_len : FaultyReader → ℕ
 piece_len r = if r.by_lines then first_line_len r.rest.now else length r.rest.now
 
--- how many bytes the next call gives where it does not fail
+-- how many bytes the next call gives if it does not fail
 abbrev pub given_count : FaultyReader → ℕ → ℕ
 given_count r room = min (min (piece_len r) (max r.most 1)) room
 

@@ -54,7 +54,7 @@ write_fails_next w = is_chosen w.fails_at (counted w.writes)
 abbrev pub flush_fails_next : {A : Type 0} → FaultyWriter A → Bool
 flush_fails_next w = is_chosen w.flush_fails_at (counted w.flushes)
 
--- how many bytes of a text of this length the next call takes where it does not fail
+-- how many bytes of a text of this length the next call takes if it does not fail
 abbrev pub taken_count : {A : Type 0} → FaultyWriter A → ℕ → ℕ
 taken_count w n = if is_chosen w.takes_none_at (counted w.writes) then 0 else min n w.most
 

@@ -44,7 +44,7 @@ impl<'a> FaultyReader<'a> {
         }
     }
 
-    /// Gives at most this many bytes a call, where 0 counts as 1: a read that gives none says that the end is there.
+    /// Gives at most this many bytes a call. 0 counts as 1: a read that gives none says that the end is there.
     pub fn at_most(self, most: usize) -> FaultyReader<'a>
         ensures { result ≡ with_most self.entry most }
     {
@@ -59,7 +59,7 @@ impl<'a> FaultyReader<'a> {
         FaultyReader { by_lines, ..self }
     }
 
-    /// Fails at the call of this number, where 1 is the first call, and goes on after it. At 0 no call fails.
+    /// Fails at the call of this number, and goes on after it. 1 is the first call. At 0 no call fails.
     pub fn failing_at(self, call: u64) -> FaultyReader<'a>
         ensures { result ≡ with_fault self.entry call }
     {
@@ -67,7 +67,7 @@ impl<'a> FaultyReader<'a> {
         FaultyReader { fails_at, ..self }
     }
 
-    /// Fails once where all bytes are given. The call after that sees the end.
+    /// Fails once, when all bytes are given. The call after that sees the end.
     pub fn failing_at_end(self) -> FaultyReader<'a>
         ensures { result ≡ with_fault_at_end self.entry }
     {

@@ -53,8 +53,7 @@ impl<A: Allocator> FaultyWriter<A> {
         self
     }
 
-    /// Fails at the write of this number, where 1 is the first call of `write`, and goes on after
-    /// it. At 0 no write fails.
+    /// Fails at the write of this number, and goes on after it. 1 is the first call of `write`. At 0 no write fails.
     pub fn failing_at(mut self, write: u64) -> FaultyWriter<A>
         ensures { result ≡ with_fault self write }
     {
@@ -62,8 +61,7 @@ impl<A: Allocator> FaultyWriter<A> {
         self
     }
 
-    /// Takes no byte at the write of this number, where 1 is the first call of `write`, and answers
-    /// 0. At 0 no write does.
+    /// Takes no byte at the write of this number, and answers 0. 1 is the first call of `write`. At 0 no write does.
     pub fn taking_none_at(mut self, write: u64) -> FaultyWriter<A>
         ensures { result ≡ with_empty_write self write }
     {
@@ -71,8 +69,7 @@ impl<A: Allocator> FaultyWriter<A> {
         self
     }
 
-    /// Fails at the flush of this number, where 1 is the first call of `flush`, and goes on after
-    /// it. At 0 no flush fails.
+    /// Fails at the flush of this number, and goes on after it. 1 is the first call of `flush`. At 0 no flush fails.
     pub fn failing_flush_at(mut self, flush: u64) -> FaultyWriter<A>
         ensures { result ≡ with_flush_fault self flush }
     {

@@ -44,7 +44,7 @@ impl<A: Allocator + Copy> CallLog<A> {
         }
     }
 
-    /// The calls since the log was made, or since they were last taken, in order. `None` where one of them is missing,
+    /// The calls since the log was made, or since they were last taken, in order. `None` if one of them is missing,
     /// since there was no memory to note it. The log is empty after this.
     pub fn take_calls(&self) -> Option<Vec<LoggedCall, A>> {
         let calls = self.calls.try_replace(Vec::new(self.alloc)).ok()?;

@@ -42,8 +42,7 @@ impl<B: Allocator> Refusing<B> {
             .set(self.requests.get().under(Rule::RefuseAll));
     }
 
-    /// Refuses the request of number `nth` from now, where 1 is the next one, and accepts all
-    /// others. At 0 it refuses none.
+    /// Refuses the request of number `nth` from now, and accepts all others. 1 is the next one. At 0 it refuses none.
     pub fn refuse_nth(&self, nth: u64) {
         self.requests
             .set(self.requests.get().under(Rule::RefuseNth(nth)));

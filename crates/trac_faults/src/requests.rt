@@ -6,8 +6,7 @@ ghost use Rattle.trac_faults.specs.Requests.{refuses_next, after_request, under_
 #[derive(Clone, Copy)]
 pub(crate) enum Rule {
     AcceptAll,
-    /// The request of this number, where 1 is the next one. Once it is refused the number is 0, and
-    /// the rest is accepted.
+    /// The request of this number; 1 is the next one. Once it is refused, the number is 0, and the rest is accepted.
     RefuseNth(u64),
     RefuseAll,
 }

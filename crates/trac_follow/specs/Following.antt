@@ -38,8 +38,8 @@ IsSource old place most new steps (code.TheVariants.Read n) =
     (0 < steps) × IsOrigin old place steps (steps - 1) (Read n)
 IsSource old place most new steps code.TheVariants.Made = (0 < steps) × IsOrigin old place steps (steps - 1) Made
 
--- over how many of the steps it is known that none passed the byte on: where it is followed no further over
--- all, else over all before the last
+-- over how many steps it is known that none passed the byte on: all if it is followed no further, else all before the
+-- last
 abbrev pub quiet_steps : ℕ → code.Source → ℕ
 quiet_steps steps (code.TheVariants.Here there) = steps
 quiet_steps steps source = steps - 1
@@ -49,5 +49,5 @@ pub record IsFollowed
   pub source : IsSource old place most new found.steps found.source
   -- it goes no further than to the first step that passed the byte on
   pub unpassed : IsUnpassed (over old.width old.tape) (take (quiet_steps found.steps found.source) old.earlier) place
-  -- where nothing stands, that is said
+  -- if nothing stands, that is said
   pub nothing : IsBare old.last place → found.source ≡ code.TheVariants.Nothing

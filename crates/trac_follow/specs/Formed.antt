@@ -133,7 +133,7 @@ abbrev pub CarriedFrom : told.Origin → List ℕ → ℕ → Type 0
 CarriedFrom (told.TheVariants.Carried place) name n = place_of place ≡ InForm name n
 CarriedFrom o name n = ⊥
 
--- made where it is cut, else carried from this item
+-- made if it is cut, else carried from this item
 abbrev pub told_of : Bool → told.Origin → List ℕ → ℕ → Type 0
 told_of true o name n = o ≡ told.TheVariants.Made
 told_of false o name n = CarriedFrom o name n
@@ -144,14 +144,14 @@ pub record IsAfter (form : Form) (bytes n : ℕ) (item : Item) : Type 0 where
   pub before : extent (take n (all_items form)) ≡ bytes
   pub wide : All IsWide (all_items form)
 
--- of an item that `ss` leaves: that of the form which stood after as many bytes, and made where it is a gap over a
--- byte; nothing where none stood so
+-- of an item that `ss` leaves: that of the form which stood after as many bytes, and made if it is a gap over a byte.
+-- Nothing if none stood so
 abbrev pub ToldAsCut : Form → List ℕ → After → told.Origin → Type 0
 ToldAsCut form name after o = ((o ≡ told.TheVariants.Nothing) × ((n : ℕ) (was : Item) →
     slice_get (all_items form) n ≡ Some was → extent (take n (all_items form)) ≡ after.extent → ⊥))
     ⊎ ((n : ℕ) × (was : Item) × IsAfter form after.extent n was × told_of (is_cut after.is_gap was) o name n)
 
--- of the form of a name; nothing where there is none
+-- of the form of a name; nothing if there is none
 abbrev pub ToldAsFormCut : State → List ℕ → After → told.Origin → Type 0
 ToldAsFormCut s name after o = ((o ≡ told.TheVariants.Nothing) × (finite.get s.forms name ≡ None))
     ⊎ ((form : Form) × (finite.get s.forms name ≡ Some form) × ToldAsCut form name after o)

@@ -26,8 +26,8 @@ pub record Passing : Type 0 where
   pub steps : ℕ
   pub from : Place
 
--- the call of a step that passed a byte on, and then those further back, where it is followed from there; only those
--- further back where the step just carried it; none where the step read it or made it
+-- the call of a step that passed a byte on, and then those further back, with it followed from there. Only those
+-- further back, if the step just carried it; none, if the step read it or made it
 abbrev pub passed_by : State → ℕ → Place → Place → Origin → (Place → Place → List Passing) → List Passing
 passed_by s steps from here (Carried there) further = if is_passed s here there
     then record { state = s; steps = steps; from = from } ∷ further there there else further from there

@@ -91,21 +91,20 @@ pub record AreLengths (after : After) (t : State) (place : Place) : Type 0 where
   pub read : t.position < 2 ^ 64
   pub measured : IsMeasured after.extent after.is_gap t place
 
--- what is told in the state `s` of a place: it is the origin of what stands there after the step, of whatever input,
--- where that step leads to texts of these lengths
+-- what is told in the state `s` of a place. It is the origin of what stands there after the step, of whatever input, if
+-- that step leads to texts of these lengths
 abbrev pub TellsOf : State → Width → After → Place → code_origin.Origin → Type 0
 TellsOf s width after place told =
     (environment : Environment) (t : State) (item : Item) → environment.width ≡ width → step environment s ≡ Ok t →
     AreLengths after t place → found_at t place ≡ Some item → Tells s told (origin environment s place)
 
--- what the state after a call tells of its value: how long it is, where it is scanned; where it is
--- not, that it is not forced
+-- what the state after a call tells of its value: if it is scanned, how long it is; if it is not, that it is not forced
 abbrev pub IsSeen : Option ℕ → Effect → Type 0
 IsSeen (Some len) e = length e.value ≡ len
 IsSeen None e = e.forced ≡ false
 
--- what is told in the state `s` of the byte of this number of the value of the call that the step performs,
--- where so much is known of the value
+-- what is told in the state `s` of the byte of this number of the value of the call that the step performs, if so much
+-- is known of the value
 abbrev pub TellsValue : State → Width → Option ℕ → ℕ → code_origin.Origin → Type 0
 TellsValue s width seen i told =
     (environment : Environment) (t : State) (call : Call) (e : Effect) (item : Item) → environment.width ≡ width →
@@ -113,7 +112,7 @@ TellsValue s width seen i told =
     IsSeen seen e → found_at t (value_at call.kind e.forced call.state i) ≡ Some item → i < length e.value →
     Tells s told (origin environment s (value_at call.kind e.forced call.state i))
 
--- the same, where the call is of this computation, has these arguments, and is that of the function of this number
+-- the same, if the call is of this computation, has these arguments, and is that of the function of this number
 abbrev pub TellsComputed : Computation → List (List ℕ) → ℕ → Width → ℕ → code_origin.Origin → Type 0
 TellsComputed computation arguments function width i told =
     (environment : Environment) (s : State) (call : Call) (e : Effect) →

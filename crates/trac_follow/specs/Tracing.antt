@@ -38,7 +38,7 @@ IsEnd old place most new steps ends.TheVariants.Untold = AllCarried old place st
 
 pub record IsTraced (old : PlainSession) (place : Place) (most : ℕ) (new : PlainSession) (found : Traced) : Type 0 where
   pub end : IsEnd old place most new found.steps found.end
-  -- where nothing stands, that is said
+  -- if nothing stands, that is said
   pub nothing : IsBare old.last place → found.end ≡ ends.TheVariants.Nothing
 
 -- ---- who is told of the calls on the way
@@ -48,8 +48,8 @@ abbrev pub ToldAll : {W : Type 0} → (W → Passing → W → Type 0) → W →
 ToldAll passes old [] new = new ≡ old
 ToldAll {W} passes old (p ∷ later) new = (m : W) × passes old p m × ToldAll passes m later new
 
--- it was told of all these over so many steps; where it refused one, of all but the last, to which
--- they lead and which it refused
+-- it was told of all these over so many steps. If it refused one, it was told of all but the last, to which they lead
+-- and which it refused
 abbrev pub IsTold : {W : Type 0} → (W → Passing → W → Type 0) → (W → Passing → W → Type 0) → List Passing → ℕ →
     ends.End → W → W → Type 0
 IsTold {W} passes refuses way steps ends.TheVariants.Untold old new = (before : List Passing) × ((p : Passing)

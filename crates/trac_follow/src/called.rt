@@ -56,7 +56,7 @@ fn innermost<E: TwoEnds<u8, A>, M: TwoEnds<Mark, A>, A: Allocator + Copy>(
     before.depth().saturating_sub(1)
 }
 
-// Of the active text: the value, where it is scanned, and then what was left.
+// Of the active text: the value, if it is scanned, and then what was left.
 fn of_active<'a, E: TwoEnds<u8, A>, M: TwoEnds<Mark, A>, A: Allocator + Copy>(
     before: &Core<E, M, A>,
     width: Width,
@@ -88,7 +88,7 @@ fn of_active<'a, E: TwoEnds<u8, A>, M: TwoEnds<Mark, A>, A: Allocator + Copy>(
     Origin::Carried(Place::Active(i - value + 1))
 }
 
-// Of the texts without the function: what stood there, and after the current text the value, where it is not scanned.
+// Of the texts without the function: what stood there, and after the current text the value, if it is not scanned.
 fn of_text<'a, E: TwoEnds<u8, A>, M: TwoEnds<Mark, A>, A: Allocator + Copy>(
     before: &Core<E, M, A>,
     width: Width,

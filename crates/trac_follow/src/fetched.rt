@@ -33,8 +33,8 @@ pub(crate) fn before_fetch<'a, A: Allocator + Copy>(
     }
 }
 
-// Where it stood when copies of the forms of the block of this number were put among the forms: in the block, where
-// that holds a form of this name.
+// Where it stood when copies of the forms of the block of this number were put among the forms: in the block, if that
+// holds a form of this name.
 fn before_copy<'a, A: Allocator + Copy>(
     store: &Store<A>,
     number: usize,
@@ -106,7 +106,7 @@ fn reads_as<A: Allocator + Copy>(form: &Form<A>, text: &[u8]) -> bool
     rest.is_empty()
 }
 
-// What is left of a text after the byte of an item, where it begins with that; a gap has none.
+// What is left of a text after the byte of an item, if it begins with that; a gap has none.
 fn after_item(item: Option<Item>, text: &[u8]) -> Option<&[u8]>
     ensures { MatchOption result
         ((others : List Item) → bytes_eq text.now (bytes_in (option_to_list item ++ others)) ≡ false)
@@ -118,7 +118,7 @@ fn after_item(item: Option<Item>, text: &[u8]) -> Option<&[u8]>
     }
 }
 
-// What is left of a text after this byte, where it begins with it.
+// What is left of a text after this byte, if it begins with it.
 fn after_byte(b: u8, text: &[u8]) -> Option<&[u8]>
     ensures { MatchOption result ((others : List ℕ) → bytes_eq text.now (b ∷ others) ≡ false)
         (λ rest. text.now ≡ b ∷ rest.now) }

@@ -70,7 +70,7 @@ pub(crate) fn read_byte_of<'a, A: Allocator + Copy>(
     }
 }
 
-// What `cn` reads of a form: as many bytes as the number says; nothing where that does not fit the width.
+// What `cn` reads of a form: as many bytes as the number says; nothing if that does not fit the width.
 fn counted<A: Allocator + Copy>(form: &Form<A>, arguments: &Args<'_>, width: Width) -> Option<Piece>
     ensures read { option_map (λ piece. taken piece form.now) result
         ≡ piece_read ReadCount width arguments.now form.now }
@@ -97,7 +97,7 @@ fn piece_byte<'a, A: Allocator + Copy>(
     }
 }
 
-// Of the value of `in`, which searches this text: what stands before it is the form's. Where the text is not found, the
+// Of the value of `in`, which searches this text: what stands before it is the form's. If the text is not found, the
 // value is the default argument.
 fn until_byte<'a, A: Allocator + Copy>(
     form: &Form<A>,

@@ -50,10 +50,10 @@ pub struct Followed<'a> {
     pub source: Source<'a>,
 }
 
-/// Goes back over up to `most` steps, as long as these carried the byte at a place, or the item of a form: until
-/// one made or read it, has it from a form, or performs a call that passed it on. Bytes that moved one by one
-/// are passed at once, as `Session::back` passes them. It takes no memory, and says that nothing is there only
-/// where nothing stands at the place.
+/// Goes back over up to `most` steps, as long as these carried the byte at a place, or the item of a form. It does so
+/// until a step made or read it, has it from a form, or performs a call that passed it on. Bytes that moved one by one
+/// are passed at once, as `Session::back` passes them. It takes no memory, and says that nothing is there only if
+/// nothing stands at the place.
 pub fn follow<'a, A: Allocator + Copy>(
     session: &mut Session<A>,
     place: Place<'a>,
@@ -73,7 +73,7 @@ pub fn follow<'a, A: Allocator + Copy>(
     follow_from(session, width, place, most)
 }
 
-// The same, where something stands at the place, and this is the width of the session's numbers.
+// The same, if something stands at the place, and this is the width of the session's numbers.
 pub(crate) fn follow_from<'a, A: Allocator + Copy>(
     session: &mut Session<A>,
     width: Width,
@@ -148,7 +148,7 @@ pub(crate) enum Turn<'a> {
     Found(Source<'a>),
 }
 
-// How what stands here after the next step of a machine is followed further back, where that step leaves texts of these
+// How what stands here after the next step of a machine is followed further back, if that step leaves texts of these
 // lengths.
 fn turned<'a, E: TwoEnds<u8, A>, M: TwoEnds<Mark, A>, A: Allocator + Copy>(
     before: &Core<E, M, A>,

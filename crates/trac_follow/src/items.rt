@@ -20,9 +20,9 @@ use trac_text::Args;
 pub(crate) enum Giving<'a> {
     // In a call of the form with these arguments: a gap gives the argument of its number.
     Filled(&'a Args<'a>),
-    // Where it is read: a gap gives nothing.
+    // When it is read: a gap gives nothing.
     Read,
-    // Where it is printed: a gap gives a mark.
+    // When it is printed: a gap gives a mark.
     Shown,
 }
 

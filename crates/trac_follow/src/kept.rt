@@ -11,7 +11,7 @@ use std::marker::Model;
 use std::sync::ArcSlice;
 use trac_forms::Store;
 
-/// A name of up to so many bytes is copied where it is kept, and a longer one is shared. It is no less than 256, since
+/// A name of up to so many bytes is copied when it is kept, and a longer one is shared. It is no less than 256, since
 /// the store shares only names of more bytes than that.
 pub(crate) const SHORT_NAME: usize = 256;
 

@@ -12,7 +12,7 @@ use trac_gap::TwoEnds;
 use trac_step::{Core, Mark};
 use trac_text::Args;
 
-// How many bytes of the neutral text stand before a byte of an argument, where one stands there.
+// How many bytes of the neutral text stand before a byte of an argument, if one stands there.
 pub(crate) fn argument_offset<E: TwoEnds<u8, A>, M: TwoEnds<Mark, A>, A: Allocator + Copy>(
     machine: &Core<E, M, A>,
     function: usize,
@@ -34,7 +34,7 @@ pub(crate) fn argument_offset<E: TwoEnds<u8, A>, M: TwoEnds<Mark, A>, A: Allocat
 }
 
 // How many bytes the arguments of the functions from this number on hold, counted from the outermost; the one of this
-// number has these. Where it is the innermost no other one is looked at.
+// number has these. If it is the innermost, no other one is looked at.
 fn bytes_from<E: TwoEnds<u8, A>, M: TwoEnds<Mark, A>, A: Allocator + Copy>(
     machine: &Core<E, M, A>,
     function: usize,

@@ -25,7 +25,7 @@ pub enum Place<'a> {
 /// Where a byte comes from that stands in the state after a step, as it is told in the state before it.
 #[derive(Clone, Copy)]
 pub enum Origin<'a> {
-    /// It stood at this place. That is a form only where it stands in a form or a block after the step.
+    /// It stood at this place. That is a form only if it stands in a form or a block after the step.
     Carried(Place<'a>),
     /// It is this item of the form that argument 1 of the call names which the step performs. It stands in no
     /// form and no block after the step.

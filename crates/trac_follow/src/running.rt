@@ -41,7 +41,7 @@ pub(crate) fn before_run<'a, E: TwoEnds<u8, A>, M: TwoEnds<Mark, A>, A: Allocato
     }
 }
 
-// A byte of the active text, where there is one, else another place.
+// A byte of the active text, if there is one, else another place.
 fn in_active<'a>(byte: Option<usize>, place: Place<'a>) -> Place<'a>
     ensures { place_of result ≡ in_active byte (place_of place.entry) }
 {
@@ -51,7 +51,7 @@ fn in_active<'a>(byte: Option<usize>, place: Place<'a>) -> Place<'a>
     }
 }
 
-// The byte so many further on in a text, where there is one.
+// The byte so many further on in a text, if there is one.
 fn further_on(text: &[u8], count: u64, i: usize) -> usize
     ensures { count + i < length text.now → result ≡ count + i }
 {
@@ -66,7 +66,7 @@ fn further_on(text: &[u8], count: u64, i: usize) -> usize
     first + i
 }
 
-// How far a byte is past so many; none where it is within.
+// How far a byte is past so many; none if it is within.
 fn past_end(len: usize, i: usize) -> Option<usize>
     ensures { result ≡ (if nat_lt i len then None else Some (i - len)) }
 {
@@ -79,7 +79,7 @@ fn past_end(len: usize, i: usize) -> Option<usize>
 // ---- steps that leave the rest of the active text
 
 // Where a byte of the active text stood before the next step of a machine, after which that text is so long: as far
-// from its end, where the step did not put it there.
+// from its end, if the step did not put it there.
 pub(crate) fn before_in_active<'a, E: TwoEnds<u8, A>, M: TwoEnds<Mark, A>, A: Allocator + Copy>(
     before: &Core<E, M, A>,
     left: usize,
@@ -94,8 +94,8 @@ pub(crate) fn before_in_active<'a, E: TwoEnds<u8, A>, M: TwoEnds<Mark, A>, A: Al
     Some(Place::Active(byte))
 }
 
-// Which byte of so many is as far from the end as this one of others is from theirs; none where it would be the first,
-// which the step takes, or where there is none.
+// Which byte of so many is as far from the end as this one of others is from theirs. None if it would be the first,
+// which the step takes, or if there is none.
 fn as_far_from_end(len: usize, other_len: usize, i: usize) -> Option<usize>
     ensures { IfSome result (λ j. (j + other_len ≡ len + i) × (0 < j)) }
 {

@@ -1,4 +1,5 @@
-//! Following a byte back to where it comes from, past all calls that passed it on.
+//! Following a byte back to where it comes from, past all calls that passed it on: that took it out of an argument, a
+//! form or a block, and gave it as their value, printed it, or put it into a form or a block.
 ghost use Rattle.std.specs.Prelude.{◌≡◌, ◌≤◌, [], ⊤, IfErr, IfNone, IfOk, IfSome, MatchOption, OnErr, OnOk, Some};
 ghost use Rattle.trac_follow.specs.declared.tracing.Onward.TheVariants.{OfForm};
 ghost use Rattle.trac_follow.specs.Following.{IsFollowed, IsKnown};
@@ -20,16 +21,17 @@ use trac_session::{Machine, Session};
 
 /// Who is told of the calls on the way of a byte.
 pub trait Witness<A: Allocator + Copy> {
-    // `passes` ties the witness before it is told of a call to the witness after; `refuses` does so where it refuses. A
+    // `passes` ties the witness before it is told of a call to the witness after; `refuses` does so if it refuses. A
     // witness that gives neither promises nothing.
     ghost passes: { Self → Passing → Self → Type 0 } = { λ _ _ _. ⊤ };
 
     ghost refuses: { Self → Passing → Self → Type 0 } = { λ _ _ _. ⊤ };
 
-    /// Told of a call that passed the byte on, the latest first. The machine performs it next, so many steps before the
-    /// state in which the trace begins. The byte was followed back there from this place: the one where the trace
-    /// begins, and later the one from which the call that was told of last had it. The error is that the witness
-    /// refuses to be told, for any reason of its own; it ends the trace.
+    /// Told of a call that passed the byte on, the latest call first. `machine` is about to perform the call, `steps`
+    /// steps before the state in which the trace begins. `from` is a place in a later state: the one where the trace
+    /// begins, or, if a call was told of before, the one from which that call took the byte.
+    ///
+    /// If the witness answers the error, for want of memory or because it has heard enough, the trace ends.
     fn passed(
         &mut self,
         machine: &Machine<A>,
@@ -42,27 +44,27 @@ pub trait Witness<A: Allocator + Copy> {
             (record { state = machine.now.state; steps = steps; from = place_of from.entry }) self.new) };
 }
 
-/// Where a byte comes from.
+/// How a trace ended. The session stays there: the step that comes next is the one that it would take now.
 #[derive(Clone, Copy)]
 pub enum End {
-    /// Nothing stood at the place.
+    /// Nothing stood at the place, and the session has not moved.
     Nothing,
-    /// All steps that were gone back over carried it. There are no more, or as many were taken as were wanted.
+    /// It is older: no further step is kept, or as many were gone back over as were wanted.
     Earlier,
-    /// The step that comes next read it, as the byte of this number of the tape.
+    /// The step that comes next read it, as the byte of this number of the session's tape as it is now, the first being
+    /// number 0.
     Read(usize),
     /// The step that comes next made it.
     Made,
-    /// All steps that were gone back over carried it, and the call that comes next passed it on, out of a form or of
-    /// one in a block. That form has a name of more than 256 bytes, which could not be kept: the store does not know
-    /// the name, as it may not know that of a form in a block, or no more owners of it can be counted. The witness was
-    /// told of the call.
+    /// The call that comes next passed it on, and the witness was told of that. But the call took it out of a form, or
+    /// out of one in a block, whose name has more than 256 bytes and could not be kept. The store does not know that
+    /// name, or its count of owners is full.
     Unkept,
-    /// All steps that were gone back over carried it, and the witness refused to be told of the call that comes next.
+    /// The call that comes next passed it on, and the witness refused to be told of that.
     Untold,
 }
 
-/// How a byte was followed back to where it comes from.
+/// How far a byte was followed back.
 #[derive(Clone, Copy)]
 pub struct Traced {
     /// Over how many steps the session has gone back.
@@ -74,14 +76,12 @@ pub struct Traced {
 /// Follows the byte at a place, or the item of a form, back to where it comes from: over up to `most` steps, and past
 /// each call that passed it on, until a step made or read it. The session goes back over these steps, and stays there.
 ///
-/// The witness is told of each call that passed the byte on, as `follow` stops at it, and of no other. If it refuses,
-/// the trace ends.
+/// The witness is told of just the calls that passed the byte on. If it refuses, the trace ends.
 ///
-/// The trace takes no memory but what the witness takes. Where a call passed the byte on out of a form, it keeps the
-/// form's name: it copies up to 256 bytes into the frame of `trace`, and shares a longer name, which `trace` and the
-/// store then both own. If it cannot be kept, the trace ends.
+/// The trace takes no memory but what the witness takes. If a call took the byte out of a form, the trace keeps the
+/// form's name: it copies up to 256 bytes, and shares a longer name with the store. If it cannot, it ends.
 ///
-/// That nothing is there is said only where nothing stands at the place.
+/// `End::Nothing` is answered only if nothing stands at the place.
 pub fn trace<A: Allocator + Copy, W: Witness<A>>(
     session: &mut Session<A>,
     place: Place<'_>,
@@ -100,7 +100,7 @@ pub fn trace<A: Allocator + Copy, W: Witness<A>>(
     let width = session.width();
     let mut here = KeptPlace::lent(place);
     let mut steps = 0;
-    // A leg goes back to the next call that passed the byte on, over one step at least: so `most` legs are enough.
+    // A leg goes back to the nearest call that passed the byte on, over one step at least: so `most` legs are enough.
     for _leg in 0..most {
         let leg = follow_leg(session, width, &here, most - steps);
         steps += leg.steps;
@@ -111,7 +111,7 @@ pub fn trace<A: Allocator + Copy, W: Witness<A>>(
         let Ok(()) = witness.passed(session.machine(), steps, here.place()) else {
             return ended(steps, End::Untold);
         };
-        // A place that is in no form needs no name.
+        // Most places are in no form. They need no name, and to write one costs more than most legs.
         if let Some(spot) = formless_spot(from) {
             here.go_to(spot);
             continue;
@@ -124,7 +124,8 @@ pub fn trace<A: Allocator + Copy, W: Witness<A>>(
     ended(steps, End::Earlier)
 }
 
-// Follows a byte to the next call that passed it on, as `follow` does. Something stands at the place.
+// Follows a byte back to the nearest call that passed it on, as `follow` does. It is apart from the loop for its proof
+// alone.
 fn follow_leg<'a, A: Allocator + Copy>(
     session: &mut Session<A>,
     width: Width,
@@ -146,7 +147,7 @@ fn ended(steps: u64, end: End) -> Traced
     Traced { steps, end }
 }
 
-// Where a byte stood that the call which comes next passed on.
+// Where a byte stood before the call that comes next passed it on.
 #[derive(Clone, Copy)]
 pub(crate) enum Onward<'a> {
     // At this place.
@@ -181,7 +182,7 @@ fn formless_spot(from: Onward<'_>) -> Option<Nameless>
     }
 }
 
-// Where a byte stood, with the name of its form; `None` if that cannot be kept, and has more than 256 bytes.
+// Where a byte stood, with the name of its form. `None` if that name has more than 256 bytes and cannot be kept.
 fn kept_place<'n, A: Allocator + Copy>(
     machine: &Machine<A>,
     from: Onward<'_>,
@@ -195,8 +196,8 @@ fn kept_place<'n, A: Allocator + Copy>(
     }
 }
 
-// The same, of this item of the form that the call names which comes next. There is such a call, since it took the item
-// out of the form.
+// The same for this item of the form that argument 1 of the next call names. There is such a call, since it took the
+// item out of the form.
 fn item_of_call<'n, A: Allocator + Copy>(
     machine: &Machine<A>,
     item: usize,

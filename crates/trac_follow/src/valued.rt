@@ -158,8 +158,8 @@ fn has_greater(arguments: &Args<'_>) -> bool
 
 // ---- numbers
 
-// Of `ad`, `su`, `ml` or `dv`: the prefix is that of the first number, and the digits are made; where there is no
-// result, of the default argument.
+// Of `ad`, `su`, `ml` or `dv`: the prefix is that of the first number, and the digits are made. If there is no result,
+// the byte is of the default argument.
 fn calculated_byte<'a>(operation: Operation, arguments: &Args<'_>, asked: Asked) -> Origin<'a>
     ensures tells { TellsComputed (Calculate operation) arguments.now asked.function asked.width asked.byte result }
     ensures taken { is_from_form result ≡ false }

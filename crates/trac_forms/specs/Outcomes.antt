@@ -12,6 +12,6 @@ abbrev pub as_refusal : FormError → Refusal
 as_refusal Memory = refused.Memory
 as_refusal TooLong = refused.TooLong
 
--- a form that stands for so many bytes may be refused for memory, and for its length where it passes the limit
+-- a form that stands for so many bytes may be refused for memory, and for its length if it passes the limit
 abbrev pub MayRefuseForm : ℕ → FormError → Type 0
 MayRefuseForm bytes error = OrMemory (Unit {0}) (λ _. FORM_LIMIT < bytes) (as_refusal error)

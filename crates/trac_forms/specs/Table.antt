@@ -16,7 +16,7 @@ named name entries = map (λ e. (name e.0, e.1)) entries
 abbrev pub full_keys : List (List ℕ × Option Form) → List (List ℕ)
 full_keys entries = keys_of (filter (λ e. is_some e.1) entries)
 
--- the forms of a table, with an entry before the others: where a name stands twice its first entry counts, and one
+-- the forms of a table, with an entry before the others: if a name stands twice, its first entry counts, and one
 -- without a form takes the name's form away
 abbrev pub with_entry : List ℕ → Option Form → Forms → Forms
 with_entry name None forms = finite.remove forms name

@@ -11,9 +11,9 @@ use std::marker::Model;
 /// is seen as the list of these items.
 #[derive(Drop)]
 pub(crate) struct After<'a> {
-    /// The bytes, where these are all that there is; else empty.
+    /// The bytes, if these are all that there is; else empty.
     pub(crate) text: &'a [u8],
-    /// The items, where there are others.
+    /// The items, if there are others.
     pub(crate) items: &'a [PackedItem],
 }
 
@@ -47,8 +47,7 @@ impl<'a> After<'a> {
         self.items.get(i - self.text.len()).copied()
     }
 
-    /// How many items from one number on, up to another, stand before the first gap among them; all
-    /// where there is none.
+    /// How many items from one number on, up to another, stand before the first gap among them; all if there is none.
     pub(crate) fn run_len(&self, from: usize, to: usize) -> usize
         requires order { from ≤ to }
         requires within { to ≤ length self.now }
@@ -61,7 +60,7 @@ impl<'a> After<'a> {
     }
 }
 
-/// How many bytes a text has, where that is no more than `most`.
+/// How many bytes a text has, if that is no more than `most`.
 pub(crate) fn text_within(text: &[u8], most: usize) -> Option<usize>
     ensures { SomeIff result (length text.now ≤ most) (length text.now) }
 {

@@ -32,7 +32,7 @@ impl<A: Allocator + Copy> Model for Block<A> {
 }
 
 impl<A: Allocator + Copy> Block<A> {
-    /// A block of no forms, with spare places for at least `n`. Refused with `Memory` where the allocator refuses.
+    /// A block of no forms, with spare places for at least `n`. Refused with `Memory` if the allocator refuses.
     pub fn with_room(alloc: A, n: usize) -> Result<Self, FormError>
         ensures none { IfOk result (λ b. b.held ≡ []) }
         ensures room { IfOk result (λ b. n ≤ b.room) }
@@ -77,8 +77,8 @@ impl<A: Allocator + Copy> Block<A> {
         self.entries.push_reserved((name, form));
     }
 
-    /// Takes the last form away with its name, and returns both; `None` where the block holds no forms. It takes no
-    /// spare place.
+    /// Takes the last form away with its name, and returns both; `None` if the block holds no forms. It takes no spare
+    /// place.
     pub fn pop(&mut self) -> Option<(Vec<u8, A>, Form<A>)>
         ensures last { MatchOption result ((self.old.held ≡ []) × (self.new.held ≡ []))
             (λ entry. self.old.held ≡ self.new.held ++ (entry.0.items, entry.1) ∷ []) }

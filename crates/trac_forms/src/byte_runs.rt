@@ -14,11 +14,11 @@ use trac_gap::TwoEnds;
 // How many items are looked at together, so that there is no jump for each, or unpacked together at the end of a run.
 const GROUP: usize = 8;
 
-// How many are looked at, packed or unpacked together where there are so many, so that there is
-// neither a jump nor a call for each.
+// How many are looked at, packed or unpacked together if there are so many, so that there is neither a jump nor a call
+// for each.
 const CHUNK: usize = 32;
 
-// How many items there are up to the first gap, or all where there is none.
+// How many items there are up to the first gap, or all if there is none.
 #[inline(always)]
 pub(crate) fn run_len(items: &[PackedItem]) -> usize
     ensures within { result ≤ length items.now }
@@ -78,7 +78,7 @@ fn has_gap<const N: usize>(items: &[PackedItem], at: usize) -> bool
     gap
 }
 
-// Puts the bytes of a text at the end of the items on the left, where there is room for them.
+// Puts the bytes of a text at the end of the items on the left, if there is room for them.
 pub(crate) fn put_text<A: Allocator + Copy>(text: &[u8], items: &mut Items<A>)
     requires { item_count items.old + length text.now ≤ items.old.capacity }
     ensures { items.new ≡ record items.old { left = items.old.left ++ as_items text.now } }

@@ -53,7 +53,7 @@ impl<A: Allocator + Copy> Form<A> {
     /// What segmenting with these texts would cut: the gaps that it would make. There may be at most 1,048,576
     /// texts. The form stays as it is.
     ///
-    /// Refused with `Memory` where the allocator refuses.
+    /// Refused with `Memory` if the allocator refuses.
     pub fn cut_for<T: Texts>(&self, texts: &T) -> Result<Cut<A>, FormError>
         requires { length (T.texts texts.now) ≤ MARK_LIMIT }
         ensures cut { IfOk result (λ c. c ≡ cut_of (T.texts texts.now) self.now) }
@@ -90,7 +90,7 @@ impl<A: Allocator + Copy> Form<A> {
         fill_gaps(&mut self.items, cut.gaps(), texts);
     }
 
-    // The text of the whole form, where it is kept as one. None is always allowed: then its bytes are copied.
+    // The text of the whole form, if it is kept as one. None is always allowed: then its bytes are copied.
     fn whole_text(&self) -> Option<&[u8]>
         ensures whole { IfSome result (λ run. self.now ≡ defined run.now) }
         ensures fits { IfSome result (λ run. length run.now ≤ FORM_LIMIT) }

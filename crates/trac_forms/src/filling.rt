@@ -14,7 +14,7 @@ use trac_rules::item::Item;
 use trac_rules::limit::TEXT_LIMIT;
 
 impl<A: Allocator + Copy> Form<A> {
-    /// How many bytes a call with these texts would give, found without building them; `None` where these are more than
+    /// How many bytes a call with these texts would give, found without building them; `None` if these are more than
     /// 16,777,216. It takes no memory.
     pub fn call_len<T: Texts>(&self, args: &T) -> Option<usize>
         ensures { SomeIff result (length (called (T.texts args.now) self.now) ≤ TEXT_LIMIT)
@@ -27,11 +27,11 @@ impl<A: Allocator + Copy> Form<A> {
         text_within(after.text, TEXT_LIMIT)
     }
 
-    /// Puts the value of a call with these texts at the end of `out`: the bytes after the pointer, with each gap
-    /// replaced by the text of its number, which counts from 1. A text that is missing is empty. The pointer stays.
-    /// This is the rule of `cl`; that it starts at the pointer is this project's profile.
+    /// Puts the value of a call with these texts at the end of `out`. The value is the bytes after the pointer, with
+    /// each gap replaced by the text of its number, which counts from 1. A text that is missing is empty. The pointer
+    /// stays. This is the rule of `cl`; that it starts at the pointer is this project's profile.
     ///
-    /// Refused with `Memory` where the allocator refuses; then `out` still begins with what it held.
+    /// Refused with `Memory` if the allocator refuses; then `out` still begins with what it held.
     pub fn call_into<T: Texts, B: Allocator>(
         &self,
         args: &T,
@@ -49,7 +49,7 @@ impl<A: Allocator + Copy> Form<A> {
     }
 }
 
-// How many bytes these items give in a call, where that is no more than `most`.
+// How many bytes these items give in a call, if that is no more than `most`.
 fn all_filled_len<T: Texts>(items: &[PackedItem], args: &T, most: usize) -> Option<usize>
     ensures { SomeIff result (length (all_filled (T.texts args.now) items.now) ≤ most)
         (length (all_filled (T.texts args.now) items.now)) }
@@ -126,7 +126,7 @@ fn fill_into<T: Texts, B: Allocator>(
     }
 }
 
-// The text of this number, the first being number 1; empty where it is missing.
+// The text of this number, the first being number 1; empty if it is missing.
 pub(crate) fn text<T: Texts>(texts: &T, number: u32) -> &[u8]
     ensures { result.now ≡ text_numbered number (T.texts texts.now) }
 {

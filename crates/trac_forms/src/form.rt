@@ -34,7 +34,7 @@ const LONG: usize = 16;
 #[derive(Drop)]
 pub struct Form<A: Allocator + Copy = Global> {
     pub(crate) alloc: A,
-    // the bytes after the pointer, where there is no other item; else empty
+    // the bytes after the pointer, if there is no other item; else empty
     pub(crate) text: Vec<u8, A>,
     pub(crate) items: Items<A>,
 }
@@ -56,8 +56,7 @@ impl<A: Allocator + Copy> Model for Form<A> {
 impl<A: Allocator + Copy> Form<A> {
     /// A form of the bytes of `text`, with its pointer at the start.
     ///
-    /// Refused with `TooLong` where `text` has more than 16,777,216 bytes, and with `Memory` where
-    /// the allocator refuses.
+    /// Refused with `TooLong` if `text` has more than 16,777,216 bytes, and with `Memory` if the allocator refuses.
     pub fn new(alloc: A, text: &[u8]) -> Result<Self, FormError>
         ensures made { IfOk result (λ f. f ≡ defined text.now) }
         ensures fits { OnOk result (length text.now ≤ FORM_LIMIT) }
@@ -75,8 +74,8 @@ impl<A: Allocator + Copy> Form<A> {
 
     /// A form of these items, with its pointer between the two lists. Each gap has to be at least one byte wide.
     ///
-    /// Refused with `TooLong` where there are more than 16,777,216 items, or where their bytes and the widths of their
-    /// gaps are more than that together; and with `Memory` where the allocator refuses.
+    /// Refused with `TooLong` if there are more than 16,777,216 items, or if their bytes and the widths of their gaps
+    /// are more than that together. Refused with `Memory` if the allocator refuses.
     pub fn of(alloc: A, before: &[Item], after: &[Item]) -> Result<Self, FormError>
         requires { All IsWide (before.now ++ after.now) }
         ensures made { IfOk result (λ f. f ≡ record { before = before.now; after = after.now }) }
@@ -120,7 +119,7 @@ impl<A: Allocator + Copy> Form<A> {
     }
 
     /// A second form of the same items and with the same pointer, with memory and room of its own. Refused with
-    /// `Memory` where the allocator refuses.
+    /// `Memory` if the allocator refuses.
     pub fn copy(&self) -> Result<Self, FormError>
         ensures same { IfOk result (λ f. f ≡ self.now) }
         ensures err { IsOkUnless result FormError.Memory }
@@ -151,8 +150,8 @@ impl<A: Allocator + Copy> Form<A> {
         old
     }
 
-    /// How many items from one place on, up to another, stand before the first gap among them; all where there is none.
-    /// It takes no memory, and looks at many items together.
+    /// How many items from one place on, up to another, stand before the first gap among them; all if there is none. It
+    /// takes no memory, and looks at many items together.
     pub fn run_len(&self, from: usize, to: usize) -> usize
         requires order { from ≤ to }
         requires within { to ≤ length (all_items self.now) }
@@ -209,7 +208,7 @@ fn kept_and_packed(text: &[u8]) -> (&[u8], &[u8])
     (text, &[])
 }
 
-// Keeps the bytes of a text as items, before those on the right, where there is room for them.
+// Keeps the bytes of a text as items, before those on the right, if there is room for them.
 pub(crate) fn pack<A: Allocator + Copy>(text: &mut Vec<u8, A>, items: &mut Items<A>)
     requires { item_count items.old + length text.old.items ≤ items.old.capacity }
     ensures none { text.new.items ≡ [] }
@@ -260,7 +259,7 @@ fn items_of<A: Allocator + Copy>(
     Ok(items)
 }
 
-// Puts these items at the end of those on the left, where there is room for them.
+// Puts these items at the end of those on the left, if there is room for them.
 fn put_items<A: Allocator + Copy>(from: &[Item], items: &mut Items<A>)
     requires wide { All IsWide from.now }
     requires room { item_count items.old + length from.now ≤ items.old.capacity }
@@ -271,7 +270,7 @@ fn put_items<A: Allocator + Copy>(from: &[Item], items: &mut Items<A>)
     }
 }
 
-// How many bytes these items stand for, where that is no more than `most`.
+// How many bytes these items stand for, if that is no more than `most`.
 fn extent_within(items: &[Item], most: usize) -> Option<usize>
     ensures { SomeIff result (extent items.now ≤ most) (extent items.now) }
 {

@@ -45,7 +45,7 @@ impl<A: Allocator + Copy> Model for Name<A> {
 }
 
 impl<A: Allocator + Copy> Name<A> {
-    /// This name. Refused with `Memory` where the allocator refuses.
+    /// This name. Refused with `Memory` if the allocator refuses.
     pub(crate) fn new(alloc: A, bytes: &[u8]) -> Result<Self, FormError>
         ensures name { IfOk result (λ name. name ≡ bytes.now) }
         ensures err { IsOkUnless result FormError.Memory }
@@ -75,7 +75,7 @@ impl<A: Allocator + Copy> Name<A> {
         self.as_slice().len()
     }
 
-    /// Its bytes, to be owned together, where it has more than 256.
+    /// Its bytes, to be owned together, if it has more than 256.
     pub(crate) fn shared(&self) -> Option<&ArcSlice<u8, A>>
         ensures own { IfNone result (length self.now ≤ 256) }
         ensures bytes { IfSome result (λ bytes. arc_slice_items bytes.now ≡ self.now) }

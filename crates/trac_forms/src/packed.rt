@@ -1,4 +1,4 @@
-//! An item of a form as it is kept, in eight bytes where `Item` takes twelve.
+//! An item of a form as it is kept: it takes eight bytes, `Item` takes twelve.
 ghost use Rattle.std.specs.Prelude.{◌≡◌, false};
 ghost use Rattle.trac_rules.specs.Form.{IsWide};
 ghost use Rattle.trac_rules.specs.Pieces.{is_gap};

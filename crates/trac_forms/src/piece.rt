@@ -31,9 +31,9 @@ pub struct Piece {
 }
 
 impl<A: Allocator + Copy> Form<A> {
-    /// The bytes from the pointer up to the next gap, the pointer after that gap; without a gap all bytes,
-    /// the pointer at the end. `None` where nothing stands after the pointer, no gap either. This is the
-    /// rule of `cs`. It takes no memory.
+    /// The bytes from the pointer up to the next gap, the pointer after that gap; without a gap all bytes, the pointer
+    /// at the end. `None` if nothing stands after the pointer, no gap either. This is the rule of `cs`. It takes no
+    /// memory.
     pub fn read_segment(&self) -> Option<Piece>
         ensures read { option_map (λ p. taken p self.now) result ≡ segment_read self.now }
         ensures there { IfSome result (IsThere self.now) }
@@ -49,7 +49,7 @@ impl<A: Allocator + Copy> Form<A> {
         })
     }
 
-    /// The next byte, the pointer right after it; gaps before it are passed. `None` where no byte stands after the
+    /// The next byte, the pointer right after it; gaps before it are passed. `None` if no byte stands after the
     /// pointer. This is the rule of `cc`. It takes no memory.
     pub fn read_char(&self) -> Option<Piece>
         ensures read { option_map (λ p. taken p self.now) result ≡ char_read self.now }
@@ -60,7 +60,7 @@ impl<A: Allocator + Copy> Form<A> {
 
     /// For `n` above 0 the next `n` bytes, or as many as there are, the pointer right after the last of them. For `n`
     /// below 0 as many bytes before the pointer, in the order of the text, the pointer right before the first of them.
-    /// For 0 empty, the pointer unmoved. Gaps are passed and not given. `None` where `n` is not 0 and no byte stands on
+    /// For 0 empty, the pointer unmoved. Gaps are passed and not given. `None` if `n` is not 0 and no byte stands on
     /// that side. This is the rule of `cn`. It takes no memory.
     pub fn read_count(&self, n: i128) -> Option<Piece>
         ensures read { option_map (λ p. taken p self.now) result ≡ count_read n self.now }
@@ -81,11 +81,11 @@ impl<A: Allocator + Copy> Form<A> {
     }
 
     /// The bytes before the first occurrence of `text` after the pointer, the pointer right after that occurrence. No
-    /// occurrence crosses a gap; an empty text occurs at once, also at the end. `None` where it does not
-    /// occur. This is the rule of `in`.
+    /// occurrence crosses a gap; an empty text occurs at once, also at the end. `None` if it does not occur. This is
+    /// the rule of `in`.
     ///
-    /// Refused with `Memory` where the allocator refuses: runs of bytes between gaps are copied for the search, in
-    /// growing parts, so that time and memory grow with what is passed, and not with all that is left.
+    /// Refused with `Memory` if the allocator refuses: runs of bytes between gaps are copied for the search. They are
+    /// copied in growing parts, so that time and memory grow with what is passed, and not with all that is left.
     pub fn read_until(&self, text: &[u8]) -> Result<Option<Piece>, FormError>
         ensures read { IfOk result (λ r. option_map (λ p. taken p self.now) r ≡ until_read text.now self.now) }
         ensures there { IfOk result (λ r. IfSome r (IsThere self.now)) }
@@ -100,11 +100,10 @@ impl<A: Allocator + Copy> Form<A> {
         }))
     }
 
-    /// Puts the bytes of a piece at the end of `out`: the first `piece.len` bytes from the lesser of the
-    /// form's and the piece's pointer on, with gaps passed. The pointer stays. A form that has fewer gives
-    /// what it has.
+    /// Puts the bytes of a piece at the end of `out`. These are the first `piece.len` bytes from the lesser of the
+    /// form's and the piece's pointer on, with gaps passed. The pointer stays. A form that has fewer gives what it has.
     ///
-    /// Refused with `Memory` where the allocator refuses; then `out` still begins with what it held.
+    /// Refused with `Memory` if the allocator refuses; then `out` still begins with what it held.
     pub fn piece_into<B: Allocator>(
         &self,
         piece: &Piece,
@@ -128,7 +127,7 @@ impl<A: Allocator + Copy> Form<A> {
         self.items.left().len() + count
     }
 
-    // So many bytes; all there are, where a length cannot hold the number.
+    // So many bytes; all there are, if a length cannot hold the number.
     fn bytes_up_to(&self, n: u128) -> usize
         ensures some { 0 < n → 0 < result }
         ensures next { next_bytes result self.now ≡ next_bytes n self.now }
@@ -190,7 +189,7 @@ fn after_bytes(count: usize) -> Reached
     }
 }
 
-// The items of the first segment: those up to the first gap and that gap, or all where there is none.
+// The items of the first segment: those up to the first gap and that gap, or all if there is none.
 fn segment(after: &After<'_>) -> Reached
     ensures items { result.items ≡ segment_items (position is_gap after.now) after.now }
     ensures bytes { result.bytes ≡ length (bytes_in (take result.items after.now)) }
@@ -217,7 +216,7 @@ fn segment_among(items: &[PackedItem]) -> Reached
     Reached { items, bytes }
 }
 
-// The place right after the first `n` bytes of these items, or after all bytes where there are fewer.
+// The place right after the first `n` bytes of these items, or after all bytes if there are fewer.
 fn reach(after: &After<'_>, n: usize) -> Reached
     ensures place { Some result.items ≡ place_after (at_most_all n after.now) after.now }
     ensures bytes { result.bytes ≡ at_most_all n after.now }
@@ -255,7 +254,7 @@ fn reach_among(items: &[PackedItem], n: usize) -> Reached
     reached
 }
 
-// The place right before the last `n` bytes of these items, or before all bytes where there are fewer.
+// The place right before the last `n` bytes of these items, or before all bytes if there are fewer.
 fn reach_back(items: &[PackedItem], n: usize) -> Reached
     ensures place { Some result.items ≡ place_before (at_most_all n items.now) items.now }
     ensures bytes { result.bytes ≡ at_most_all n items.now }

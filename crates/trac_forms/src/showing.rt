@@ -13,8 +13,8 @@ use trac_rules::item::Item;
 use trac_rules::limit::OUTPUT_LIMIT;
 
 impl<A: Allocator + Copy> Form<A> {
-    /// How many bytes `show_into` would give, found without building them; `None` where these are more than 16,777,216.
-    /// It takes no memory.
+    /// How many bytes `show_into` would give, found without building them; `None` if these are more than 16,777,216. It
+    /// takes no memory.
     pub fn show_len(&self) -> Option<usize>
         ensures { SomeIff result (length (shown self.now) ≤ OUTPUT_LIMIT) (length (shown self.now)) }
     {
@@ -24,10 +24,10 @@ impl<A: Allocator + Copy> Form<A> {
         Some(before + mark + after)
     }
 
-    /// Puts the form as it is printed at the end of `out`: its bytes, each gap of ordinal k as `<k>`, and `<^>` at the
-    /// place of the pointer, also at an end. This is the rule of `pf`, in this project's profile.
+    /// Puts the form as it is printed at the end of `out`. It is printed as its bytes, each gap of ordinal k as `<k>`,
+    /// and `<^>` at the place of the pointer, also at an end. This is the rule of `pf`, in this project's profile.
     ///
-    /// Refused with `Memory` where the allocator refuses; then `out` still begins with what it held.
+    /// Refused with `Memory` if the allocator refuses; then `out` still begins with what it held.
     pub fn show_into<B: Allocator>(&self, out: &mut Vec<u8, B>) -> Result<(), FormError>
         ensures ok { OnOk result (out.new.items ≡ out.old.items ++ shown self.now) }
         ensures left { OnErr result (IsFrontOf out.old.items out.new.items) }
@@ -39,7 +39,7 @@ impl<A: Allocator + Copy> Form<A> {
     }
 }
 
-// How many bytes the items after the pointer are printed as, where that is no more than `most`.
+// How many bytes the items after the pointer are printed as, if that is no more than `most`.
 fn after_len(after: &After<'_>, most: usize) -> Option<usize>
     ensures { SomeIff result (length (shown_items after.now) ≤ most) (length (shown_items after.now)) }
 {
@@ -61,7 +61,7 @@ fn after_into<B: Allocator>(after: &After<'_>, out: &mut Vec<u8, B>) -> Result<(
     Ok(out.extend_from_slice(after.text)?)
 }
 
-// How many bytes these items are printed as, where that is no more than `most`.
+// How many bytes these items are printed as, if that is no more than `most`.
 fn items_len(items: &[PackedItem], most: usize) -> Option<usize>
     ensures { SomeIff result (length (shown_items items.now) ≤ most) (length (shown_items items.now)) }
 {

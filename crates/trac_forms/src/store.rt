@@ -127,8 +127,8 @@ impl<A: Allocator + Copy> Store<A> {
         key.shared()
     }
 
-    /// The names of the forms, rising by their bytes. Names without a form are not among them. Refused with
-    /// `Memory` where the allocator refuses.
+    /// The names of the forms, rising by their bytes. Names without a form are not among them. Refused with `Memory` if
+    /// the allocator refuses.
     pub fn names(&self) -> Result<Vec<&[u8], A>, FormError>
         ensures names { IfOk result (λ names. map (λ name. name.now) names.items ≡ names_of self.now.forms) }
         ensures err { IsOkUnless result FormError.Memory }
@@ -138,8 +138,8 @@ impl<A: Allocator + Copy> Store<A> {
         Ok(names)
     }
 
-    /// Makes a place for a form of this name, so that `put` needs no memory. The forms stay as they are.
-    /// Refused with `Memory` where the allocator refuses, and then nothing has changed.
+    /// Makes a place for a form of this name, so that `put` needs no memory. The forms stay as they are. Refused with
+    /// `Memory` if the allocator refuses, and then nothing has changed.
     pub fn know(&mut self, name: &[u8]) -> Result<(), FormError>
         ensures known { OnOk result (self.new ≡ record self.old { known = set.insert self.old.known name.now }) }
         ensures unchanged { OnErr result (self.new ≡ self.old) }
@@ -166,9 +166,9 @@ impl<A: Allocator + Copy> Store<A> {
         }
     }
 
-    /// Puts a form under a name, known or not, and returns the one that it replaces. It takes memory
-    /// only where the name is not known.
-    /// Refused with `Memory` where the allocator refuses, and then nothing has changed.
+    /// Puts a form under a name, known or not, and returns the one that it replaces. It takes memory only if the name
+    /// is not known.
+    /// Refused with `Memory` if the allocator refuses, and then nothing has changed.
     pub fn insert(&mut self, name: &[u8], form: Form<A>) -> Result<Option<Form<A>>, FormError>
         ensures replaced { IfOk result (λ replaced. replaced ≡ finite.get self.old.forms name.now) }
         ensures put { OnOk result (self.new ≡ record self.old {
@@ -201,8 +201,8 @@ impl<A: Allocator + Copy> Store<A> {
         }
     }
 
-    /// Sets the pointer of the form of this name, if there is one: before the item at this place, or at the end where
-    /// the form has none there. Returns where it stood. It takes no memory.
+    /// Sets the pointer of the form of this name, if there is one. The pointer then stands before the item at this
+    /// place, or at the end if the form has none there. Returns where it stood before. It takes no memory.
     pub fn set_pointer(&mut self, name: &[u8], place: usize) -> Option<usize>
         ensures old { result ≡ option_map (λ form. length form.before) (finite.get self.old.forms name.now) }
         ensures set { self.new ≡ record self.old {
@@ -213,9 +213,9 @@ impl<A: Allocator + Copy> Store<A> {
         point_at(&mut self.table, i, place)
     }
 
-    /// Cuts texts out of the form of this name, if there is one, and returns where its pointer stood, which goes
-    /// to the start: what `segment` does to a form. `cut` has to be what `cut_for` returns for that form and
-    /// these texts. It takes no memory.
+    /// Cuts texts out of the form of this name, if there is one, as `segment` does to a form. Returns where its pointer
+    /// stood, which goes to the start. `cut` has to be what `cut_for` returns for that form and these texts. It takes
+    /// no memory.
     pub fn segment<T: Texts>(&mut self, name: &[u8], cut: &Cut<A>, texts: &T) -> Option<usize>
         requires { IfSome (finite.get self.old.forms name.now) (λ form. cut.now ≡ cut_of (T.texts texts.now) form) }
         ensures old { result ≡ option_map (λ form. length form.before) (finite.get self.old.forms name.now) }
@@ -227,9 +227,9 @@ impl<A: Allocator + Copy> Store<A> {
         segment_at(&mut self.table, i, cut, texts)
     }
 
-    /// Undoes `segment` in the form of this name, if there is one: puts the texts in place of the gaps of a cut again,
-    /// and sets the pointer before the item at `pointer`, or at the end where the form then has none there. At each
-    /// place of the cut a gap of its ordinal has to stand, as wide as the text of that number. It takes no memory.
+    /// Undoes `segment` in the form of this name, if there is one. Puts the texts in place of the gaps of a cut again.
+    /// Sets the pointer before the item at `pointer`, or at the end if the form then has none there. At each place of
+    /// the cut a gap of its ordinal has to stand, as wide as the text of that number. It takes no memory.
     pub fn unsegment<T: Texts>(&mut self, name: &[u8], cut: Cut<A>, texts: &T, pointer: usize)
         requires { IfSome (finite.get self.old.forms name.now)
             (λ form. IsTrue (is_some (joined (T.texts texts.now) cut (all_items form)))) }
@@ -268,7 +268,7 @@ impl<A: Allocator + Copy> Store<A> {
         self.blocks.len()
     }
 
-    /// The block of this number, from 0 on; `None` where it is erased, and past the last. It takes no memory.
+    /// The block of this number, from 0 on; `None` if it is erased, or past the last. It takes no memory.
     pub fn block(&self, i: usize) -> Option<&Block<A>>
         ensures { MatchOption result (block_at i self.now.blocks ≡ None)
             (λ block. block_at i self.now.blocks ≡ Some block.now.held) }
@@ -277,7 +277,7 @@ impl<A: Allocator + Copy> Store<A> {
     }
 
     /// Makes places for at least `n` more blocks, so that `push_block` needs no memory. Forms, blocks and names stay as
-    /// they are. Refused with `Memory` where the allocator refuses, and then nothing has changed.
+    /// they are. Refused with `Memory` if the allocator refuses, and then nothing has changed.
     pub fn reserve_blocks(&mut self, n: usize) -> Result<(), FormError>
         ensures room { OnOk result (n ≤ self.new.spare) }
         ensures no_less { self.old.spare ≤ self.new.spare }
@@ -299,8 +299,8 @@ impl<A: Allocator + Copy> Store<A> {
         self.blocks.push_reserved(Some(block));
     }
 
-    /// Takes the last block off the list, and returns it; `None` where it is an erased one, or where there are no
-    /// blocks. It takes no memory, and no spare place.
+    /// Takes the last block off the list, and returns it; `None` if it is an erased one, or if there are no blocks. It
+    /// takes no memory, and no spare place.
     pub fn pop_block(&mut self) -> Option<Block<A>>
         ensures last { option_map (λ b. b.held) result ≡ block_at (length self.old.blocks - 1) self.old.blocks }
         ensures others { self.new
@@ -310,8 +310,8 @@ impl<A: Allocator + Copy> Store<A> {
         self.blocks.pop()?
     }
 
-    /// Takes the block of this number away and returns it; its place stays, as that of an erased block. `None` where it
-    /// is erased already, and past the last, and then nothing has changed. It takes no memory.
+    /// Takes the block of this number away and returns it; its place stays, as that of an erased block. `None` if it is
+    /// erased already, or past the last, and then nothing has changed. It takes no memory.
     pub fn take_block(&mut self, i: usize) -> Option<Block<A>>
         ensures taken { option_map (λ b. b.held) result ≡ block_at i self.old.blocks }
         ensures erased { self.new ≡ record self.old { blocks = slice_set self.old.blocks i None } }
@@ -498,9 +498,9 @@ fn full_names<A: Allocator + Copy>(table: &Table<A>) -> Result<Vec<&[u8], A>, Fo
 // ---- names in order, without memory
 
 impl<A: Allocator + Copy> Store<A> {
-    /// Where a byte stands in the list of all names of forms, which rise by their bytes, each with a text of this
-    /// length before it: how many bytes of its own text and name stand before the byte of this number. `None` past the
-    /// end of the list. It takes no memory, and for each name that is tried time for all names.
+    /// Where the byte of this number stands in the list of all names of forms: how many bytes of its own text and name
+    /// stand before it. The names rise by their bytes, each with a text of this length before it. `None` past the end
+    /// of the list. It takes no memory, and for each name that is tried time for all names.
     pub fn byte_listed(&self, text: usize, i: usize) -> Option<usize>
         ensures { MatchOption result (listed_len text (names_of self.now.forms) ≤ i)
             (IsListed (names_of self.now.forms) text i) }

@@ -21,7 +21,7 @@ module _ (R : RattleType) where
   row_owns b o [] = ftrue
   row_owns b o (c ∷ cs) = fsep (place_owns b o c) (row_owns b (o + type_size R) cs)
 
-  -- the same where they are lent for the lifetime
+  -- the same if they are lent for the lifetime
   abbrev pub place_lent : ℕ → ℕ → Option R.Denot → Lft → Fml
   place_lent b o None = nothing
   place_lent b o (Some x) = shared_of R x b o

@@ -54,7 +54,7 @@ impl<T: Copy, A: Allocator + Copy> Drop for GapBuf<T, A> {
     }
 }
 
-// The capacity to grow to: double, where that is enough.
+// The capacity to grow to: double, if that is enough.
 fn grown(capacity: usize, wanted: usize) -> usize
     ensures { wanted ≤ result }
 {
@@ -65,7 +65,7 @@ fn grown(capacity: usize, wanted: usize) -> usize
 }
 
 impl<T: Copy, A: Allocator + Copy> GapBuf<T, A> {
-    // A block of `capacity` places and two empty lists. Refused where there is no memory.
+    // A block of `capacity` places and two empty lists. Refused if there is no memory.
     fn with_places(alloc: A, capacity: usize) -> Result<Self, AllocError>
         ensures { IfOk result (λ b. b ≡ record { left = []; right = []; capacity = capacity }) }
     {

@@ -143,8 +143,8 @@ impl<T: Copy> Slots<T> {
         left
     }
 
-    // `shift` of `N` items. All are read before one is written, so this is one copy of memory
-    // also where the places overlap.
+    // `shift` of `N` items. All are read before one is written, so this is one copy of memory also if the places
+    // overlap.
     #[inline]
     fn shift_part<const N: usize>(&mut self, start: BlockStart<T>, from: usize, to: usize)
         requires { (start.ptr ≡ self.old.at) × (from + N ≤ length self.old.slots)

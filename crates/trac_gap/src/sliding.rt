@@ -7,8 +7,8 @@ use std::alloc::{AllocError, Allocator, Global};
 use std::marker::Model;
 
 /// A list that grows at its end and loses items at both ends. What is dropped at its front stays in the block until as
-/// many items are gone as are left, and only then do those that are left move. So where each growth is reserved before,
-/// a call takes time for what it puts and drops alone, averaged over all calls.
+/// many items are gone as are left. Only then do those that are left move. So if each growth is reserved before, a call
+/// takes time for what it puts and drops alone, averaged over all calls.
 ///
 /// Lengths and the capacity count items. Only `with_capacity`, `reserve` and `extend_from_slice` can be refused. All
 /// other calls take no memory, and no call lessens the capacity.
@@ -39,7 +39,7 @@ impl<T: Copy, A: Allocator> SlidingBuf<T, A> {
     }
 
     /// There are no items, and the capacity is as said.
-    /// Refused where the allocator refuses.
+    /// Refused if the allocator refuses.
     pub fn with_capacity(alloc: A, capacity: usize) -> Result<Self, AllocError>
         ensures made { IfOk result (λ b. b ≡ record { items = []; capacity = capacity }) }
 
@@ -87,8 +87,8 @@ impl<T: Copy, A: Allocator> SlidingBuf<T, A> {
     }
 
     /// Makes room for `n` more items.
-    /// Refused where the allocator refuses, and then nothing has changed. Where there is room already it is
-    /// not refused: what the allocator has not given, the places of dropped items have.
+    /// Refused if the allocator refuses, and then nothing has changed. If there is room already, it is not refused:
+    /// what the allocator has not given, the places of dropped items have.
     pub fn reserve(&mut self, n: usize) -> Result<(), AllocError>
         ensures items { self.new.items ≡ self.old.items }
         ensures grows { self.old.capacity ≤ self.new.capacity }
@@ -99,7 +99,7 @@ impl<T: Copy, A: Allocator> SlidingBuf<T, A> {
         if n <= self.list.capacity() - self.list.len() {
             return Ok(());
         }
-        // Where no fewer are gone than are left, moving the others is paid by what went; else the block has to grow.
+        // If no fewer are gone than are left, moving the others is paid by what went; else the block has to grow.
         if self.len() <= self.gone {
             cut_front(&mut self.list, self.gone);
             self.gone = 0;
@@ -111,8 +111,8 @@ impl<T: Copy, A: Allocator> SlidingBuf<T, A> {
         Ok(())
     }
 
-    /// Puts `items`, in order, at the end. There has to be room for them. Those that are left move only where room was
-    /// not reserved, or the allocator refused it.
+    /// Puts `items`, in order, at the end. There has to be room for them. Those that are left move only if room was not
+    /// reserved, or the allocator refused it.
     pub fn put(&mut self, items: &[T])
         requires { length self.old.items + length items.now ≤ self.old.capacity }
         ensures items { self.new.items ≡ self.old.items ++ items.now }
@@ -140,8 +140,8 @@ impl<T: Copy, A: Allocator> SlidingBuf<T, A> {
         self.list.push_reserved(item);
     }
 
-    /// Puts `items`, in order, at the end, with more memory where there is no room for them.
-    /// Refused as `reserve` is, and then nothing has changed.
+    /// Puts `items`, in order, at the end, with more memory if there is no room for them. Refused as `reserve` is, and
+    /// then nothing has changed.
     pub fn extend_from_slice(&mut self, items: &[T]) -> Result<(), AllocError>
         ensures ok { OnOk result (self.new.items ≡ self.old.items ++ items.now) }
         ensures grows { self.old.capacity ≤ self.new.capacity }
@@ -153,7 +153,7 @@ impl<T: Copy, A: Allocator> SlidingBuf<T, A> {
         Ok(())
     }
 
-    /// Keeps the first `n` items, or all where there are fewer.
+    /// Keeps the first `n` items, or all if there are fewer.
     pub fn truncate(&mut self, n: usize)
         ensures { self.new ≡ record self.old { items = take n self.old.items } }
     {
@@ -168,7 +168,7 @@ impl<T: Copy, A: Allocator> SlidingBuf<T, A> {
         ensures { self.new ≡ record self.old { items = drop n self.old.items } }
     {
         self.gone += n;
-        // Where all are gone, the block is used from its start again.
+        // If all are gone, the block is used from its start again.
         if self.gone == self.list.len() {
             self.clear();
         }

@@ -19,7 +19,7 @@ pub trait TwoEnds<T: Copy, A: Allocator + Copy>: Sized + Drop {
         ensures { ends result ≡ record { left = []; right = []; capacity = 0 } };
 
     /// Makes room for `n` more items, on either side.
-    /// Refused with `Memory` where the allocator refuses, and then nothing has changed.
+    /// Refused with `Memory` if the allocator refuses, and then nothing has changed.
     fn reserve(&mut self, n: usize) -> Result<(), GapError>
         ensures left { (ends self.new).left ≡ (ends self.old).left }
         ensures right { (ends self.new).right ≡ (ends self.old).right }
@@ -27,7 +27,7 @@ pub trait TwoEnds<T: Copy, A: Allocator + Copy>: Sized + Drop {
         ensures ok { OnOk result (item_count (ends self.new) + n ≤ (ends self.new).capacity) }
         ensures err { OnErr result (ends self.new ≡ ends self.old) }
 
-        // Where the room is there already, nothing is asked of the allocator.
+        // If the room is there already, nothing is asked of the allocator.
         ensures succeeds { item_count (ends self.old) + n ≤ (ends self.old).capacity → IsOk result }
         ensures same { item_count (ends self.old) + n ≤ (ends self.old).capacity
             → ends self.new ≡ ends self.old };
@@ -68,14 +68,14 @@ pub trait TwoEnds<T: Copy, A: Allocator + Copy>: Sized + Drop {
         requires { item_count (ends self.old) + length items.now ≤ (ends self.old).capacity }
         ensures { ends self.new ≡ record (ends self.old) { right = items.now ++ (ends self.old).right } };
 
-    /// Takes the last item of the left list; `None` where that list is empty.
+    /// Takes the last item of the left list; `None` if that list is empty.
     fn pop_left(&mut self) -> Option<T>
         ensures { MatchOption result
             ((ends self.old).left ≡ [] × ends self.new ≡ ends self.old)
             (λ x.
             ends self.old ≡ record (ends self.new) { left = (ends self.new).left ++ x ∷ [] }) };
 
-    /// Takes the first item of the right list; `None` where that list is empty.
+    /// Takes the first item of the right list; `None` if that list is empty.
     fn pop_right(&mut self) -> Option<T>
         ensures { MatchOption result
             ((ends self.old).right ≡ [] × ends self.new ≡ ends self.old)
@@ -111,13 +111,13 @@ pub trait TwoEnds<T: Copy, A: Allocator + Copy>: Sized + Drop {
               right = drop kept (ends self.old).left ++ (ends self.old).right;
             } };
 
-    /// A second pair of the same lists, with memory of its own and at least the same capacity.
-    /// Refused with `Memory` where the allocator refuses.
+    /// A second pair of the same lists, with memory of its own and at least the same capacity. Refused with `Memory` if
+    /// the allocator refuses.
     fn copy(&self) -> Result<Self, GapError>
         ensures left { IfOk result (λ c. (ends c).left ≡ (ends self.now).left) }
         ensures right { IfOk result (λ c. (ends c).right ≡ (ends self.now).right) }
         ensures grows { IfOk result (λ c. (ends self.now).capacity ≤ (ends c).capacity) }
 
-        // Where there is no place to copy, nothing is asked of the allocator.
+        // If there is no place to copy, nothing is asked of the allocator.
         ensures succeeds { (ends self.now).capacity ≡ 0 → IsOk result };
 }

@@ -1,4 +1,4 @@
--- The oldest record in the lists of a journal, and what is to be known of it where it is dropped.
+-- The oldest record in the lists of a journal, and what is to be known of it when it is dropped.
 use Rattle.std.specs.Prelude.{◌≡◌, ℕ, ◌+◌, ◌-◌, ◌≤◌, nat_le, List, [], ◌∷◌, ◌++◌, length, drop, if◌then◌else◌}
 use Rattle.trac_rules.specs.Records.{Record}
 use Rattle.trac_rules.specs.Weights.{meta_weight, weight}
@@ -63,7 +63,7 @@ abbrev pub printed_at : List CallEntry → ℕ
 printed_at [] = 0
 printed_at (c ∷ calls) = c.printed
 
--- what the step printed of whose record an entry keeps this; its call, where it has one, is the first of these
+-- what the step printed of whose record an entry keeps this; its call, if it has one, is the first of these
 abbrev pub printed_in : Kept → List CallEntry → ℕ
 printed_in kept.Call calls = printed_at calls
 printed_in (kept.Pointed place) calls = printed_at calls

@@ -23,7 +23,7 @@ pub record Listed : Type 0 where
   -- each argument is that a `,` ended
   pub bytes : List ℕ
   pub commas : List ℕ
-  -- what calls destroyed of forms and blocks, where an entry does not hold it, the newest first
+  -- what calls destroyed of forms and blocks, if an entry does not hold it, the newest first
   pub undone : List Undone
   -- what idle steps emptied, base text and frames, the newest first
   pub emptied : List (List ℕ × List Frame)
@@ -65,18 +65,18 @@ pub record AreSmall (called : code.Called) (len count : ℕ) : Type 0 where
 -- ---- the newest record
 
 -- that of the first of these calls, which destroyed this: it has the last of the bytes, cut by the last of the lengths.
--- Where there is no call, any record
+-- If there is no call, any record
 abbrev pub call_of : List CallEntry → Undone → List ℕ → List ℕ → Record
 call_of [] undone bytes commas = Moved
 call_of (c ∷ calls) undone bytes commas =
     Called (record_with (called_in c) (all_texts (cut_at (last_of c.commas commas) (last_of c.bytes bytes))) undone)
 
--- the first of these; where there is none, nothing
+-- the first of these; if there is none, nothing
 abbrev pub first_undone : List Undone → Undone
 first_undone [] = Nothing
 first_undone (undone ∷ older) = undone
 
--- what the newest call destroyed, by what its entry keeps: from the list of these, where it stands there
+-- what the newest call destroyed, by what its entry keeps: from the list of these, if it stands there
 abbrev pub newest_undone : Kept → List Undone → Undone
 newest_undone (kept.Pointed place) undone = Point place
 newest_undone kept.Changed undone = first_undone undone
@@ -86,7 +86,7 @@ abbrev pub idle_of : List (List ℕ × List Frame) → Record
 idle_of [] = Idle [] []
 idle_of (texts ∷ older) = Idle texts.0 texts.1
 
--- the record of which an entry keeps this, where it is the newest one in the lists
+-- the record of which an entry keeps this, if it is the newest one in the lists
 abbrev pub newest_in : Kept → Listed → Record
 newest_in kept.Comma l = Comma
 newest_in kept.Begun l = Begun

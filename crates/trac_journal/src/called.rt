@@ -15,7 +15,7 @@ pub struct Called {
     pub kind: Kind,
     /// Whether the value went before the active text, to be scanned, and not to the current text.
     pub scanned: bool,
-    /// The meta character before, where the call set one.
+    /// The meta character before, if the call set one.
     pub meta: Option<u8>,
     /// Whether each call was printed before.
     pub trace: bool,

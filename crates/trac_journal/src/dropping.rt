@@ -23,8 +23,8 @@ const NONE_PASSED: Passed = Passed {
 };
 
 impl<A: Allocator + Copy> Journal<A> {
-    /// Keeps so many of the newest records, or all where there are fewer, and drops the others. Returns how many bytes
-    /// of the tape the steps of those read, and how many they printed: each sum has to fit a `usize`. It takes time for
+    /// Keeps so many of the newest records, or all if there are fewer, and drops the others. Returns how many bytes of
+    /// the tape the steps of those read, and how many they printed: each sum has to fit a `usize`. It takes time for
     /// what it drops, averaged over all calls, and none for what it keeps.
     pub fn keep_newest(&mut self, n: usize) -> Passed
         requires read_fits { sum_by read_by (drop n self.old.records) < 2 ^ 64 }

@@ -9,7 +9,7 @@ pub struct Entry {
     pub(crate) kept: Kept,
 }
 
-/// What an entry keeps of its record: all of it where a word holds it, and else in which lists it stands.
+/// What an entry keeps of its record: all of it if a word holds it, and else in which lists it stands.
 #[derive(Clone, Copy)]
 pub enum Kept {
     Comma,

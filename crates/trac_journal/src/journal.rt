@@ -95,7 +95,7 @@ impl<A: Allocator + Copy> Journal<A> {
     }
 
     /// Makes room for one short record.
-    /// Refused with `Memory` where there is none yet and the allocator refuses it; the records stay.
+    /// Refused with `Memory` if there is none yet and the allocator refuses it; the records stay.
     pub fn reserve_short(&mut self) -> Result<(), Refusal>
         ensures ok { OnOk result (1 ≤ self.new.places) }
         ensures same { self.new.records ≡ self.old.records }
@@ -107,7 +107,7 @@ impl<A: Allocator + Copy> Journal<A> {
     }
 
     /// Makes room for the record of one call whose arguments have so many bytes, and so many commas between them.
-    /// Refused with `Memory` where the allocator refuses; the records stay.
+    /// Refused with `Memory` if the allocator refuses; the records stay.
     pub fn reserve_call(&mut self, bytes: usize, commas: usize) -> Result<(), Refusal>
         ensures ok { OnOk result (HasPlaceForCall bytes commas self.new) }
         ensures same { self.new.records ≡ self.old.records }
@@ -118,7 +118,7 @@ impl<A: Allocator + Copy> Journal<A> {
     }
 
     /// Makes room for the record of one step that empties all texts.
-    /// Refused with `Memory` where the allocator refuses; the records stay.
+    /// Refused with `Memory` if the allocator refuses; the records stay.
     pub fn reserve_idle(&mut self) -> Result<(), Refusal>
         ensures ok { OnOk result (HasPlaceForIdle self.new) }
         ensures same { self.new.records ≡ self.old.records }
@@ -217,8 +217,8 @@ impl<A: Allocator + Copy> Journal<A> {
         self.weight += weight;
     }
 
-    /// Takes out the newest record and returns it, where its step performed no function and did not empty the texts;
-    /// else returns none, and changes nothing.
+    /// Takes out the newest record and returns it, if its step performed no function and did not empty the texts; else
+    /// returns none, and changes nothing.
     #[inline(always)]
     pub fn pop_short(&mut self) -> Option<Short>
         ensures { MatchOption result ((IsShortFirst self.old.records → ⊥) × (self.new ≡ self.old))
@@ -238,7 +238,7 @@ impl<A: Allocator + Copy> Journal<A> {
         Some(short)
     }
 
-    /// The newest record, lent, where it is of a call; else none.
+    /// The newest record, lent, if it is of a call; else none.
     #[inline(always)]
     pub fn newest_call(&self) -> Option<LentCall<'_>>
         ensures { MatchOption result (IsCallFirst self.now.records → ⊥)
@@ -270,8 +270,8 @@ impl<A: Allocator + Copy> Journal<A> {
         undone
     }
 
-    /// Takes out the newest record and returns what its step emptied, where it emptied all texts; else
-    /// returns none, and changes nothing.
+    /// Takes out the newest record and returns what its step emptied, if it emptied all texts; else returns none, and
+    /// changes nothing.
     pub fn pop_idle(&mut self) -> Option<Emptied<A>>
         ensures { MatchOption result ((IsIdleFirst self.old.records → ⊥) × (self.new ≡ self.old)) (λ emptied.
             self.old.records ≡ Idle emptied.base.items (frames_in emptied.frames.items) ∷ self.new.records) }
@@ -292,7 +292,7 @@ impl<A: Allocator + Copy> Journal<A> {
     }
 
     /// Takes out the records of the bytes that were moved last, up to `most` of them, and returns how many these are:
-    /// fewer than `most` only where the newest record then is of another kind, or there is none.
+    /// fewer than `most` only if the newest record then is of another kind, or there is none.
     pub fn pop_moved(&mut self, most: usize) -> usize
         ensures taken { self.old.records ≡ replicate result Moved ++ self.new.records }
         ensures most { result ≤ most }
@@ -316,7 +316,7 @@ impl<A: Allocator + Copy> Journal<A> {
     }
 }
 
-// The short record that an entry holds; none where it holds less than all of a record.
+// The short record that an entry holds; none if it holds less than all of a record.
 #[inline(always)]
 fn short_in(kept: Kept) -> Option<Short>
     ensures { MatchOption result (IsBrief kept → ⊥)
@@ -334,8 +334,8 @@ fn short_in(kept: Kept) -> Option<Short>
     }
 }
 
-/// What the record of a call weighs whose arguments have so many bytes and commas together, which set the meta
-/// character where there is one here, and which destroyed this of forms and blocks. The sum has to fit a `u64`.
+/// What the record of a call weighs. The call's arguments have so many bytes and commas together. It set the meta
+/// character if there is one here, and destroyed this of forms and blocks. The sum has to fit a `u64`.
 #[inline(always)]
 pub fn weigh_call<A: Allocator + Copy>(len: usize, meta: Option<u8>, undone: &Undone<A>) -> u64
     requires { len + meta_weight meta + undone_weight (undone_in undone.now) < 2 ^ 64 }

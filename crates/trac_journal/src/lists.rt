@@ -296,8 +296,8 @@ impl<A: Allocator + Copy> Lists<A> {
         emptied.weight() as u64
     }
 
-    // How much the step printed of whose record an entry keeps this. Its call, where it has one, stands
-    // at this place, the oldest at 0.
+    // How much the step printed of whose record an entry keeps this. Its call, if it has one, stands at this place, the
+    // oldest at 0.
     pub(crate) fn printed_by(&self, kept: Kept, at: usize) -> usize
         ensures { result ≡ printed_in kept (drop at (reverse self.now.listed.calls)) }
     {
@@ -399,8 +399,8 @@ fn weigh_texts(call: CallEntry) -> u64
     }
 }
 
-// What an entry is to keep of a call that destroyed this of forms and blocks. Where the entry cannot hold it, it goes
-// to the end of the list of these, which has to have a place.
+// What an entry is to keep of a call that destroyed this of forms and blocks. If the entry cannot hold it, it goes to
+// the end of the list of these, which has to have a place.
 fn keep_undone<A: Allocator + Copy>(undone: Undone<A>, list: &mut VecDeque<Undone<A>, A>) -> Kept
     requires { deque_len list.old < deque_capacity list.old }
     ensures { IsKept result (undone_in undone) (map undone_in (reverse list.old.items))

@@ -1,6 +1,6 @@
 //! Arithmetic on numbers of a width. `None` stands for a result that does not fit. Sums and differences are always
 //! calculated in 128 bits, which costs little more. Products and quotients of 128 bits take much longer: so these are
-//! calculated in 64 bits where both numbers and the result fit these.
+//! calculated in 64 bits if both numbers and the result fit these.
 ghost use Rattle.std.specs.Prelude.{◌≡◌, MatchOption, Some, IfSome, false, true};
 ghost use Rattle.std.specs.Option.{option_and_then};
 ghost use Rattle.trac_rules.specs.Number.{difference_of, fits, if_fits, product_of, quotient_of, sum_of};
@@ -15,7 +15,7 @@ fn narrow(n: i128) -> Option<i64>
     i64::try_from(n).ok()
 }
 
-// What there is in 128 bits, where it fits the width.
+// What there is in 128 bits, if it fits the width.
 fn within(exact: Option<i128>, width: Width) -> Option<i128>
     ensures { result ≡ option_and_then (if_fits width) exact }
 {
@@ -26,7 +26,7 @@ fn within(exact: Option<i128>, width: Width) -> Option<i128>
     Some(n)
 }
 
-// The product of numbers of 64 bits, where it is one too.
+// The product of numbers of 64 bits, if it is one too.
 fn narrow_product(a: i128, b: i128) -> Option<i64>
     ensures { IfSome result (λ n. product_of W64 a b ≡ Some n) }
 {
@@ -35,7 +35,7 @@ fn narrow_product(a: i128, b: i128) -> Option<i64>
     first.checked_mul(second)
 }
 
-// The quotient of numbers of 64 bits, where it is one too.
+// The quotient of numbers of 64 bits, if it is one too.
 fn narrow_quotient(a: i128, b: i128) -> Option<i64>
     ensures { IfSome result (λ n. quotient_of W64 a b ≡ Some n) }
 {

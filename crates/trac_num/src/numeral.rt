@@ -36,7 +36,7 @@ fn short_value(numeral: &[u8]) -> i64
     if has_minus(numeral) { -sum } else { sum }
 }
 
-// The number that a numeral of any length writes, where it fits the width.
+// The number that a numeral of any length writes, if it fits the width.
 fn long_value(numeral: &[u8], width: Width) -> Option<i128>
     requires { is_numeral numeral.now ≡ true }
     ensures { result ≡ number_of width numeral.now }
@@ -53,7 +53,7 @@ fn long_value(numeral: &[u8], width: Width) -> Option<i128>
     }
 }
 
-/// The number that a numeral writes, where it fits the width; an empty numeral writes 0. `None`: it does not fit. A
+/// The number that a numeral writes, if it fits the width; an empty numeral writes 0. `None`: it does not fit. A
 /// numeral may be of any length, and it is read in a time that grows with its length alone.
 pub fn value(numeral: &[u8], width: Width) -> Option<i128>
     requires { IsNumeralOrNull numeral.now }

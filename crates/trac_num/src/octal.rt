@@ -11,7 +11,7 @@ fn is_octal_digit(b: u8) -> bool
     ZERO <= b && b <= SEVEN
 }
 
-/// The octal string of a text: its longest tail of the digits 0 to 7, empty where there is none.
+/// The octal string of a text: its longest tail of the digits 0 to 7, empty if there is none.
 pub fn octal_tail(text: &[u8]) -> &[u8]
     ensures value { result.now ≡ octal_tail text.now }
     ensures octal { IsOctal result.now }

@@ -7,7 +7,7 @@ use crate::error::NumError;
 use itoa::Buffer;
 use std::alloc::Allocator;
 
-/// Adds a number in decimal to the end of a text: `-` where it is negative, no `+` and no leading zeros.
+/// Adds a number in decimal to the end of a text: `-` if it is negative, no `+` and no leading zeros.
 ///
 /// `Memory`: the text had to grow for it and could not. The text is then as before.
 pub fn print_into<A: Allocator + Copy>(n: i128, out: &mut Vec<u8, A>) -> Result<(), NumError>

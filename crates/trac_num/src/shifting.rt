@@ -47,7 +47,7 @@ fn digits_and_bits(places: u128) -> (u128, u8)
     (places / 3, (places % 3) as u8)
 }
 
-// What is left of so many digits when a length is taken off as often as it can be; in 64 bits, where they fit.
+// What is left of so many digits when a length is taken off as often as it can be; in 64 bits, if they fit.
 fn left_of(digits: u128, len: usize) -> usize
     requires { 0 < len }
     ensures { result ≡ digits % len }
@@ -109,8 +109,7 @@ fn turned<A: Allocator + Copy>(
     Ok(digits)
 }
 
-/// An octal text whose bits are moved by so many places, to the left where positive. The length
-/// stays, and zeros come in.
+/// An octal text whose bits are moved by so many places, to the left if positive. The length stays, and zeros come in.
 ///
 /// `NumError::Memory`: memory was refused.
 pub fn shift<A: Allocator + Copy>(alloc: A, by: i128, a: &[u8]) -> Result<Vec<u8, A>, NumError>
@@ -124,7 +123,7 @@ pub fn shift<A: Allocator + Copy>(alloc: A, by: i128, a: &[u8]) -> Result<Vec<u8
     shifted_left(alloc, by.unsigned_abs(), a)
 }
 
-/// An octal text whose bits are rotated by so many places, to the left where positive. An empty text stays empty.
+/// An octal text whose bits are rotated by so many places, to the left if positive. An empty text stays empty.
 ///
 /// `NumError::Memory`: memory was refused.
 pub fn rotate<A: Allocator + Copy>(alloc: A, by: i128, a: &[u8]) -> Result<Vec<u8, A>, NumError>

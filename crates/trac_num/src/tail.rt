@@ -7,10 +7,9 @@ ghost use Rattle.trac_rules.specs.Number.{IsNumeralOrNull, numeral_of, prefix_of
 /// A text, cut before its numeral.
 #[derive(Clone, Copy, Debug, PartialEq, Eq)]
 pub struct Tail<'a> {
-    /// What stands before the numeral: the whole text where there is none.
+    /// What stands before the numeral: the whole text if there is none.
     pub prefix: &'a [u8],
-    /// The longest tail of the text that is an optional `+` or `-` and then at least one digit;
-    /// empty where there is none.
+    /// The longest tail of the text that is an optional `+` or `-` and then at least one digit; empty if there is none.
     pub numeral: &'a [u8],
 }
 

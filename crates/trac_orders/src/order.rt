@@ -3,7 +3,7 @@
 /// A count has at most so many digits.
 pub const DIGIT_LIMIT: usize = 12;
 
-/// How many calls are listed where no number is given.
+/// How many calls are listed if no number is given.
 pub const CALL_COUNT: u64 = 10;
 
 /// What is said of a line with quotes that are not understood.
@@ -129,7 +129,7 @@ pub enum Order<'a> {
 }
 
 /// What the words of a line ask for, the first being the command; `quoted` says whether the second stood in quotes.
-/// None where they are not understood. It takes no memory.
+/// None if they are not understood. It takes no memory.
 pub fn order_of<'a>(words: &'a [&'a [u8]], quoted: bool) -> Option<Order<'a>> {
     let (command, rest) = words.split_first()?;
     if let Some(way) = move_of(command, rest, quoted) {
@@ -150,7 +150,7 @@ pub fn order_of<'a>(words: &'a [&'a [u8]], quoted: bool) -> Option<Order<'a>> {
     }
 }
 
-/// What is said of words that ask for nothing, in a line: what their command takes, where it is one.
+/// What is said of words that ask for nothing, in a line: what their command takes, if it is one.
 pub fn misunderstood(words: &[&[u8]]) -> &'static [u8] {
     let Some((command, _)) = words.split_first() else {
         return NOT_UNDERSTOOD;
@@ -290,7 +290,7 @@ fn one_in<'a>(rest: &[&'a [u8]]) -> Option<&'a [u8]> {
     }
 }
 
-// The only word, or an empty text where there is none.
+// The only word, or an empty text if there is none.
 fn text_in<'a>(rest: &[&'a [u8]]) -> Option<&'a [u8]> {
     if rest.is_empty() {
         return Some(&[]);
@@ -298,7 +298,7 @@ fn text_in<'a>(rest: &[&'a [u8]]) -> Option<&'a [u8]> {
     one_in(rest)
 }
 
-// The number that the only word writes, or the default one where there is no word.
+// The number that the only word writes, or the default one if there is no word.
 fn count_in(rest: &[&[u8]], default: u64) -> Option<u64> {
     if rest.is_empty() {
         return Some(default);

@@ -21,8 +21,8 @@ struct Found<A: Allocator + Copy> {
 
 /// The words of a line, which any blanks and tabs stand between. A word may stand in quotes, and in those `\n` is a
 /// line feed, `\xHH` the byte of that hexadecimal number, and `\"` and `\\` are the second of the two. After the word
-/// `i` the rest of the line is one word, unless it stands in quotes. None where quotes are not ended, or hold another
-/// `\`. The error is that memory was refused.
+/// `i` the rest of the line is one word, unless it stands in quotes. None if quotes are not ended, or hold another `\`.
+/// The error is that memory was refused.
 pub fn words_of<A: Allocator + Copy>(
     alloc: A,
     line: &[u8],
@@ -90,7 +90,7 @@ fn without_blanks(text: &[u8]) -> &[u8]
     &[]
 }
 
-// The word at the front of a text that is not empty; the whole text where that is wanted and no quote begins it.
+// The word at the front of a text that is not empty; the whole text if that is wanted and no quote begins it.
 fn first_word<A: Allocator + Copy>(
     alloc: A,
     text: &[u8],
@@ -127,7 +127,7 @@ fn plain_len(text: &[u8]) -> usize
     text.len()
 }
 
-// The word in quotes that begins a text; none where it does not end, or where a `\` in it stands for nothing.
+// The word in quotes that begins a text; none if it does not end, or if a `\` in it stands for nothing.
 fn quoted_word<A: Allocator + Copy>(alloc: A, text: &[u8]) -> Result<Option<Found<A>>, AllocError>
     ensures { IfOk result (λ found. IfSome found (λ f. (0 < f.len) × (f.len ≤ length text.now))) }
 {

@@ -38,7 +38,7 @@ abbrev pub makes_gaps : Primitive → Bool
 makes_gaps (Handle Segment) = true
 makes_gaps primitive = false
 
--- whether a rule of scanning makes bytes: where the active text is empty, the idle program
+-- whether a rule of scanning makes bytes: if the active text is empty, the idle program
 abbrev pub makes_idle : Front → Bool
 makes_idle Nothing = true
 makes_idle front = false
@@ -56,9 +56,9 @@ makes item s = made_in item s (scan s)
 
 -- ---- the law of a step
 
--- what is true of an item that stands in the state `t` after the step from `s`: where it is said to be carried from, it
--- stood; where it is said to be read, it is that byte of the tape, which was not read before and is read now; where it
--- is said to be made, the step makes such items
+-- what is true of an item that stands in the state `t` after the step from `s`. If it is said to be carried from a
+-- place, it stood there. If it is said to be read, it is that byte of the tape, which was not read before and is read
+-- now. If it is said to be made, the step makes such items
 abbrev pub Accounts : Environment → State → State → Origin → Item → Type 0
 Accounts environment s t (Carried place) item = found_at s place ≡ Some item
 Accounts environment s t (Read n) item =

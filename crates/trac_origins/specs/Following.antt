@@ -4,8 +4,8 @@ use Rattle.trac_rules.specs.State.{Environment, State}
 use Rattle.trac_origins.specs.Places.{Place, Origin, Carried}
 use Rattle.trac_origins.specs.Stepping.{origin}
 
--- how many steps carried a byte, from the last one back, and where it comes from by the step before these; where all
--- steps carried it, its place before them
+-- how many steps carried a byte, from the last one back, and where it comes from by the step before these. If all steps
+-- carried it, its place before them
 pub record Followed : Type 0 where
   pub carried : ℕ
   pub origin : Origin

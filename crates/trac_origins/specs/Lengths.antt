@@ -74,7 +74,7 @@ may_put primitive given name = false
 
 -- ---- over several steps
 
--- how far a place is past the current text, where it is; the first argument is the functions
+-- how far a place is past the current text, if it is; the first argument is the functions
 abbrev pub past_in : List Frame → State → Place → Option ℕ
 past_in [] s (InBase i) = if nat_lt i (length s.base) then None else Some (i - length s.base)
 past_in (f ∷ fs) s (InArgument n k i) =
@@ -82,7 +82,7 @@ past_in (f ∷ fs) s (InArgument n k i) =
     then Some (i - length f.gathered) else None
 past_in fs s place = None
 
--- a byte of the active text, where there is one, else another place
+-- a byte of the active text, if there is one, else another place
 abbrev pub in_active : Option ℕ → Place → Place
 in_active None place = place
 in_active (Some i) place = InActive i
@@ -105,8 +105,8 @@ pub record IsCallOf
   pub named : primitive_of (argument 0 call.arguments) ≡ primitive
   pub does : performed environment call ≡ Ok e
 
--- where the byte of this number of a value stands after the call: before what is left of the active text, where it is
--- scanned, else after the current text. The state is that without the function
+-- where the byte of this number of a value stands after the call: if the value is scanned, before what is left of
+-- the active text, else after the current text. The state is that without the function
 abbrev pub value_at : Kind → Bool → State → ℕ → Place
 value_at Active forced s i = InActive i
 value_at Neutral true s i = InActive i

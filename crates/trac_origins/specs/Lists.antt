@@ -80,7 +80,7 @@ all_kept s = record {
 abbrev pub lists_of : FrameOrigins → List (List Origin)
 lists_of f = f.arguments ++ f.gathered ∷ []
 
--- where what stands at a place comes from; `Made` where nothing stands
+-- where what stands at a place comes from; `Made` if nothing stands
 abbrev pub origin_at : Origins → Place → Origin
 origin_at o (InActive i) = get_or o.active i Made
 origin_at o (InBase i) = get_or o.base i Made

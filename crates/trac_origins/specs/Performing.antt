@@ -46,7 +46,7 @@ pub record Performed : Type 0 where
   -- the origins of its arguments, and of that state
   pub from : EndedOrigins
 
--- an argument, its name being number 0; empty where it is missing
+-- an argument, its name being number 0; empty if it is missing
 abbrev pub text_given : ℕ → Performed → List ℕ
 text_given k d = argument k d.call.arguments
 
@@ -146,7 +146,7 @@ abbrev pub nothing_for : ℕ → List Origin
 nothing_for ordinal = []
 
 -- `cs`, `cc`, `cn` and `in`: so many bytes as the value has, from the old or the new pointer on, whichever stands
--- before the other; gaps are passed. Where nothing is read, the second argument
+-- before the other; gaps are passed. If nothing is read, the second argument
 abbrev pub piece_from : Option Piece → List Origin → Form → List Origin → List Origin
 piece_from None other form from = other
 piece_from (Some piece) other form from =
@@ -170,7 +170,7 @@ shown_from form from =
     spread mark_from form.before (take (length form.before) from)
     ++ (all_made (codes "<^>") ++ spread mark_from form.after (drop (length form.before) from))
 
--- a form, where there is one, acted upon
+-- a form, if there is one, acted upon
 abbrev pub on_form_from : Option Form → (Form → EffectOrigins) → Performed → EffectOrigins
 on_form_from None act d = leaves_from d
 on_form_from (Some form) act d = act form

@@ -45,7 +45,7 @@ numbered n (x ∷ xs) = if n == length xs then Some x else numbered n xs
 abbrev pub arguments_of : Frame → List (List ℕ)
 arguments_of f = f.arguments ++ f.gathered ∷ []
 
--- the items of a form, where there is one
+-- the items of a form, if there is one
 abbrev pub items_of : Option Form → List Item
 items_of None = []
 items_of (Some form) = all_items form

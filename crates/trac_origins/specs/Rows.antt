@@ -45,7 +45,7 @@ given k i = Carried (InArgument 0 k i)
 abbrev pub item : ℕ → Origin
 item i = Carried (InForm (codes "F") i)
 
--- a call of the only function with these arguments in a state, where each name is that of this form
+-- a call of the only function with these arguments in a state, if each name is that of this form
 abbrev pub performing : List (List ℕ) → Form → State → Performed
 performing arguments form s = record {
   environment = untaped;
@@ -73,7 +73,7 @@ abbrev pub SegmentedFrom : List Item → String → List Origin → Type 0
 SegmentedFrom items call from =
     segmented_from (at_start items) (performing (texts_of call) (at_start items) initial) ≡ from
 
--- where what stands after a call comes from, where each name is that of the form `cd`, and there are these blocks
+-- where what stands after a call comes from, if each name is that of the form `cd`, and there are these blocks
 abbrev pub made_by : Primitive → String → List Block → EffectOrigins
 made_by primitive call blocks =
     effect_from primitive (performing (texts_of call) (text_at 0 "cd") (record initial { blocks = blocks }))

@@ -10,7 +10,7 @@ use Rattle.trac_origins.specs.Lists.{Origins, all_kept, frames_kept, origin_at}
 use Rattle.trac_origins.specs.Moving.{deleted_from, ended_from, moved_from}
 use Rattle.trac_origins.specs.Performing.{after_call_from}
 
--- after a call; where it is refused all is as before
+-- after a call; if it is refused, all is as before
 abbrev pub call_from : Environment → State → Call → Result Effect Refusal → Origins
 call_from environment s call (Ok e) = after_call_from (record {
   environment = environment;

@@ -16,9 +16,9 @@ ghost use Rattle.trac_rules.specs.declared.item.Item.{Item};
 ghost use Rattle.trac_rules.specs.declared.reply.Reply.{Reply};
 ghost use Rattle.trac_rules.specs.declared.width.Width.{Width};
 
-/// Of whatever stands at a place after a step: where it is said to be carried from, it stood before the step; where it
-/// is said to be read, it is that byte of the tape, which was not read before the step and is read after it; where it
-/// is said to be made, the step makes such items.
+/// Of whatever stands at a place after a step: if it is said to be carried from a place, it stood there before the
+/// step. If it is said to be read, it is that byte of the tape, which was not read before the step and is read after
+/// it. If it is said to be made, the step makes such items.
 #[tactic(auto, using(crate::proofs::Accounted::accounted))]
 pub fn origins_are_true()
     ensures { (environment : Environment) (s t : State) (place : Place) (item : Item) → step environment s ≡ Ok t →

@@ -42,10 +42,10 @@ ghost use Rattle.trac_rules.specs.declared.primitive.Primitive.{Primitive};
 ghost use Rattle.trac_rules.specs.declared.primitive.Primitive.TheVariants.{Compute, Handle, HandleBlock, PrintString};
 ghost use Rattle.trac_rules.specs.declared.primitive.Primitive.TheVariants.{ReadByte, ReadString};
 
-/// Where a rule of scanning moves on, numbers alone tell the origins. What is left of the active text is its end.
-/// What stood elsewhere stands where it stood. What is new in the current text stood at the front of the active
-/// text, after the `(` where that protects it. With nothing left to be scanned, the new active text is made, and
-/// output, forms and blocks stay.
+/// If a rule of scanning moves on, numbers alone tell the origins. What is left of the active text is its end. What
+/// stood elsewhere stands where it stood. What is new in the current text stood at the front of the active text, after
+/// the `(` if that protects it. With nothing left to be scanned, the new active text is made, and output, forms and
+/// blocks stay.
 pub fn scanning_is_told_by_lengths()
     ensures rest { (environment : Environment) (s t : State) (i : ℕ) →
         scan s ≡ Moves t → makes_idle (front_of s.active) ≡ false → i < length t.active →
@@ -65,10 +65,10 @@ pub fn scanning_is_told_by_lengths()
         is_stored place ≡ true → found_at s place ≡ Some item → origin environment s place ≡ Carried place }
 {}
 
-/// Around a call too: what is left of the active text, after the value where that is scanned and without the `)`, is
-/// its end. What stands in the output and in the texts without the function stands where it stood, and so do the items
-/// of each form that the call does not put, and of all that blocks hold. The bytes of the arguments are said to be
-/// just these, one after another.
+/// Around a call too: what is left of the active text, after the value, if that is scanned, and without the `)`, is its
+/// end. What stands in the output and in the texts without the function stands where it stood, and so do the items of
+/// each form that the call does not put, and of all that blocks hold. The bytes of the arguments are said to be just
+/// these, one after another.
 pub fn calls_are_told_by_lengths()
     ensures rest { (environment : Environment) (s t : State) (call : Call) (i : ℕ) →
         step environment s ≡ Ok t → scan s ≡ Calls call → i + 1 < length s.active →
@@ -205,7 +205,7 @@ pub fn readings_are_told_by_lengths()
 {}
 
 /// What a call prints. The line of the trace is made, whatever it shows. `ps` prints its argument, and `pf` the bytes
-/// of a form, each after what the items before it show; its marks are made. Where a call prints nothing of its own, as
+/// of a form, each after what the items before it show; its marks are made. If a call prints nothing of its own, as
 /// `pf` of no form, all that is new is made.
 pub fn prints_are_told_by_lengths()
     ensures traced { (environment : Environment) (s : State) (call : Call) (primitive : Primitive) (e : Effect) (i : ℕ)

@@ -134,7 +134,7 @@ pub fn worked_forms()
     ensures segmenting_wide { SegmentedFrom (as_items (codes "xaay")) "ss,F,aa" (item 0 ∷ Made ∷ item 3 ∷ []) }
     ensures segmenting_again { SegmentedFrom (Gap 1 1 ∷ Byte 120 ∷ Byte 98 ∷ []) "ss,F,x"
         (item 0 ∷ Made ∷ item 2 ∷ []) }
-    // Readings of `a<1>bc<2>`: gaps are passed; where nothing is read, the default argument.
+    // Readings of `a<1>bc<2>`: gaps are passed; if nothing is read, the default argument.
     ensures segment { ReadFrom ReadSegment 0 "cs,F,Z" (item 0 ∷ []) }
     ensures segment_before_a_gap { ReadFrom ReadSegment 1 "cs,F,Z" [] }
     ensures segment_inside { ReadFrom ReadSegment 2 "cs,F,Z" (item 2 ∷ item 3 ∷ []) }

@@ -17,7 +17,7 @@ use Rattle.trac_prims.specs.declared.effect.Now.{Now}
 abbrev pub nothing : Deed
 nothing = record { forced = false; read = 0; meta = None; trace = None }
 
--- what a call of these arguments does where these texts and this change were made, as an effect on a storage
+-- what a call of these arguments does if these texts and this change were made, as an effect on a storage
 abbrev pub done_on : {A : Type 0} → List (List ℕ) → Storage → made.Made A → code.Change A → Deed → Effect
 done_on arguments storage texts change d = record {
   value = texts.value.items;
@@ -76,12 +76,12 @@ planned_on arguments storage e = record {
 abbrev pub pieces_fit : Effect → Bool
 pieces_fit e = nat_le (length e.value) TEXT_LIMIT && nat_le (length e.printed) OUTPUT_LIMIT
 
--- why nothing is made where this is the outcome of the definitions: its refusal, `TooLong` too where no state can hold
--- a piece, or `Memory` where that may be
+-- why nothing is made if this is the outcome of the definitions: its refusal, `TooLong` too if no state can hold a
+-- piece, or `Memory` if that may be
 abbrev pub MayFail : Result Effect Refusal → Refusal → Type 0
 MayFail outcome refusal = OrMemory (MayLackMemory outcome) (λ said. limited pieces_fit outcome ≡ Err said) refusal
 
--- what is done with these arguments, this change among it, where this is the outcome of the definitions: its texts are
+-- what is done with these arguments, this change among it, if this is the outcome of the definitions: its texts are
 -- added to those that were made before
 abbrev pub IsDone : {A : Type 0} → List (List ℕ) → Storage → Result Effect Refusal → made.Made A → made.Made A →
     code.Change A → Result Deed Refusal → Type 0

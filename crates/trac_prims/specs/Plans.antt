@@ -1,4 +1,4 @@
--- What the plan of a call is: the effect that the definitions say, where the state after it is within the limits.
+-- What the plan of a call is: the effect that the definitions say, if the state after it is within the limits.
 use Rattle.std.specs.Prelude.{◌≡◌, ◌+◌, ◌≤◌, ℕ, List, length, Bool}
 use Rattle.trac_forms.specs.Stored.{Stored, storage_in}
 use Rattle.trac_rules.specs.declared.kind.Kind.{Kind}

@@ -47,7 +47,7 @@ pub(crate) fn complement_of<A: Allocator + Copy>(
     Ok(complement(alloc, octal_at(args, 1))?)
 }
 
-// `bs` and `br`: an octal string with its bits moved, or else rotated; empty where the number does not fit.
+// `bs` and `br`: an octal string with its bits moved, or else rotated; empty if the number does not fit.
 pub(crate) fn moved_of<A: Allocator + Copy>(
     alloc: A,
     rotates: bool,

@@ -125,7 +125,7 @@ fn leaving<A: Allocator + Copy>(
     Ok(held)
 }
 
-// Adds a name to those of the forms that leave, where it has a form and is none of them yet.
+// Adds a name to those of the forms that leave, if it has a form and is none of them yet.
 fn add_leaving<A: Allocator + Copy>(
     alloc: A,
     store: &Store<A>,

@@ -49,7 +49,7 @@ fn give<A: Allocator + Copy>(text: &[u8], made: &mut Made<A>) -> Result<Deed, Re
     Ok(NOTHING)
 }
 
-/// The number of the argument of this place, the name being at 0: its numeral, the prefix dropped; `None` where it does
+/// The number of the argument of this place, the name being at 0: its numeral, the prefix dropped; `None` if it does
 /// not fit the width. A text without a numeral has the number 0, as has an argument that is not given.
 pub fn number_at(args: &Args<'_>, k: usize, width: Width) -> Option<i128>
     ensures { result ≡ number_argument width k args.now }
@@ -78,7 +78,7 @@ fn has_greater(args: &Args<'_>) -> bool
 
 // ---- numbers
 
-// `ad`, `su`, `ml` and `dv`: the prefix of the first number, and then the result; where there is no result the default
+// `ad`, `su`, `ml` and `dv`: the prefix of the first number, and then the result; if there is no result, the default
 // argument, which is forced.
 fn calculate<A: Allocator + Copy>(
     operation: Operation,
@@ -112,8 +112,8 @@ fn put_prefix<A: Allocator + Copy>(prefix: &[u8], out: &mut Vec<u8, A>) -> Resul
     Ok(())
 }
 
-/// The result of `ad`, `su`, `ml` or `dv` on the numbers of the two arguments after the name; `None` where one of them
-/// or the result does not fit the width, or the divisor is 0.
+/// The result of `ad`, `su`, `ml` or `dv` on the numbers of the two arguments after the name; `None` if one of them or
+/// the result does not fit the width, or the divisor is 0.
 pub fn result_on(operation: Operation, args: &Args<'_>, width: Width) -> Option<i128>
     ensures { result
         ≡ on_both (result_of operation width) (number_argument width 1 args.now) (number_argument width 2 args.now) }

@@ -42,9 +42,9 @@ pub struct Deed {
     pub read: usize,
     /// Whether the value is scanned, though the function may be neutral.
     pub forced: bool,
-    /// The byte that ends a text of the input from then on, where it is set.
+    /// The byte that ends a text of the input from then on, if it is set.
     pub meta: Option<u8>,
-    /// Whether each call is printed from then on, where that is set.
+    /// Whether each call is printed from then on, if that is set.
     pub trace: Option<bool>,
 }
 

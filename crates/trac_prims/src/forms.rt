@@ -175,8 +175,8 @@ pub(crate) fn print_form<A: Allocator + Copy>(
 
 // ---- pieces
 
-// For how many bytes the value of this call is given room before it is made; `None` where it is longer than a text may
-// be. Its length is found first only where it may be that long: an item gives one byte, or one of the texts.
+// For how many bytes the value of this call is given room before it is made; `None` if it is longer than a text may be.
+// Its length is found first only if it may be that long: an item gives one byte, or one of the texts.
 fn room_of<A: Allocator + Copy>(form: &Form<A>, args: &Args<'_>) -> Option<usize>
     ensures { MatchOption result (TEXT_LIMIT < length (called (drop 2 args.now) form.now))
         (λ _. length (called (drop 2 args.now) form.now) ≤ TEXT_LIMIT) }
@@ -220,7 +220,7 @@ fn copies<A: Allocator + Copy>(
     Ok(copies)
 }
 
-// How many bytes the names take, each with a text before it, where that is no more than a text may have.
+// How many bytes the names take, each with a text before it, if that is no more than a text may have.
 fn list_len(text: &[u8], names: &[&[u8]]) -> Option<usize>
     ensures { SomeIff result (length (flat_map (λ name. text.now ++ name.now) names.now) ≤ TEXT_LIMIT)
         (length (flat_map (λ name. text.now ++ name.now) names.now)) }

@@ -36,14 +36,14 @@ use trac_rules::refusal::Refusal;
 use trac_rules::width::Width;
 use trac_text::Args;
 
-/// What the call of these arguments by a function of this kind will do, the first of them being the name: everything,
-/// its pieces already made. The primitives are those of T-64, with this project's profile.
+/// What the call of these arguments by a function of this kind will do: everything, its pieces already made. The first
+/// argument is the name. The primitives are those of T-64, with this project's profile.
 ///
-/// Refused with `NeedInput` or `Ended` where it reads input that is not there; with `TooLong` where the state after
-/// the call would pass a limit, its forms included; and with `Memory` where the allocator refuses. The value of a
-/// form, a printed form and a list of names are not built where they are longer than any state may hold. The tape
-/// has to hold at least as many bytes as are read, there may be at most 1,048,576 arguments, and text and output
-/// have to be within their limits.
+/// Refused with `NeedInput` or `Ended` if it reads input that is not there. Refused with `TooLong` if the state after
+/// the call would pass a limit, its forms included. Refused with `Memory` if the allocator refuses. The value of a
+/// form, a printed form and a list of names are not built if they are longer than any state may hold. The tape has to
+/// hold at least as many bytes as are read. There may be at most 1,048,576 arguments, and text and output have to be
+/// within their limits.
 pub fn plan<A: Allocator + Copy>(
     alloc: A,
     args: &Args<'_>,
@@ -70,8 +70,8 @@ pub fn plan<A: Allocator + Copy>(
     Ok(deed.complete(made, change, now))
 }
 
-/// What `plan` says, its value and what it prints being made in buffers: what they held before is gone, and they take
-/// more memory only where they have too little. The change of forms and blocks is put in place of one that keeps all.
+/// What `plan` says, its value and what it prints being made in buffers. What the buffers held before is gone, and they
+/// take more memory only if they have too little. The change of forms and blocks is put in place of one that keeps all.
 /// After a refusal the buffers hold any texts, and the change may be any; nothing else has changed.
 pub fn plan_into<A: Allocator + Copy>(
     alloc: A,
@@ -165,7 +165,7 @@ fn perform<A: Allocator + Copy>(
     }
 }
 
-// What a primitive does with forms. A function clears room for all changes that it may plan where it begins: so this,
+// What a primitive does with forms. A function clears room, where it begins, for all changes that it may plan. So this,
 // what plans a change of forms, and the next one are compiled apart, and a call that plans none does not pay.
 #[inline(never)]
 fn handle<A: Allocator + Copy>(

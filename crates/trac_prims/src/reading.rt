@@ -23,8 +23,8 @@ use trac_rules::refusal::Refusal;
 use trac_rules::width::Width;
 use trac_text::Args;
 
-// `cs`, `cc`, `cn` and `in`: what is read of a form at its pointer, and the pointer where it stands then; where there
-// is nothing to read the default argument, which is forced, and the pointer where it stands already.
+// `cs`, `cc`, `cn` and `in`: what is read of a form at its pointer, and the pointer where it stands then. If there is
+// nothing to read, the default argument, which is forced, and the pointer where it stands already.
 pub(crate) fn read<A: Allocator + Copy>(
     alloc: A,
     reading: FormReading,

@@ -10,7 +10,7 @@ use trac_rules::refusal::Refusal;
 use trac_text::Args;
 use trac_text::front::beginning_of;
 
-// Puts the line of a call by a function of this kind at the end of `out`, where the trace is on.
+// Puts the line of a call by a function of this kind at the end of `out`, if the trace is on.
 pub(crate) fn line_into<A: Allocator + Copy>(
     trace: bool,
     kind: Kind,

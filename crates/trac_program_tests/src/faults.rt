@@ -181,7 +181,7 @@ fn expect_outcome(
     );
 }
 
-// Where a call fails, with any kind of error, all is written that was to be written before it, and no more.
+// If a call fails, with any kind of error, all is written that was to be written before it, and no more.
 #[test]
 fn each_fault(rt: HostRuntime) {
     for (program, input, most, rows) in FAULTS.iter() {

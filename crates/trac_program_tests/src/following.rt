@@ -36,7 +36,7 @@ fn form_called(session: &Session<Memory<'_>>) -> &'static [u8] {
     }
 }
 
-// Where the byte is followed on from, where a call passed it on or had it from a form.
+// Where the byte is followed on from, if a call passed it on or had it from a form.
 fn place_before(session: &Session<Memory<'_>>, source: Source<'static>) -> Option<Place<'static>> {
     match source {
         Source::Passed(there) => Some(there),

@@ -14,15 +14,15 @@ const ORDERS: &[u8] =
     b"s 90\np\nb 3\nn\nN\nO\no\nu ps\nr\nw #1\nw \"1\"\nw A\ng 60\nf\nf A\nt 3\np all\ns 9\nl\ny #1\ns 90\ny A 1\ny\n\
       g 60\ni \"a'\"\n\nh\nx\nm\nb start\ne\n";
 
-// A program, its input with its output, and the text of a line that says that memory was refused, where the program
-// goes on then. There the output is left open: it is whole lines.
+// A program, its input with its output, and the text of a line that says that memory was refused, if the program goes
+// on then. If it does, the output is left open: it is whole lines.
 type Row = (
     Program<'static>,
     (&'static [u8], &'static [u8]),
     Option<&'static [u8]>,
 );
 
-// Runs with each width of numbers, with a journal that fills and with the one of a run where nothing else is said; a
+// Runs with each width of numbers, with a journal that fills and with the one that a run has if nothing else is said; a
 // session with each kind of command, and a walk with each kind of line.
 const ROWS: &[Row] = &[
     (RUN, (INPUT, b"AB"), None),
@@ -53,7 +53,7 @@ fn contains(text: &[u8], wanted: &[u8]) -> bool {
     false
 }
 
-// Whether whole lines are written, and the last line of a debugger's state where its first one is.
+// Whether whole lines are written, and the last line of a debugger's state if its first one is.
 fn is_whole(written: &[u8]) -> bool {
     (written.is_empty() || written.last() == Some(&b'\n'))
         && contains(written, b"active [") == contains(written, b"\njournal ")
@@ -70,7 +70,7 @@ fn goes_back(written: &[u8]) -> bool {
     true
 }
 
-// Whether this may be written where a request is refused, or none.
+// Whether this may be written if a request is refused, or if none is.
 fn may_write(row: &Row, written: &[u8], is_refused: bool) -> bool {
     let output = row.1.1;
     if row.2.is_some() {

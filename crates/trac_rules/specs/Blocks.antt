@@ -20,7 +20,7 @@ use Rattle.trac_rules.specs.Effect.{Effect, argument, leaves}
 
 -- ---- `sb`
 
--- a form, where there is one, with its name
+-- a form, if there is one, with its name
 abbrev pub with_name : List ℕ → Option Form → Held
 with_name name None = []
 with_name name (Some form) = (name, form) ∷ []
@@ -79,7 +79,7 @@ pub record AreKept (old new : List Block) : Type 0 where
 
 -- ---- `fb`
 
--- what a block holds; nothing where it is erased
+-- what a block holds; nothing if it is erased
 abbrev pub forms_in : Block → Held
 forms_in None = []
 forms_in (Some held) = held
@@ -108,7 +108,7 @@ erased number name storage =
 
 -- ---- calls
 
--- a block, where there is one, acted upon by its number; where there is none the value is empty and nothing changes
+-- a block, if there is one, acted upon by its number; if there is none, the value is empty and nothing changes
 abbrev pub on_block : Option ℕ → (ℕ → Result Effect Refusal) → Storage → Result Effect Refusal
 on_block None act storage = Ok (leaves storage)
 on_block (Some number) act storage = act number

@@ -6,7 +6,7 @@ abbrev pub count_of : ℕ → List ℕ → ℕ
 count_of b [] = 0
 count_of b (x ∷ xs) = if x == b then suc (count_of b xs) else count_of b xs
 
--- the longest tail of a text that passes the test; empty where none does
+-- the longest tail of a text that passes the test; empty if none does
 abbrev pub longest_tail : (List ℕ → Bool) → List ℕ → List ℕ
 longest_tail passes [] = []
 longest_tail passes (b ∷ bs) = if passes (b ∷ bs) then b ∷ bs else longest_tail passes bs

@@ -30,7 +30,7 @@ result_of Divide width a b = quotient_of width a b
 abbrev pub octal_argument : ℕ → List (List ℕ) → List Bool
 octal_argument k arguments = bits_of (octal_tail (argument k arguments))
 
--- bits moved by a number; empty where there is none, since it does not fit
+-- bits moved by a number; empty if there is none, since it does not fit
 abbrev pub moved : (ℤ → List Bool → List Bool) → Option ℤ → List Bool → List ℕ
 moved by (Some n) bits = text_of (by n bits)
 moved by None bits = []

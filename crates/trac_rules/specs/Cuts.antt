@@ -35,15 +35,15 @@ cut_of texts form = cut_between 0 (all_items form) (all_items (segmented texts f
 
 -- ---- how they are filled again
 
--- the text of this number, where the item is a gap of this ordinal that is just as wide, and at least one byte wide
+-- the text of this number, if the item is a gap of this ordinal that is just as wide, and at least one byte wide
 abbrev pub fitting : List (List ℕ) → ℕ → Item → Option (List ℕ)
 fitting texts number (Byte b) = None
 fitting texts number (Gap ordinal width) =
     then_some (ordinal == number && (width == length (text_numbered number texts) && nat_le 1 width))
     (text_numbered number texts)
 
--- items with the gaps of a cut filled with their texts, the first item having the place that is given; none where a gap
--- of the cut does not stand at its place as wide as its text, or where places do not rise
+-- items with the gaps of a cut filled with their texts; the first item has the place that is given. None if a gap of
+-- the cut does not stand at its place as wide as its text, or if places do not rise
 abbrev pub joined_from : List (List ℕ) → ℕ → List CutGap → List Item → Option (List Item)
 joined_from texts place [] items = Some items
 joined_from texts place (gap ∷ cut) [] = None
@@ -52,6 +52,6 @@ joined_from texts place (gap ∷ cut) (item ∷ items) = if place == gap.place
     (fitting texts gap.ordinal item)
     else option_map (λ rest. item ∷ rest) (joined_from texts (place + 1) (gap ∷ cut) items)
 
--- items with the gaps of a cut filled again with their texts, where they are there
+-- items with the gaps of a cut filled again with their texts, if they are there
 abbrev pub joined : List (List ℕ) → List CutGap → List Item → Option (List Item)
 joined texts cut items = joined_from texts 0 cut items

@@ -37,7 +37,7 @@ use Rattle.trac_rules.specs.Segmenting.{Runs, leftmost, runs_of}
 use Rattle.trac_rules.specs.Session.{Goal}
 use Rattle.trac_rules.specs.State.{State, Storage, storage_of}
 
--- a doubt, where it is one
+-- a doubt, if it is one
 abbrev pub said : Bool → Doubt → List Doubt
 said true doubt = doubt ∷ []
 said false doubt = []
@@ -128,7 +128,7 @@ arguments_used (HandleBlock FetchBlock) form = Some 1
 arguments_used (HandleBlock EraseBlock) form = Some 1
 arguments_used Unknown form = None
 
--- the first argument that nothing uses, where the call gives one: so many are used, and there are so many with the name
+-- the first argument that nothing uses, if the call gives one: so many are used, and there are so many with the name
 abbrev pub unused_doubts : Option ℕ → ℕ → List Doubt
 unused_doubts None count = []
 unused_doubts (Some used) count = said (nat_lt (used + 1) count) (Unused (used + 1))

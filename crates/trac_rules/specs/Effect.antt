@@ -2,7 +2,7 @@
 use Rattle.std.specs.Prelude.{ℕ, List, [], get_or, Bool, true, false, Option, None, Some}
 use Rattle.trac_rules.specs.State.{Storage}
 
--- the argument of this number, the name being number 0; empty where it is missing
+-- the argument of this number, the name being number 0; empty if it is missing
 abbrev pub argument : ℕ → List (List ℕ) → List ℕ
 argument k arguments = get_or arguments k []
 
@@ -14,9 +14,9 @@ pub record Effect : Type 0 where
   pub printed : List ℕ
   -- how many bytes of the tape are read
   pub read : ℕ
-  -- the meta character, where it is set
+  -- the meta character, if it is set
   pub meta : Option ℕ
-  -- whether each call is printed from now on, where that is set
+  -- whether each call is printed from now on, if that is set
   pub trace : Option Bool
   -- forms and blocks afterwards
   pub storage : Storage
@@ -50,7 +50,7 @@ prints text storage = record (leaves storage) { printed = text }
 abbrev pub reads : List ℕ → ℕ → Storage → Effect
 reads value n storage = record (leaves storage) { value = value; read = n }
 
--- a value; where there is none the default argument, which is forced
+-- a value; if there is none, the default argument, which is forced
 abbrev pub gives_or_forces : Option (List ℕ) → List ℕ → Storage → Effect
 gives_or_forces (Some value) other storage = gives value storage
 gives_or_forces None other storage = forces other storage

@@ -5,8 +5,8 @@ use Rattle.trac_rules.specs.declared.item.Item.{Item}
 use Rattle.trac_rules.specs.declared.item.Item.TheVariants.{Byte, Gap}
 use Rattle.trac_rules.specs.Form.{Form}
 
--- the text of this number, the first being number 1; empty where it is missing, and for the number
--- 0, which no segmenting gives
+-- the text of this number, the first being number 1; empty if it is missing, and for the number 0, which no segmenting
+-- gives
 abbrev pub text_numbered : ℕ → List (List ℕ) → List ℕ
 text_numbered zero texts = []
 text_numbered (suc k) texts = get_or texts k []

@@ -16,12 +16,12 @@ use Rattle.trac_rules.specs.State.{Frame, State}
 
 -- ---- calls
 
--- the call that scanning asks for, where it asks for one
+-- the call that scanning asks for, if it asks for one
 abbrev pub call_asked : Scanned → Option Call
 call_asked (Moves t) = None
 call_asked (Calls call) = Some call
 
--- the call that the next step would perform, where it would perform one
+-- the call that the next step would perform, if it would perform one
 abbrev pub next_call : State → Option Call
 next_call s = call_asked (scan s)
 
@@ -35,7 +35,7 @@ abbrev pub begins_with : List (List ℕ) → Option Call → Bool
 begins_with wanted None = false
 begins_with wanted (Some call) = starts_with bytes_eq call.arguments wanted
 
--- the next step would perform a call whose first arguments are these; where none are given, any call
+-- the next step would perform a call whose first arguments are these; if none are given, any call
 abbrev pub is_call_with : List (List ℕ) → Goal
 is_call_with wanted s = begins_with wanted (next_call s)
 
@@ -54,9 +54,9 @@ is_begun_with wanted (Some f) = is_active f.kind && starts_with bytes_eq (f.argu
 abbrev pub frame_at : ℕ → State → Option Frame
 frame_at number s = slice_get (reverse s.frames) number
 
--- the next step would perform the `rs` of the idle program `#(ps,#(rs))`: it alone is begun, with its `ps`, which has
--- gathered nothing, and what is left to scan is the end of both. So too where a program's own `rs` stands last in a
--- text that leaves nothing before it
+-- the next step would perform the `rs` of the idle program `#(ps,#(rs))`. It alone is begun, with its `ps`, which has
+-- gathered nothing, and what is left to scan is the end of both. So too if a program's own `rs` stands last in a text
+-- that leaves nothing before it
 abbrev pub is_idle_reading : Goal
 is_idle_reading s = bytes_eq s.active (codes "))") && (length s.frames == 2)
     && is_begun_with (codes "ps" ∷ [] ∷ []) (frame_at 0 s) && is_begun_with (codes "rs" ∷ []) (frame_at 1 s)
@@ -101,8 +101,8 @@ is_form_as None None = true
 is_form_as (Some a) (Some b) = is_same_form a b
 is_form_as a b = false
 
--- the next step would perform a call, and the form of this name is another one than this, or is there where this is
--- none, or is not where this is one. Nothing but a call changes a form, so on the way back this is the call that did
+-- the next step would perform a call, and the form of this name is another one than this, or only one of the two is
+-- there. Nothing but a call changes a form, so on the way back this is the call that did
 abbrev pub has_other_form : List ℕ → Option Form → Goal
 has_other_form name form s = is_some (next_call s) && not (is_form_as (finite.get s.forms name) form)
 

@@ -35,7 +35,7 @@ abbrev pub without : List (List ℕ) → Forms → Forms
 without [] forms = forms
 without (name ∷ names) forms = without names (map.remove forms name)
 
--- a form, where there is one, acted upon; where there is none the value is empty and nothing changes
+-- a form, if there is one, acted upon; if there is none, the value is empty and nothing changes
 abbrev pub on_form : Option Form → (Form → Result Effect Refusal) → Storage → Result Effect Refusal
 on_form None act storage = Ok (leaves storage)
 on_form (Some form) act storage = act form
@@ -56,15 +56,15 @@ piece_read ReadChar width arguments form = char_read form
 piece_read ReadCount width arguments form = fitting_count_read (number_argument width 2 arguments) form
 piece_read ReadUntil width arguments form = until_read (argument 2 arguments) form
 
--- the default argument: argument 2, or argument 3 where argument 2 is a number or a text
+-- the default argument: argument 2, or argument 3 if argument 2 is a number or a text
 abbrev pub default_argument : FormReading → List (List ℕ) → List ℕ
 default_argument ReadSegment arguments = argument 2 arguments
 default_argument ReadChar arguments = argument 2 arguments
 default_argument ReadCount arguments = argument 3 arguments
 default_argument ReadUntil arguments = argument 3 arguments
 
--- a piece given, and the pointer of the form of this name at its place; where there is none the default argument, which
--- is forced, and the pointer unmoved
+-- a piece given, and the pointer of the form of this name at its place. If there is no piece, the default argument
+-- is given and forced, and the pointer is unmoved
 abbrev pub gives_piece : Option Piece → List ℕ → List ℕ → Form → Storage → Effect
 gives_piece (Some piece) other name form storage = gives piece.value (pointing name piece.place form storage)
 gives_piece None other name form storage = forces other storage

@@ -25,8 +25,8 @@ marks (f ∷ fs) = 1 + length f.arguments + marks fs
 abbrev pub text_bytes : State → ℕ
 text_bytes s = length s.active + length s.base + argument_bytes s.frames
 
--- whether texts, marks and output are within the limits; forms and blocks are judged where a step changes them, forms
--- as stated below, and blocks where calls on them are defined
+-- whether texts, marks and output are within the limits. Forms and blocks are judged when a step changes them: forms as
+-- stated below, and blocks where calls on them are defined
 unfoldable pub texts_fit : State → Bool
 texts_fit s =
     nat_le (text_bytes s) TEXT_LIMIT && nat_le (marks s.frames) MARK_LIMIT && nat_le (length s.output) OUTPUT_LIMIT
@@ -39,8 +39,8 @@ form_fits name form = nat_le (length name) NAME_LIMIT && nat_le (length (all_ite
     && nat_le (extent (all_items form)) FORM_LIMIT
 
 -- whether forms that are within the limits stay so when this one is put among them. `ds`, `ss` and the address
--- that `sb` makes are judged so, and of `fb` the number of forms; `dd`, `da`, `eb` and what only moves a pointer
--- cannot pass a limit. Where a state is proper before a step, that is the same as judging all of it afterwards
--- (the law `states_stay_proper`)
+-- that `sb` makes are judged so, and of `fb` the number of forms. `dd`, `da`, `eb` and what only moves a pointer cannot
+-- pass a limit. If a state is proper before a step, that is the same as judging all of it afterwards (the law
+-- `states_stay_proper`)
 unfoldable pub may_be_put : List ℕ → Form → Forms → Bool
 may_be_put name form forms = form_fits name form && nat_le (map.len (map.insert forms name form)) FORM_COUNT_LIMIT

@@ -80,23 +80,23 @@ is_greater a b = int_lt (whole_number b) (whole_number a)
 
 -- ---- texts
 
--- a number in decimal: `-` where it is negative, no `+` and no leading zeros
+-- a number in decimal: `-` if it is negative, no `+` and no leading zeros
 abbrev pub number_text : ℤ → List ℕ
 number_text n = signed_decimal n
 
--- an operation on two numbers; none where one of them is missing
+-- an operation on two numbers; none if one of them is missing
 abbrev pub on_both : (ℤ → ℤ → Option ℤ) → Option ℤ → Option ℤ → Option ℤ
 on_both operation None b = None
 on_both operation (Some a) None = None
 on_both operation (Some a) (Some b) = operation a b
 
--- a result after a prefix; none where there is no result
+-- a result after a prefix; none if there is no result
 abbrev pub after_prefix : List ℕ → Option ℤ → Option (List ℕ)
 after_prefix prefix (Some n) = Some (prefix ++ number_text n)
 after_prefix prefix None = None
 
--- the prefix of the first text, and then the result of an operation on the numbers of both, all three of one width;
--- none where a number does not fit, or there is no result
+-- the prefix of the first text, and then the result of an operation on the numbers of both, all three of one width.
+-- None if a number does not fit, or there is no result
 unfoldable pub calculated : (Width → ℤ → ℤ → Option ℤ) → Width → List ℕ → List ℕ → Option (List ℕ)
 calculated operation width first second = after_prefix (prefix_of first)
     (on_both (operation width) (number_of width (numeral_of first)) (number_of width (numeral_of second)))

@@ -47,11 +47,11 @@ text_of bits = []
 
 -- ---- operations on lists of bits
 
--- with zeros before it up to n bits; as it is where it has as many or more
+-- with zeros before it up to n bits; as it is if it has as many or more
 abbrev pub widened : ℕ → List Bool → List Bool
 widened n bits = replicate (n - length bits) false ++ bits
 
--- the last n bits, or all where there are fewer
+-- the last n bits, or all if there are fewer
 abbrev pub last_bits : ℕ → List Bool → List Bool
 last_bits n bits = drop (length bits - n) bits
 
@@ -75,7 +75,7 @@ shifted_left n bits = drop n bits ++ replicate (min n (length bits)) false
 abbrev pub shifted_right : ℕ → List Bool → List Bool
 shifted_right n bits = replicate (min n (length bits)) false ++ take (length bits - n) bits
 
--- moved by so many places, to the left where positive: `negsuc n` is -(n + 1)
+-- moved by so many places, to the left if positive: `negsuc n` is -(n + 1)
 abbrev pub shift : ℤ → List Bool → List Bool
 shift (pos n) bits = shifted_left n bits
 shift (negsuc n) bits = shifted_right (suc n) bits
@@ -88,7 +88,7 @@ rotated_left n bits = let k = n % length bits in drop k bits ++ take k bits
 abbrev pub rotated_right : ℕ → List Bool → List Bool
 rotated_right n bits = let k = length bits - n % length bits in drop k bits ++ take k bits
 
--- rotated by so many places, to the left where positive
+-- rotated by so many places, to the left if positive
 abbrev pub rotate : ℤ → List Bool → List Bool
 rotate (pos n) bits = rotated_left n bits
 rotate (negsuc n) bits = rotated_right (suc n) bits

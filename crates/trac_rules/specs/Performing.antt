@@ -70,7 +70,7 @@ abbrev pub beginning_of : Kind → List ℕ
 beginning_of Active = codes "#("
 beginning_of Neutral = codes "##("
 
--- the line of the trace, where the trace is on: the function's beginning, all its arguments with `*` between them, its
+-- the line of the trace, if the trace is on: the function's beginning, all its arguments with `*` between them, its
 -- end, and a line feed
 abbrev pub trace_line : Bool → Kind → List (List ℕ) → List ℕ
 trace_line false kind arguments = []

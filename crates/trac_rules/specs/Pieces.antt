@@ -35,7 +35,7 @@ read_on k form = record { value = bytes_in (take k form.after); place = length f
 abbrev pub read_back : ℕ → Form → Piece
 read_back k form = record { value = bytes_in (drop k form.before); place = k }
 
--- the piece, where the list holds anything; else none, which is the case of a default argument
+-- the piece, if the list holds anything; else none, which is the case of a default argument
 abbrev pub where_any : {A : Type 0} → List A → Option Piece → Option Piece
 where_any [] piece = None
 where_any (x ∷ xs) piece = piece
@@ -52,33 +52,33 @@ abbrev pub segment_items : Option ℕ → List Item → ℕ
 segment_items (Some k) items = k + 1
 segment_items None items = length items
 
--- the bytes up to the next gap, the pointer after that gap; so empty right before a gap. None where
--- nothing stands after the pointer
+-- the bytes up to the next gap, the pointer after that gap; so empty right before a gap. None if nothing stands after
+-- the pointer
 abbrev pub segment_read : Form → Option Piece
 segment_read form = where_any form.after (Some (read_on (segment_items (position is_gap form.after) form.after) form))
 
 -- ---- `cn` and `cc`: gaps are passed
 
--- the first place among items that has n bytes before it: right after the last of these bytes, where n is not 0
+-- the first place among items that has n bytes before it: right after the last of these bytes, if n is not 0
 abbrev pub place_after : ℕ → List Item → Option ℕ
 place_after n items = first_place (λ k. length (bytes_in (take k items)) == n) (length items + 1)
 
--- the last place among items that has n bytes after it: right before the first of these bytes, where n is not 0
+-- the last place among items that has n bytes after it: right before the first of these bytes, if n is not 0
 abbrev pub place_before : ℕ → List Item → Option ℕ
 place_before n items = last_place (λ k. length (bytes_in (drop k items)) == n) (length items + 1)
 
--- n, or the number of bytes among these items where that is less: so there always is a place with so many on that side
+-- n, or the number of bytes among these items if that is less: so there always is a place with so many on that side
 abbrev pub at_most_all : ℕ → List Item → ℕ
 at_most_all n items = min n (length (bytes_in items))
 
--- the next n bytes, or as many as there are, the pointer right after the last of them. None where
--- no byte stands after the pointer
+-- the next n bytes, or as many as there are, the pointer right after the last of them. None if no byte stands after the
+-- pointer
 abbrev pub next_bytes : ℕ → Form → Option Piece
 next_bytes n form = where_any (bytes_in form.after)
     (option_map (λ k. read_on k form) (place_after (at_most_all n form.after) form.after))
 
--- the last n bytes before the pointer, or as many as there are, in the order of the text, the pointer right before the
--- first of them. None where no byte stands before the pointer
+-- the last n bytes before the pointer, or as many as there are, in the order of the text. The pointer is then right
+-- before the first of them. None if no byte stands before the pointer
 abbrev pub last_bytes : ℕ → Form → Option Piece
 last_bytes n form = where_any (bytes_in form.before)
     (option_map (λ k. read_back k form) (place_before (at_most_all n form.before) form.before))
@@ -94,7 +94,7 @@ count_read (pos zero) form = Some (nothing_read form)
 count_read (pos (suc n)) form = next_bytes (suc n) form
 count_read (negsuc n) form = last_bytes (suc n) form
 
--- the same for the number of a call, if it fits; where it does not, empty, the pointer unmoved
+-- the same for the number of a call, if it fits; if it does not, empty, the pointer unmoved
 abbrev pub fitting_count_read : Option ℤ → Form → Option Piece
 fitting_count_read None form = Some (nothing_read form)
 fitting_count_read (Some n) form = count_read n form
@@ -114,7 +114,7 @@ abbrev pub place_of_text : List ℕ → List Item → Option ℕ
 place_of_text text items = first_place (λ k. begin_with text (drop k items)) (length items + 1)
 
 -- the bytes before the first occurrence of a text after the pointer, the pointer right after that
--- occurrence. None where it does not occur
+-- occurrence. None if it does not occur
 abbrev pub until_read : List ℕ → Form → Option Piece
 until_read text form = option_map (λ k. record (read_on k form) { place = length form.before + k + length text })
     (place_of_text text form.after)

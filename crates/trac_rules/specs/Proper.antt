@@ -40,7 +40,7 @@ pub record IsProper (s : State) : Type 0 where
   pub texts : texts_fit s ≡ true
   pub storage : IsProperStorage (storage_of s)
 
--- where there is a tape: no more of it is read than there is
+-- if there is a tape: no more of it is read than there is
 pub record IsProperOn (tape : Tape) (s : State) : Type 0 where
   pub proper : IsProper s
   pub on_tape : s.position ≤ length tape.bytes

@@ -10,8 +10,8 @@ use Rattle.trac_rules.specs.Effect.{Effect, reads}
 abbrev pub unread : Tape → State → List ℕ
 unread tape s = drop s.position tape.bytes
 
--- the rest of the input, in which no meta character stands: more is needed where the input has not ended; where it has,
--- the whole rest is given, and where nothing is left, it is the end
+-- the rest of the input, in which no meta character stands. If the input has not ended, more is needed. If it has, the
+-- whole rest is given; but if nothing is left, it is the end
 abbrev pub rest_read : List ℕ → Bool → Storage → Result Effect Refusal
 rest_read rest false storage = Err NeedInput
 rest_read [] true storage = Err Ended
@@ -27,7 +27,7 @@ read_up_to None text ended storage = rest_read text ended storage
 abbrev pub string_read : List ℕ → Bool → ℕ → Storage → Result Effect Refusal
 string_read text ended meta storage = read_up_to (position (λ b. b == meta) text) text ended storage
 
--- `rc`: the first byte of unread input, whichever it is; where there is none, as for `rs`
+-- `rc`: the first byte of unread input, whichever it is; if there is none, as for `rs`
 abbrev pub byte_read : List ℕ → Bool → Storage → Result Effect Refusal
 byte_read [] ended storage = rest_read [] ended storage
 byte_read (b ∷ rest) ended storage = Ok (reads (b ∷ []) 1 storage)

@@ -25,7 +25,7 @@ no_tape = record { bytes = []; ended = false }
 abbrev pub losses_of : PlainSession → ℕ
 losses_of p = losses_from p.earlier
 
--- a call of these arguments may lose so much where there are these forms and blocks
+-- a call of these arguments may lose so much if there are these forms and blocks
 abbrev pub Costs : List (List ℕ) → Named → List Block → ℕ → Type 0
 Costs arguments forms blocks n = call_loss arguments (record { forms = finite.from_entries forms; blocks = blocks }) ≡ n
 
@@ -64,12 +64,12 @@ silent_call arguments undone = record {
 abbrev pub stored : Named → List Block → Storage
 stored forms blocks = record { forms = finite.from_entries forms; blocks = blocks }
 
--- a call of these arguments destroys this where there are these forms and blocks
+-- a call of these arguments destroys this if there are these forms and blocks
 abbrev pub Destroys : List (List ℕ) → Named → List Block → Undone → Type 0
 Destroys arguments forms blocks undone =
     undone_by (primitive_of (argument 0 arguments)) arguments (stored forms blocks) ≡ undone
 
--- where a call of these arguments destroyed this and left these forms and blocks, those were there before
+-- if a call of these arguments destroyed this and left these forms and blocks, those were there before
 abbrev pub GivesBack : List (List ℕ) → Undone → Named → List Block → Named → List Block → Type 0
 GivesBack arguments undone forms blocks before blocks_before =
     storage_before arguments undone (stored forms blocks) ≡ Some (stored before blocks_before)

@@ -36,7 +36,7 @@ pub record CallRecord : Type 0 where
   pub printed : ℕ
   -- how many bytes of the tape were read
   pub read : ℕ
-  -- the meta character before, where one was set
+  -- the meta character before, if one was set
   pub meta : Option ℕ
   -- whether each call was printed before
   pub trace : Bool
@@ -95,7 +95,7 @@ is_scanned Active forced = true
 is_scanned Neutral forced = forced
 
 -- what a call with this effect destroys; the effect's printed text begins with the line of the
--- trace, where there is one
+-- trace, if there is one
 abbrev pub call_recorded : Call → Effect → CallRecord
 call_recorded call e = record {
   kind = call.kind;
@@ -109,12 +109,12 @@ call_recorded call e = record {
   undone = undone_by (primitive_of (argument 0 call.arguments)) call.arguments (storage_of call.state);
 }
 
--- of what scanning asks for, the record of the call; none where it asks for none, or the call is refused
+-- of what scanning asks for, the record of the call; none if it asks for none, or the call is refused
 abbrev pub call_record_in : Environment → Scanned → Option CallRecord
 call_record_in environment (Moves t) = None
 call_record_in environment (Calls call) = option_map (call_recorded call) (result_ok (performed environment call))
 
--- the record of the call at which a state stands, where it stands at one and the call is not refused
+-- the record of the call at which a state stands, if it stands at one and the call is not refused
 abbrev pub call_record_of : Environment → State → Option CallRecord
 call_record_of environment s = call_record_in environment (scan s)
 
@@ -123,7 +123,7 @@ abbrev pub record_in : Environment → State → Scanned → Option Record
 record_in environment s (Moves t) = Some (recorded s)
 record_in environment s (Calls call) = option_map Called (call_record_in environment (Calls call))
 
--- what the step from a state destroys; none where a call is refused
+-- what the step from a state destroys; none if a call is refused
 abbrev pub record_of : Environment → State → Option Record
 record_of environment s = record_in environment s (scan s)
 
@@ -133,7 +133,7 @@ records_from environment states = flat_map (λ s. option_to_list (record_of envi
 
 -- ---- the state before a step of scanning
 
--- the last n bytes of a text, where there are so many
+-- the last n bytes of a text, if there are so many
 abbrev pub last_of : ℕ → List ℕ → List ℕ
 last_of n text = drop (length text - n) text
 
@@ -145,8 +145,8 @@ all_before_last n text = take (length text - n) text
 abbrev pub put_before : List ℕ → State → State
 put_before text s = record s { active = text ++ s.active }
 
--- the last n bytes of the current text go back before the active text; none where it has fewer. The first
--- argument is the state's frames
+-- the last n bytes of the current text go back before the active text; none if it has fewer. The first argument is the
+-- state's frames
 abbrev pub moved_back_in : List Frame → ℕ → State → Option State
 moved_back_in [] n s =
     then_some (nat_le n (length s.base)) (put_before (last_of n s.base) (record s { base = all_before_last n s.base }))
@@ -156,17 +156,17 @@ moved_back_in (f ∷ fs) n s = then_some (nat_le n (length f.gathered)) (put_bef
 abbrev pub moved_back : ℕ → State → Option State
 moved_back n s = moved_back_in s.frames n s
 
--- a frame with these arguments, the last one first, which is being gathered; none where there is none
+-- a frame with these arguments, the last one first, which is being gathered; none if there is none
 abbrev pub frame_backward : Kind → List (List ℕ) → Option Frame
 frame_backward kind [] = None
 frame_backward kind (text ∷ earlier) = Some (record { kind = kind; arguments = reverse earlier; gathered = text })
 
--- a frame with these arguments, the last of which is being gathered; none where there is none
+-- a frame with these arguments, the last of which is being gathered; none if there is none
 abbrev pub frame_of : Kind → List (List ℕ) → Option Frame
 frame_of kind arguments = frame_backward kind (reverse arguments)
 
--- the argument that was finished last is gathered again, and its `,` is back; none outside any function, where no
--- argument is finished, and where the one after it is not empty. The first argument is the state's frames
+-- the argument that was finished last is gathered again, and its `,` is back. None outside any function, if no argument
+-- is finished, or if the one after it is not empty. The first argument is the state's frames
 abbrev pub gathered_again_in : List Frame → State → Option State
 gathered_again_in [] s = None
 gathered_again_in (f ∷ fs) s =
@@ -174,14 +174,14 @@ gathered_again_in (f ∷ fs) s =
     then option_map (λ g. put_before (codes ",") (record s { frames = g ∷ fs })) (frame_of f.kind f.arguments)
     else None
 
--- the innermost function is gone, and its beginning is back; none outside any function, and where the function is more
--- than begun. The first argument is the state's frames
+-- the innermost function is gone, and its beginning is back. None outside any function, or if the function is more than
+-- begun. The first argument is the state's frames
 abbrev pub not_begun_in : List Frame → State → Option State
 not_begun_in [] s = None
 not_begun_in (f ∷ fs) s = then_some (length f.arguments == 0 && length f.gathered == 0)
     (put_before (beginning_of f.kind) (record s { frames = fs }))
 
--- the end of a protected text: the match, where it had one
+-- the end of a protected text: the match, if it had one
 abbrev pub ending_of : Bool → List ℕ
 ending_of true = codes ")"
 ending_of false = []
@@ -203,20 +203,20 @@ pub record Texts : Type 0 where
 abbrev pub texts_in : State → Texts
 texts_in s = record { active = s.active; base = s.base; frames = s.frames }
 
--- the last n bytes are off the current text; none where it has fewer. The first argument is the frames
+-- the last n bytes are off the current text; none if it has fewer. The first argument is the frames
 abbrev pub end_taken_in : List Frame → ℕ → Texts → Option Texts
 end_taken_in [] n texts =
     then_some (nat_le n (length texts.base)) (record texts { base = all_before_last n texts.base })
 end_taken_in (f ∷ fs) n texts = then_some (nat_le n (length f.gathered))
     (record texts { frames = record f { gathered = all_before_last n f.gathered } ∷ fs })
 
--- a value of n bytes is taken off again, from where it went: from the front of the active text, where it was to be
--- scanned, or else from the end of the current text
+-- a value of n bytes is taken off again, from where it went. That is the front of the active text if it was to be
+-- scanned, or else the end of the current text
 abbrev pub value_taken : Bool → ℕ → Texts → Option Texts
 value_taken true n texts = then_some (nat_le n (length texts.active)) (record texts { active = drop n texts.active })
 value_taken false n texts = end_taken_in texts.frames n texts
 
--- a function with these arguments is begun again, and its `)` is back; none where there is no argument
+-- a function with these arguments is begun again, and its `)` is back; none if there is no argument
 abbrev pub begun_again : Kind → List (List ℕ) → Texts → Option Texts
 begun_again kind arguments texts =
     option_map (λ f. record texts { active = codes ")" ++ texts.active; frames = f ∷ texts.frames })
@@ -238,8 +238,8 @@ pub record Rest : Type 0 where
 abbrev pub rest_of : State → Rest
 rest_of s = record { meta = s.meta; trace = s.trace; position = s.position; output = s.output }
 
--- all else before a call, from that after it: the old meta character where one was set, and the old flag; what was read
--- is to be read again, and what was printed is off the output. None where less is read or printed
+-- all else before a call, from that after it: the old meta character if one was set, and the old flag. What was read is
+-- to be read again, and what was printed is off the output. None if less is read or printed
 abbrev pub rest_before : CallRecord → Rest → Option Rest
 rest_before call rest =
     then_some (nat_le call.read rest.position && nat_le call.printed (length rest.output))
@@ -264,7 +264,7 @@ state_of texts storage rest = record {
   output = rest.output;
 }
 
--- the state of these parts, where all are there
+-- the state of these parts, if all are there
 abbrev pub put_together : Option Texts → Option Storage → Option Rest → Option State
 put_together (Some texts) (Some storage) (Some rest) = Some (state_of texts storage rest)
 put_together texts storage rest = None
@@ -276,9 +276,9 @@ restored_call call t = put_together (texts_before call (texts_in t))
 
 -- ---- the state before a step
 
--- the state before, from a record and the state after, before the limits are looked at; none where the
--- state after does not show what the record names. Of a protected text without a match it is not asked that
--- the active text after it is empty
+-- the state before, from a record and the state after, before the limits are looked at. None if the state after does
+-- not show what the record names. Of a protected text without a match it is not asked that the active text after it is
+-- empty
 abbrev pub restored : Record → State → Option State
 restored Moved t = moved_back 1 t
 restored Comma t = gathered_again_in t.frames t
@@ -289,7 +289,7 @@ restored (Deleted b) t = Some (put_before (b ∷ []) t)
 restored (Idle base frames) t = then_some (is_idle t) (record t { active = []; base = base; frames = frames })
 restored (Called call) t = restored_call call t
 
--- the state before; none also where that is no proper state
+-- the state before; none also if that is no proper state
 unfoldable pub state_before : Record → State → Option State
 state_before r t = option_and_then (λ s. then_some (is_proper s) s) (restored r t)
 

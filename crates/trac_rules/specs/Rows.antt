@@ -1,5 +1,5 @@
 -- Words for the worked rows: runs, numbers, bits, what a session is and has replied after a list of commands, and what
--- a call does with forms and blocks. Numbers are of 128 bits, where no width is given.
+-- a call does with forms and blocks. Numbers are of 128 bits if no width is given.
 use Rattle.std.specs.Prelude.{◌≡◌, ℕ, ◌+◌, ◌==◌, ℤ, List, [], ◌∷◌, ◌++◌, Bool, replicate, Option, None, Some, Ok, codes}
 use Prim.Native.String.{String}
 use Rattle.std.specs.FinMap as map
@@ -22,7 +22,7 @@ use Rattle.trac_rules.specs.Running.{BudgetSpent, InputEnded, output_of}
 use Rattle.trac_rules.specs.State.{Block, Environment, Frame, Held, State, Tape, initial, storage_of}
 use Rattle.trac_rules.specs.Session.{Back, Command, Commit, End, Feed, PlainSession, Step, answer, new_session, over}
 
--- a text cut at its commas: a call's name and arguments, where none of them is protected
+-- a text cut at its commas: a call's name and arguments, if none of them is protected
 abbrev pub texts_of : String → List (List ℕ)
 texts_of text = slice_split (λ b. b == COMMA) (codes text)
 
@@ -68,7 +68,7 @@ SumsEnd width below greatest past above least beyond =
     × Calculates difference_of width above "1" least × Refuses difference_of width least "1"
     × Refuses sum_of width past "-1" × Refuses difference_of width "0" beyond
 
--- products, where a root and a half make one past the greatest number, and the root below zero and the half the least
+-- products: a root and a half make one past the greatest number, and the root below zero and the half the least
 abbrev pub ProductsEnd : Width → String → String → String → String → String → String → Type 0
 ProductsEnd width root half minus_root greatest past least =
     Calculates product_of width greatest "1" greatest × Refuses product_of width root half
@@ -117,7 +117,7 @@ state_of commands = (session_of commands).last
 abbrev pub fed : String → ℕ → List Command
 fed text steps = Feed (codes text) ∷ replicate steps Step
 
--- every kind of command; where a journal holds up to four records, there are refusals between them
+-- every kind of command; if a journal holds up to four records, there are refusals between them
 abbrev pub all_kinds : List Command
 all_kinds = fed "AB'" 5 ++ Back ∷ End ∷ Feed (codes "C") ∷ Commit 0 ∷ Back ∷ []
 
@@ -200,8 +200,8 @@ with_forms forms s = record s { forms = map.from_entries forms }
 abbrev pub with_storage : Named → List Block → State → State
 with_storage forms blocks s = record (with_forms forms s) { blocks = blocks }
 
--- what a call does in every state with the forms `before`, where numbers are of a width: its value, which is not
--- forced, what it prints, and the forms after it; nothing else changes
+-- what a call does in every state with the forms `before`, if numbers are of a width: its value, which is not forced,
+-- what it prints, and the forms after it. Nothing else changes
 abbrev pub DoesIn : Width → List (List ℕ) → Named → List ℕ → List ℕ → Named → Type 0
 DoesIn width arguments before value printed after =
     (tape : Tape) → (s : State) →
@@ -224,7 +224,7 @@ Gives arguments forms value = Does arguments forms value [] forms
 abbrev pub Prints : List (List ℕ) → Named → List ℕ → Type 0
 Prints arguments forms text = Does arguments forms [] text forms
 
--- a call gives this value, which is forced, and changes nothing, where numbers are of a width
+-- a call gives this value, which is forced, and changes nothing, if numbers are of a width
 abbrev pub ForcesIn : Width → List (List ℕ) → Named → List ℕ → Type 0
 ForcesIn width arguments forms value = (tape : Tape) → (s : State) →
     effect_of (primitive_of (argument 0 arguments)) (over width tape) arguments (with_forms forms s)

@@ -74,6 +74,6 @@ abbrev pub segmented_from : ℕ → List (List ℕ) → List Item → List Item
 segmented_from k [] items = items
 segmented_from k (text ∷ texts) items = segmented_from (k + 1) texts (cut_out k text items)
 
--- the form with these texts cut out; its pointer is at the start, also where nothing was cut
+-- the form with these texts cut out; its pointer is at the start, even if nothing was cut
 abbrev pub segmented : List (List ℕ) → Form → Form
 segmented texts form = at_start (segmented_from 1 texts (all_items form))

@@ -61,7 +61,7 @@ abbrev pub backed_to : List State → PlainSession → Answer
 backed_to [] p = refused AtStart p
 backed_to (s ∷ earlier) p = done (record p { earlier = earlier; last = s })
 
--- what a step is given where numbers are of this width, over this tape
+-- what a step is given if numbers are of this width, over this tape
 abbrev pub over : Width → Tape → Environment
 over width tape = record { tape = tape; width = width }
 
@@ -78,7 +78,7 @@ abbrev pub first_of : State → List State → State
 first_of s [] = s
 first_of s (t ∷ earlier) = first_of t earlier
 
--- the first state that a commit keeps: so many states before the last one, or the first of all where there are fewer
+-- the first state that a commit keeps: so many states before the last one, or the first of all if there are fewer
 abbrev pub first_kept : ℕ → PlainSession → State
 first_kept keep p = first_of p.last (take keep p.earlier)
 
@@ -86,9 +86,9 @@ first_kept keep p = first_of p.last (take keep p.earlier)
 abbrev pub released_by : State → State → State
 released_by first s = released (length first.output) first.position s
 
--- the last state stays, and so many before it, or all where there are fewer. The output of the first of these is
--- released: each of them loses it from the front of its own output. The tape loses what the first one has read, and
--- each position falls by as much
+-- the last state stays, and so many before it, or all if there are fewer. The output of the first of these is released:
+-- each of them loses it from the front of its own output. The tape loses what the first one has read, and each position
+-- falls by as much
 abbrev pub committed : ℕ → PlainSession → PlainSession
 committed keep p = record p {
   tape = record p.tape { bytes = drop (first_kept keep p).position p.tape.bytes };
@@ -121,7 +121,7 @@ Answers command old (Refused refusal) new = OrMemory (MayRunOut command (answer 
 
 -- ---- walks
 
--- the session after the command, where that is not refused
+-- the session after the command, if that is not refused
 abbrev pub accepted_by : Answer → Option PlainSession
 accepted_by a = accepted_as a.reply a.session
   where
@@ -129,7 +129,7 @@ accepted_by a = accepted_as a.reply a.session
     accepted_as Done p = Some p
     accepted_as (Refused refusal) p = None
 
--- the session after n times this command; none where one of them is refused
+-- the session after n times this command; none if one of them is refused
 abbrev pub repeated : Command → ℕ → PlainSession → Option PlainSession
 repeated command zero p = Some p
 repeated command (suc n) p = option_and_then (λ q. accepted_by (answer command q)) (repeated command n p)
@@ -146,9 +146,9 @@ no_goal s = false
 abbrev pub HasEnded : Goal → ℕ → ℕ → PlainSession → Type 0
 HasEnded goal n steps new = (steps ≡ n) ⊎ ((0 < steps) × (goal new.last ≡ true))
 
--- a walk from one session to another of at most n steps forward or back, to a goal: `steps` of them were accepted, the
--- goal was not met before the last of them, and where the walk is not over then, a refusal ended it. That a goal was
--- not met after all its steps is no refusal of the walk; who set the goal may say so
+-- a walk from one session to another of at most n steps forward or back, to a goal. `steps` of them were accepted, and
+-- the goal was not met before the last of them. If the walk is not over then, a refusal ended it. That a goal was not
+-- met after all its steps is no refusal of the walk; who set the goal may say so
 pub record IsWalk (command : Command) (goal : Goal) (n : ℕ) (old : PlainSession) (steps : ℕ) (why : Option Refusal)
     (new : PlainSession) : Type 0 where
   pub within : steps ≤ n

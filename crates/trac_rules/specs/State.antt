@@ -24,8 +24,8 @@ Forms = FinMap (slice_cmp nat_cmp) Form
 abbrev pub Held : Type 0
 Held = List (List ℕ × Form)
 
--- a block is the forms that it holds, in their order, with their names; none where it is erased. In a proper state no
--- name stands twice in it (`AreHeld`)
+-- a block is the forms that it holds, in their order, with their names; none if it is erased. In a proper state no name
+-- stands twice in it (`AreHeld`)
 abbrev pub Block : Type 0
 Block = Option Held
 

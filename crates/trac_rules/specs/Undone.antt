@@ -43,12 +43,12 @@ pub data Undone : Type 0 where
 
 -- ---- what a call destroys
 
--- the old pointer of a form, where there is one
+-- the old pointer of a form, if there is one
 abbrev pub pointer_lost : Option Form → Undone
 pointer_lost None = Nothing
 pointer_lost (Some form) = Point (length form.before)
 
--- the gaps that segmenting with these texts makes in a form, and its old pointer, where there is one
+-- the gaps that segmenting with these texts makes in a form, and its old pointer, if there is one
 abbrev pub bytes_lost : List (List ℕ) → Option Form → Undone
 bytes_lost texts None = Nothing
 bytes_lost texts (Some form) = Join (cut_of texts form) (length form.before)
@@ -68,13 +68,13 @@ handling_lost other arguments storage = Nothing
 abbrev pub names_in : Held → List (List ℕ)
 names_in held = map (λ entry. entry.0) held
 
--- the forms that copies of those of the block of this number replace, where there is such a block
+-- the forms that copies of those of the block of this number replace, if there is such a block
 abbrev pub replaced_lost : Option ℕ → Storage → Undone
 replaced_lost None storage = Nothing
 replaced_lost (Some number) storage =
     Unbring number (moved_out (names_in (forms_in (block_at number storage.blocks))) storage.forms)
 
--- what the block of this number holds, and the form that is its address, where there is such a block
+-- what the block of this number holds, and the form that is its address, if there is such a block
 abbrev pub block_lost : Option ℕ → Option Form → List Block → Undone
 block_lost (Some number) (Some address) blocks = Unerase number (forms_in (block_at number blocks)) address
 block_lost number address blocks = Nothing
@@ -104,8 +104,8 @@ is_free name forms = not (is_some (finite.get forms name))
 abbrev pub are_free : List (List ℕ) → Forms → Bool
 are_free names forms = list_all (λ name. is_free name forms) names
 
--- whether no form stands that a call of this primitive with these arguments deletes: none at all, where it deletes all
--- forms, or else none under the names that it is given
+-- whether no form stands that a call of this primitive with these arguments deletes. That is none at all if it deletes
+-- all forms, or else none under the names that it is given
 abbrev pub are_deleted : Primitive → List (List ℕ) → Forms → Bool
 are_deleted (Handle action.DeleteAll) arguments forms = nat_le (finite.len forms) 0
 are_deleted primitive arguments forms = are_free (drop 1 arguments) forms
@@ -121,39 +121,39 @@ abbrev pub swapped_back : List ℕ → Option Form → Forms → Forms
 swapped_back name None forms = finite.remove forms name
 swapped_back name (Some form) forms = finite.insert forms name form
 
--- under a name the form of these items with its pointer at a place; none where it has fewer items
+-- under a name the form of these items with its pointer at a place; none if it has fewer items
 abbrev pub pointed_back : List ℕ → ℕ → List Item → Storage → Option Storage
 pointed_back name place items storage = then_some (nat_le place (length items))
     (keeping (finite.insert storage.forms name (pointed_at place items)) storage)
 
--- the pointer of a form, where there is one, at a place
+-- the pointer of a form, if there is one, at a place
 abbrev pub pointer_back : List ℕ → ℕ → Option Form → Storage → Option Storage
 pointer_back name place found storage = option_and_then (λ form. pointed_back name place (all_items form) storage) found
 
--- the gaps of a cut filled with their texts in a form, where there is one, and its pointer at a place
+-- the gaps of a cut filled with their texts in a form, if there is one, and its pointer at a place
 abbrev pub joined_back : List (List ℕ) → List CutGap → List ℕ → ℕ → Option Form → Storage → Option Storage
 joined_back texts cut name place found storage = option_and_then
     (λ form. option_and_then (λ items. pointed_back name place items storage) (joined texts cut (all_items form))) found
 
--- the form under a name is gone again, or this one is there in its place; none where no form stands under that name
+-- the form under a name is gone again, or this one is there in its place; none if no form stands under that name
 abbrev pub undefined : List ℕ → Option Form → Storage → Option Storage
 undefined name old storage =
     then_some (is_some (finite.get storage.forms name)) (keeping (swapped_back name old storage.forms) storage)
 
--- these forms are put among the others, after a call of these arguments deleted them; none where a form stands that
--- such a call deletes, or one under the name of one of these forms
+-- these forms are put among the others, after a call of these arguments deleted them. None if a form stands that such a
+-- call deletes, or one under the name of one of these forms
 abbrev pub undeleted : List (List ℕ) → Held → Storage → Option Storage
 undeleted arguments held storage = then_some (are_deleted (primitive_of (argument 0 arguments)) arguments storage.forms
     && are_free (names_in held) storage.forms) (keeping (with_all held storage.forms) storage)
 
--- the last block; where there are none it is as if erased
+-- the last block; if there are none, it is as if erased
 abbrev pub last_block : List Block → Block
 last_block blocks = block_at (length blocks - 1) blocks
 
--- the last block is off the list, the form under a name is gone or an old one is there in its place, and then what
--- the block held is put among the forms, after these names were given for the block. None where the last block is
--- erased, where no form stands under that name, and where a form stands already under one of those names, or under
--- the name of one that the block held
+-- the last block is off the list, and the form under a name is gone or an old one is there in its place. Then what the
+-- block held is put among the forms, after these names were given for the block. None if the last block is erased, or
+-- if no form stands under that name. None also if a form stands already under one of those names, or under the name of
+-- one that the block held
 abbrev pub moved_out_again : List ℕ → List (List ℕ) → Option Form → Storage → Option Storage
 moved_out_again name names old storage = let left : Forms = swapped_back name old storage.forms in
     option_and_then (λ held. then_some
@@ -163,8 +163,8 @@ moved_out_again name names old storage = let left : Forms = swapped_back name ol
     })) (last_block storage.blocks)
 
 -- the forms of the names in the block of this number are gone, and these ones put among the forms, in whose places they
--- were; none where that block is erased, where no form stands under the name of one that it holds or of one of these,
--- and where a form stands under such a name that the block does not hold
+-- were. None if that block is erased, or if no form stands under the name of one that it holds or of one of these. None
+-- also if a form stands under such a name that the block does not hold
 abbrev pub unbrought : ℕ → Held → Storage → Option Storage
 unbrought number replaced storage = option_and_then (λ held. let left : Forms = without (names_in held) storage.forms in
     then_some (are_there (names_in held) storage.forms && (are_there (names_in replaced) storage.forms
@@ -174,15 +174,15 @@ unbrought number replaced storage = option_and_then (λ held. let left : Forms =
 abbrev pub is_erased : ℕ → List Block → Bool
 is_erased number blocks = nat_lt number (length blocks) && not (is_some (block_at number blocks))
 
--- the erased block of this number holds these forms again, and this form is under a name; none where the block is not
--- an erased one, and where a form stands under that name
+-- the erased block of this number holds these forms again, and this form is under a name. None if the block is not an
+-- erased one, or if a form stands under that name
 abbrev pub unerased : ℕ → Held → List ℕ → Form → Storage → Option Storage
 unerased number held name address storage =
     then_some (is_erased number storage.blocks && is_free name storage.forms)
     (record { forms = finite.insert storage.forms name address; blocks = slice_set storage.blocks number (Some held) })
 
--- forms and blocks before a call of these arguments, from what it destroyed and those after it; none where
--- these do not show what is named
+-- forms and blocks before a call of these arguments, from what it destroyed and those after it. None if these do not
+-- show what is named
 abbrev pub storage_before : List (List ℕ) → Undone → Storage → Option Storage
 storage_before arguments Nothing storage = Some storage
 storage_before arguments (Point place) storage =

@@ -39,7 +39,7 @@ abbrev pub held_weight : Held → ℕ
 held_weight [] = 0
 held_weight (entry ∷ held) = length (all_items entry.1) + length entry.0 + 1 + held_weight held
 
--- a form without its name, where there is one: its items
+-- a form without its name, if there is one: its items
 abbrev pub form_weight : Option Form → ℕ
 form_weight found = option_map_or (λ form. length (all_items form)) found 0
 
@@ -54,7 +54,7 @@ undone_weight (MoveOut old) = form_weight old
 undone_weight (Unbring number replaced) = held_weight replaced
 undone_weight (Unerase number held address) = held_weight held + length (all_items address)
 
--- a meta character, where one is kept
+-- a meta character, if one is kept
 abbrev pub meta_weight : Option ℕ → ℕ
 meta_weight None = 0
 meta_weight (Some byte) = 1
@@ -77,7 +77,7 @@ weight (Called call) = call_weight call
 
 -- ---- what the record of a step weighs, by the state before the step: it does not depend on the input
 
--- what a primitive keeps of the meta character: one where it is set
+-- what a primitive keeps of the meta character: one if it is set
 abbrev pub meta_kept : Primitive → List (List ℕ) → ℕ
 meta_kept SetMeta arguments = length (take 1 (argument 1 arguments))
 meta_kept primitive arguments = 0
@@ -108,7 +108,7 @@ weights_from (s ∷ states) = step_weight s + weights_from states
 abbrev pub form_loss : List ℕ → Form → ℕ
 form_loss name form = length form.before + length form.after + length name + 1
 
--- the form of this name, where there is one
+-- the form of this name, if there is one
 abbrev pub named_loss : List ℕ → Forms → ℕ
 named_loss name forms = option_map_or (form_loss name) (finite.get forms name) 0
 
@@ -139,8 +139,8 @@ handled_loss DeleteAll arguments storage = all_loss (finite.entries storage.form
 handled_loss Segment arguments storage = option_map_or (gaps_made (drop 2 arguments)) (named_form arguments storage) 0
 handled_loss action arguments storage = 0
 
--- the replaced form, where it was not put aside; the forms that copies replace; the forms of the block,
--- and the form that was its address
+-- the replaced form, if it was not put aside; the forms that copies replace; the forms of the block, and the form that
+-- was its address
 abbrev pub block_loss : BlockAction → List (List ℕ) → Storage → ℕ
 block_loss StoreBlock arguments storage = named_loss (argument 1 arguments) (without (drop 2 arguments) storage.forms)
 block_loss FetchBlock arguments storage =

@@ -12,13 +12,13 @@ pub const COMMA: u8 = b',';
 /// `#`, of which one before a `(` begins an active function, and two a neutral one.
 pub const SHARP: u8 = b'#';
 
-/// A carriage return, deleted where it is scanned.
+/// A carriage return, deleted when it is scanned.
 pub const CARRIAGE_RETURN: u8 = b'\r';
 
-/// A line feed, deleted where it is scanned.
+/// A line feed, deleted when it is scanned.
 pub const LINE_FEED: u8 = b'\n';
 
-/// A tab, deleted where it is scanned.
+/// A tab, deleted when it is scanned.
 pub const TAB: u8 = b'\t';
 
 /// `*`, which stands between the arguments in a line of the trace.

@@ -28,7 +28,7 @@ pub fn worked_destroyed()
     ensures deleting_nothing { Destroys (texts_of "dd") (named "a" "1") [] (Restore []) }
     ensures deleting_all { Destroys (texts_of "da") (named "bc" "2" ++ named "a" "1") []
         (Restore (named "a" "1" ++ named "bc" "2")) }
-    // Of segmenting the new gaps are kept, of what may move a pointer where it stood, also where it does not move.
+    // Of segmenting the new gaps are kept; of what may move a pointer, where it stood, even if it does not move.
     ensures segmenting { Destroys (texts_of "ss,F,b") (named_at 1 "F" "abcb") []
         (Join (gap_at 1 1 ∷ gap_at 3 1 ∷ []) 1) }
     ensures segmenting_again { Destroys (texts_of "ss,F,b") (pointing_at 1 "F" (Gap 1 2 ∷ Byte 98 ∷ [])) []
@@ -75,8 +75,8 @@ pub fn worked_given_back()
         (named "a" "1" ++ named "b" "2" ++ named "d" "4") [] }
     ensures all_deleted { GivesBack (texts_of "da") (Restore (named "a" "1" ++ named "bc" "2")) [] []
         (named "bc" "2" ++ named "a" "1") [] }
-    // New gaps are filled again, also where the pointer has moved on, and earlier ones stay; the
-    // pointer stands where it stood.
+    // New gaps are filled again, even if the pointer has moved on, and earlier ones stay; the pointer stands where it
+    // stood.
     ensures segmented { GivesBack (texts_of "ss,F,b") (Join (gap_at 1 1 ∷ gap_at 3 1 ∷ []) 1)
         (pointing_at 0 "F" (Byte 97 ∷ Gap 1 1 ∷ Byte 99 ∷ Gap 1 1 ∷ [])) [] (named_at 1 "F" "abcb") [] }
     ensures segmented_again { GivesBack (texts_of "ss,F,x") (Join (gap_at 1 1 ∷ []) 0)
@@ -85,7 +85,7 @@ pub fn worked_given_back()
     ensures pointed { GivesBack (texts_of "cn,F,2") (Point 1) (named_at 3 "F" "abc") [] (named_at 1 "F" "abc") [] }
     ensures pointed_at_the_end { GivesBack (texts_of "cr,F") (Point 3) (named_at 0 "F" "abc") [] (named_at 3 "F" "abc")
         [] }
-    // The last block is off the list and its forms are back, also where the name of its address is among theirs.
+    // The last block is off the list and its forms are back, even if the name of its address is among theirs.
     ensures put_aside { GivesBack (texts_of "sb,G,A,C,B,A") (MoveOut None) (named "G" "1")
         (None ∷ Some (named "A" "1" ++ named "B" "2") ∷ []) (named "A" "1" ++ named "B" "2") (None ∷ []) }
     ensures put_aside_over { GivesBack (texts_of "sb,G,A") (MoveOut (Some (defined (codes "xy")))) (named "G" "0")
@@ -175,8 +175,8 @@ pub fn worked_call_records()
         ≡ Some (Called (record (silent_call (texts_of "rs") Nothing) { value = 2; read = 3 })) }
     ensures reading_back { restored (Called (record (silent_call (texts_of "rs") Nothing) { value = 2; read = 3 }))
         (state_of (fed "AB'" 8)) ≡ Some (state_of (fed "AB'" 7)) }
-    // The line of the trace is printed by the call, and the old flag kept; a meta character also
-    // where the same one is set.
+    // The call prints the line of the trace, and the old flag is kept. An old meta character is kept even if the same
+    // one is set.
     ensures tracing { IsLedBack
         (record (standing ")a" "x" (begun Active [] (codes "tf") ∷ [])) { trace = true; output = codes "o" })
         (Called (record (silent_call (texts_of "tf") Nothing) { printed = 6; trace = true }))

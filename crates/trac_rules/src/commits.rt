@@ -26,10 +26,10 @@ pub fn steps_print_more()
         IsFrontOf s.output t.output }
 {}
 
-/// After a commit the last state stays, and as many before it as are to be kept, or all where there are fewer; the
-/// first of them has no output and stands at the start of the tape. With none to be kept before it the last state alone
-/// stays. Where all stay, and the first one had no output and stood at the start already, nothing changes. Where a
-/// commit that keeps so many follows each step, there is never more than one state more.
+/// After a commit the last state stays, and as many before it as are to be kept, or all if there are fewer. The first
+/// of them has no output and stands at the start of the tape. With none to be kept before it, the last state alone
+/// stays. If all stay, and the first one had no output and stood at the start already, nothing changes. If a commit
+/// that keeps so many follows each step, there is never more than one state more.
 pub fn commits_keep_the_last_states()
     ensures count { (keep : ℕ) (p : PlainSession) → length (committed keep p).earlier ≡ min keep (length p.earlier) }
     ensures first { (keep : ℕ) (p : PlainSession) → first_of (committed keep p).last (committed keep p).earlier

@@ -12,7 +12,7 @@ ghost use Rattle.trac_rules.specs.declared.width.Width.TheVariants.{W128, W64};
 
 /// The doubts of calls: of their names, and of the forms and blocks that they need.
 pub fn worked_name_doubts()
-    // A name is no primitive's; where a form has it, that is said.
+    // A name is no primitive's; if a form has it, that is said.
     ensures misspelt { Raises (texts_of "pr,x") [] [] (NoPrimitive ∷ []) }
     ensures form_of_the_name { Raises (texts_of "greeting") (named "greeting" "hi") [] (FormUncalled ∷ []) }
     ensures form_of_a_primitive { Raises (texts_of "ps,x") (named "ps" "hi") [] [] }
@@ -50,7 +50,7 @@ pub fn worked_name_doubts()
 pub fn worked_unused_doubts()
     ensures print_one { Raises (texts_of "ps,x") [] [] [] }
     ensures print_two { Raises (texts_of "ps,Hello, world") [] [] (Unused 2 ∷ []) }
-    // The first of them is said, also where it is null.
+    // The first of them is said, even if it is null.
     ensures print_three { Raises (texts_of "ps,a,b,c") [] [] (Unused 2 ∷ []) }
     ensures print_null { Raises (texts_of "ps,x,") [] [] (Unused 2 ∷ []) }
     ensures print_none { Raises (texts_of "ps") [] [] [] }

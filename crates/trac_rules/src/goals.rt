@@ -5,7 +5,7 @@ ghost use Rattle.trac_rules.specs.Goals.{is_call_with, is_end_of, is_idle_printi
 ghost use Rattle.trac_rules.specs.Goals.{is_same_form, is_shallower, is_unprinted, leaves_at_most};
 ghost use Rattle.trac_rules.specs.Rows.{fed, state_of, texts_of};
 
-/// A form passes for the same as another just where the two are one: the same items, and the pointer at the same place.
+/// A form passes for the same as another exactly if the two are one: the same items, and the pointer at the same place.
 #[tactic(auto, using(crate::proofs::AlikeForms::alike_equal, crate::proofs::AlikeForms::equal_alike))]
 pub fn forms_are_told_apart()
     ensures alike { (a b : Form) → is_same_form a b ≡ true → a ≡ b }

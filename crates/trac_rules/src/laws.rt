@@ -22,7 +22,7 @@ use crate::limit::{
 
 /// The match of a protecting `(`, which is found as the first place that fits, is the one of balanced texts:
 /// what is protected is the text before a `)` that has as many `(` as `)`, and no front of it has more `)` than `(`.
-/// Where there is no such text, the whole rest is protected.
+/// If there is no such text, the whole rest is protected.
 #[tactic(auto, using(crate::proofs::Balanced::protected_of_balanced, crate::proofs::Balanced::protected_of_unbalanced))]
 pub fn match_is_balanced()
     ensures found { (text inner rest : List ℕ) → IsBalanced inner → text ≡ inner ++ CLOSING ∷ rest →
@@ -37,11 +37,11 @@ pub fn blocks_stay()
     ensures { (environment : Environment) (s t : State) → step environment s ≡ Ok t → AreKept s.blocks t.blocks }
 {}
 
-/// Judging forms and blocks where they are put is the same as judging the whole state after the step. The state at the
-/// start is proper, and each step leads from a proper state to a proper one: so a step whose new state would pass any
+/// Judging forms and blocks when they are put is the same as judging the whole state after the step. The state at the
+/// start is proper, and each step leads from a proper state to a proper one. So a step whose new state would pass any
 /// limit is refused. A form that may be put among proper forms, its gaps wide, leaves them proper; and a form that
-/// leaves them proper may be put. So too a new block fits where it leaves a proper storage, and a block's forms may be
-/// put among the others where they leave proper forms.
+/// leaves them proper may be put. So too a new block fits if it leaves a proper storage, and a block's forms may be put
+/// among the others if they leave proper forms.
 pub fn states_stay_proper()
     ensures start { IsProper initial }
     ensures each_step { (environment : Environment) (s t : State) → IsProper s →
@@ -57,8 +57,8 @@ pub fn states_stay_proper()
         fetching number storage ≡ Ok (leaves (keeping (fetched number storage) storage)) }
 {}
 
-/// A form is the address of one block at most: of a live block whose number its bytes are, where there are not
-/// more blocks than there may be.
+/// A form is the address of one block at most: of a live block whose number its bytes are, if there are not more blocks
+/// than there may be.
 pub fn one_block_is_addressed()
     ensures { (form : Form) (blocks : List Block) (number : ℕ) → length blocks ≤ BLOCK_LIMIT → number < length blocks →
         is_address form blocks number ≡ true → number_addressed form blocks ≡ Some number }

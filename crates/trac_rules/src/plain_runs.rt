@@ -6,8 +6,8 @@ ghost use Rattle.trac_rules.specs.Records.{Moved, led_back};
 ghost use Rattle.trac_rules.specs.Session.{PlainSession, Step, repeated};
 ghost use Rattle.trac_rules.specs.State.{State};
 
-/// So many plain bytes are as many steps: all are accepted where the journal has room for them, and together they move
-/// the bytes to the current text. And as many records of moved bytes lead back, whatever the bytes are.
+/// So many plain bytes are as many steps. All are accepted if the journal has room for them, and together they move the
+/// bytes to the current text. And as many records of moved bytes lead back, whatever the bytes are.
 #[tactic(auto, using(crate::proofs::MovedOn::plain_bytes_there, crate::proofs::MovedOn::moved_bytes_back))]
 pub fn plain_bytes_move_on()
     ensures there { (n : ℕ) (p : PlainSession) →

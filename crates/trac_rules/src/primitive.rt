@@ -25,7 +25,7 @@ pub enum Primitive {
     ReadByte,
     /// `hl`: halts the processor.
     Halt,
-    /// `cm`: sets the meta character, where a text is given.
+    /// `cm`: sets the meta character, if a text is given.
     SetMeta,
     /// `tn` and `tf`: from now on each call is printed, or none is.
     SetTrace(bool),

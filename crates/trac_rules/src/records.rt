@@ -24,8 +24,8 @@ ghost use Rattle.trac_rules.specs.declared.reply.Reply.TheVariants.{Done, Refuse
 ghost use Rattle.trac_rules.specs.declared.width.Width.TheVariants.{W128};
 
 /// Each accepted step, of scanning or a call, has a record. With the state after the step it gives back the state
-/// before, where that is a proper one: nothing else holds what was lost. The state before is always a proper one. Where
-/// a session takes so many steps one after another, as many records lead back over all of them.
+/// before, if that is a proper one: nothing else holds what was lost. The state before is always a proper one. If a
+/// session takes so many steps one after another, as many records lead back over all of them.
 pub fn records_lead_back()
     ensures is_there { (environment : Environment) (s t : State) → step environment s ≡ Ok t →
         is_some (record_of environment s) ≡ true }
@@ -52,8 +52,8 @@ pub fn records_of_calls_lead_back()
 {}
 
 /// A record names no absolute place of the tape or of the output. One of scanning knows nothing of either: what it
-/// restores stands where the state after stands, with its output. Of any record: where the state after stands so many
-/// bytes further on, and its output has a text before it, so has the state before.
+/// restores stands where the state after stands, with its output. Of any record: if the state after stands so many
+/// bytes further on, and its output has a text before it, so it is with the state before.
 pub fn records_name_no_place()
     ensures elsewhere { (r : Record) (t : State) (position : ℕ) (output : List ℕ) → IsOfScanning r →
         restored r (record t { position = position; output = output })
@@ -131,7 +131,7 @@ pub fn worked_losses()
     ensures text { losses_of (session_of (fed "AB'" 19)) ≡ 7 }
     ensures stray { losses_of (session_of (fed "a)b,c'" 22)) ≡ 10 }
     ensures begun_functions { loss (state_of (fed ")x##(a,b#(c,d#(e'" 21)) ≡ 9 }
-    // Scanning loses a byte of layout, and nothing where it begins a function, protects a text or passes a `#`.
+    // Scanning loses a byte of layout, and nothing when it begins a function, protects a text or passes a `#`.
     ensures layout { loss (record initial { active = TAB ∷ codes "a" }) ≡ 1 }
     ensures beginning { loss (standing "##(a" "" []) ≡ 0 }
     ensures protecting { loss (standing "(a)b" "" []) ≡ 0 }

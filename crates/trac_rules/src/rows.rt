@@ -171,7 +171,7 @@ pub fn worked_forms()
     // No occurrence crosses a gap.
     ensures across { shown (segmented (texts_of "ac") (segmented (texts_of "b") (defined (codes "abc"))))
         ≡ codes "<^>a<1>c" }
-    // The pointer goes to the start, also where nothing was cut.
+    // The pointer goes to the start, even if nothing was cut.
     ensures pointer_back { shown (segmented [] (text_at 2 "abc")) ≡ codes "<^>abc" }
     ensures pointer_from_after { shown (segmented (texts_of "z") (text_at 2 "abc")) ≡ codes "<^>abc" }
     // The pointer bounds no run.
@@ -227,7 +227,7 @@ pub fn worked_form_calls()
         (pointing_at 0 "F" (Gap 1 1 ∷ Gap 1 1 ∷ Byte 98 ∷ [])) }
     ensures second_cut_printed { Prints (texts_of "pf,F") (pointing_at 0 "F" (Gap 1 1 ∷ Gap 1 1 ∷ Byte 98 ∷ []))
         (codes "<^><1><1>b") }
-    // The pointer goes to the start, also where nothing was cut; other forms stay as they are.
+    // The pointer goes to the start, even if nothing was cut; other forms stay as they are.
     ensures no_texts { Leaves (texts_of "ss,F") (named_at 2 "F" "abc") (named "F" "abc") }
     ensures text_nowhere { Leaves (texts_of "ss,F,z") (named_at 2 "F" "abc") (named "F" "abc") }
     ensures beside_another { Leaves (texts_of "ss,F,b") (named_at 2 "F" "abc" ++ named_at 2 "G" "abc")

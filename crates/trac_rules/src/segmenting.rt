@@ -12,7 +12,7 @@ ghost use Rattle.trac_rules.specs.declared.item.Item.TheVariants.{Byte, Gap};
 ghost use Rattle.trac_rules.specs.Rows.{gap_at, text_at, texts_of};
 
 /// Of a run the leftmost occurrence of a text is cut out first, and what stands after it is cut in the same way.
-/// A run without an occurrence stays, and so does each run where the text is empty.
+/// A run without an occurrence stays, and so does each run if the text is empty.
 pub fn leftmost_is_cut_first()
     ensures cut { (k : ℕ) (text front back : List ℕ) → ¬ (text ≡ []) →
         ((sooner rest : List ℕ) → front ++ (text ++ back) ≡ sooner ++ (text ++ rest) → length front ≤ length sooner) →
@@ -36,7 +36,7 @@ pub fn segmenting_keeps_the_extent()
         extent (all_items (segmented texts form)) ≡ extent (all_items form) }
 {}
 
-/// What was cut out is put back where the form's gaps are filled with the same texts.
+/// What was cut out is put back when the form's gaps are filled with the same texts.
 pub fn filling_undoes_segmenting()
     ensures { (texts : List (List ℕ)) (form : Form) →
         all_filled texts (all_items (segmented texts form)) ≡ all_filled texts (all_items form) }

@@ -1,7 +1,7 @@
 //! The width of numbers.
 
-/// How wide numbers are (this project's profile). A number fits where it is not below the least number of the width
-/// and not above the greatest one.
+/// How wide numbers are (this project's profile). A number fits if it is not below the least number of the width and
+/// not above the greatest one.
 #[derive(Clone, Copy, Debug, PartialEq, Eq)]
 pub enum Width {
     /// 64 bits: from -9223372036854775808 to 9223372036854775807.

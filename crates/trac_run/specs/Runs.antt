@@ -41,10 +41,10 @@ Shows (NotUnderstood line) written o = ⊥
 abbrev pub most_read : ℕ → ℕ
 most_read steps = steps * TAPE_LIMIT + (TAPE_LIMIT + READ_SIZE)
 
--- a run read some bytes, and perhaps saw the end of the input, and wrote some: however the input goes on after
--- what was read (not at all where the end was seen), what was written is a front of the output that is stated for
--- all of the input, and its ending is the stated one where it is not a fault or want of memory: all is written
--- then. It read no more than `most`
+-- a run read some bytes, and perhaps saw the end of the input, and wrote some. However the input goes on after what was
+-- read (not at all if the end was seen), what was written is a front of the output that is stated for all of the input.
+-- The ending of the run is the stated one if it is not a fault or want of memory: all is written then. It read no more
+-- than `most`
 pub record Runs (in_old in_new out_old out_new : Option (List ℕ)) (stated : List ℕ → Output) (most : ℕ)
     (ending : Ending) : Type 0 where
   pub got : List ℕ
@@ -163,8 +163,8 @@ EndsFor Budget p got = ⊥
 EndsFor Write p got = ⊥
 EndsFor (NotUnderstood line) p got = ⊥
 
--- the reader took these bytes from its input, no more than one read gives, and none only where it failed;
--- and the session stays as it was
+-- the reader took these bytes from its input, no more than one read gives, and none only if it failed. The session
+-- stays as it was
 pub record TakesNone (in_old in_new : Option (List ℕ)) (p q : PlainSession) (ending : Ending) : Type 0 where
   pub got : List ℕ
   pub few : length got ≤ READ_SIZE

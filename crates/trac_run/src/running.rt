@@ -242,8 +242,8 @@ fn read_more<R: Read, A: Allocator + Copy>(
     }
 }
 
-// Whether a step that waits is sure to go on waiting once these bytes are fed. Where a byte is unread already,
-// it waits for the meta character.
+// Whether a step that waits is sure to go on waiting once these bytes are fed. If a byte is unread already, it waits
+// for the meta character.
 fn waits_after<A: Allocator + Copy>(session: &Session<A>, bytes: &[u8]) -> bool
     ensures { (fed : PlainSession) → result ≡ true → answer (Feed bytes.now) session.now ≡ done fed →
         StillWaits session.now fed }

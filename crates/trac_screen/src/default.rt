@@ -8,8 +8,8 @@ use trac_rules::primitive::{Computation, FormAction, FormReading, Primitive};
 use trac_rules::width::Width;
 use trac_step::Args;
 
-/// Whether the call that the next step performs gives its default argument: that of `cs`, `cc`, `cn` or `in` where
-/// nothing is read, that of `ad`, `su`, `ml` or `dv` where there is no result that fits this width. It need not be
+/// Whether the call that the next step performs gives its default argument. `cs`, `cc`, `cn` and `in` give it if
+/// nothing is read; `ad`, `su`, `ml` and `dv` if there is no result that fits this width. The argument need not be
 /// there: then the value is empty. The error is that memory was refused for the search of `in`.
 pub fn takes_default<A: Allocator + Copy>(
     sight: &Sight<'_, A>,

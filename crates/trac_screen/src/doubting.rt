@@ -33,8 +33,9 @@ pub fn doubt_into<A: Allocator + Copy>(
     }
 }
 
-/// The argument of the innermost begun function at which a doubt of the next step has its place: the one that it speaks
-/// of, or the name of the call where that is empty. None where it speaks of no call, or where the name is empty too.
+/// The argument of the innermost begun function at which a doubt of the next step has its place. That is the one that
+/// the doubt speaks of, or the name of the call if that argument is empty. None if the doubt speaks of no call, or if
+/// the name is empty too.
 pub fn argument_doubted<A: Allocator + Copy>(sight: &Sight<'_, A>, doubt: Doubt) -> Option<usize> {
     let number = match doubt {
         Doubt::NoPrimitive | Doubt::FormUncalled | Doubt::NoResult => 0,
@@ -103,7 +104,7 @@ fn text_into<A: Allocator + Copy>(text: &[u8], line: &mut ScreenLine<A>) -> Resu
     line.cut(columns)
 }
 
-// An argument of the innermost begun function; empty where it has none of this number.
+// An argument of the innermost begun function; empty if it has none of this number.
 fn argument_of<'m, A: Allocator + Copy>(sight: &Sight<'m, A>, number: usize) -> &'m [u8] {
     match &sight.begun {
         Some((_, arguments)) => arguments.get(number),

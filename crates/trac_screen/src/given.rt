@@ -6,8 +6,9 @@ use crate::sight::{Sight, performed_in};
 use std::alloc::{AllocError, Allocator};
 use trac_step::Args;
 
-/// The only byte that the call which the next step performs was given after its name: the number of its argument, and
-/// which byte of that it is, from 1. None where it was given none or several, or where no call is performed.
+/// The only byte that the call which the next step performs was given after its name. Returns the number of its
+/// argument, and which byte of that it is, from 1. None if the call was given none or several, or if no call is
+/// performed.
 pub fn only_byte<A: Allocator + Copy>(sight: &Sight<'_, A>) -> Option<(u64, u64)> {
     let arguments = performed_in(sight)?;
     let mut only = None;

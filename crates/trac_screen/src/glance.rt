@@ -14,7 +14,7 @@ pub struct Glance {
     pub depth: usize,
     /// How many bytes are left to scan.
     pub rest: usize,
-    /// How many bytes at the front of the active text begin a function by the next step; 0 where it begins none.
+    /// How many bytes at the front of the active text begin a function by the next step; 0 if it begins none.
     pub beginning: usize,
     /// Whether the next step performs a function.
     pub performs: bool,

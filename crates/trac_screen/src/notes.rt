@@ -67,18 +67,18 @@ pub enum Stop {
     Idle,
 }
 
-// What may have been meant where there is no form of a name.
+// What may have been meant if there is no form of a name.
 const NO_FORM: &[u8] =
     b"there is no form of this name; printed text stands in quotes: w \"TEXT\"\n";
 
-/// What is said where no command began at a step that is kept.
+/// What is said if no command began at a step that is kept.
 pub const NO_PLACE: &[u8] = b"no earlier place is kept\n";
 
-/// What may have been meant where a call is not met whose first word is the name of no primitive.
+/// What may have been meant if a call is not met whose first word is the name of no primitive.
 pub const NO_PRIMITIVE: &[u8] =
     b"no primitive has this name; a form is met by its call: u cl NAME, r cl NAME\n";
 
-/// Puts a line at the end of a text that says why a move stopped, where one can go back to this step. The error is that
+/// Puts a line at the end of a text that says why a move stopped, if one can go back to this step. The error is that
 /// memory was refused, here and below.
 pub fn stop_into<A: Allocator + Copy>(
     alloc: A,
@@ -157,7 +157,7 @@ fn say_stop<A: Allocator + Copy>(
     }
 }
 
-// Why a move stopped, up to the number that is said with it, where one is.
+// Why a move stopped, up to the number that is said with it, if one is.
 fn reason(stop: Stop) -> &'static [u8] {
     match stop {
         Stop::Refused(refusal) | Stop::Unmet(refusal) | Stop::UnmetUpTo(refusal, _) => {

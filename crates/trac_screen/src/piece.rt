@@ -12,8 +12,7 @@ const LABEL: &[u8] = b"FILE    ";
 // So many columns are left for the piece.
 const ROOM: usize = WIDTH - LABEL.len();
 
-// Of a line that has more, so many columns before the byte are shown after `..`, and more where
-// what follows leaves room.
+// Of a line that has more, so many columns before the byte are shown after `..`, and more if what follows leaves room.
 const ROOM_BEFORE: usize = ROOM / 2;
 
 /// Puts two lines at the end of a text: the line of the program that has the byte of this number, the first being
@@ -52,7 +51,7 @@ fn line_into<A: Allocator + Copy>(
     Ok(mark)
 }
 
-// The first of two texts, cut where there is no room for both.
+// The first of two texts, cut if there is no room for both.
 fn before_into<A: Allocator + Copy>(
     alloc: A,
     before: &[u8],
@@ -61,7 +60,7 @@ fn before_into<A: Allocator + Copy>(
 ) -> Result<(), AllocError> {
     let mut shown = Vec::new(alloc);
     escaped_into(front(from, ROOM + 1), &mut shown)?;
-    // the mark takes a column where nothing follows
+    // the mark takes a column if nothing follows
     let len = shown.len().max(1);
     shown.clear();
     escaped_into(tail(before, ROOM + 1), &mut shown)?;

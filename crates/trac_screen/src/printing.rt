@@ -32,8 +32,8 @@ fn lacks_room<E: TwoEnds<u8, A>, M: TwoEnds<Mark, A>, A: Allocator + Copy>(
     len <= OUTPUT_LIMIT && len > OUTPUT_LIMIT.saturating_sub(machine.output().len())
 }
 
-// How long the line of a call is that is printed where the trace is on: with a `*` between two
-// arguments, a `)` and a line feed.
+// How long the line of a call is that is printed when the trace is on: with a `*` between two arguments, a `)` and a
+// line feed.
 fn line_len(kind: Kind, arguments: &Args<'_>) -> usize {
     let texts = arguments.joined().len();
     let marks = beginning_of(kind).len() + 2;

@@ -144,7 +144,7 @@ fn text_into<E: TwoEnds<u8, A>, M: TwoEnds<Mark, A>, A: Allocator + Copy>(
     line.end_into(out)
 }
 
-// The end of a shown text, of so many columns at most, after `..` where something stands before it.
+// The end of a shown text, of so many columns at most, after `..` if something stands before it.
 pub(crate) fn end_of_into<A: Allocator + Copy>(
     shown: &[u8],
     columns: usize,
@@ -214,7 +214,7 @@ fn output_into<A: Allocator + Copy>(
     Ok(())
 }
 
-// The end of a line of the output, after this label, and after `..` where it is cut already.
+// The end of a line of the output, after this label, and after `..` if it is cut already.
 fn output_line_into<A: Allocator + Copy>(
     alloc: A,
     label: &[u8],

@@ -8,10 +8,10 @@ use trac_streams::{escaped_into, number_into};
 /// How many columns a screen has.
 pub const WIDTH: usize = 80;
 
-// Of a line of two parts the first has so many columns where both are long.
+// Of a line of two parts the first has so many columns if both are long.
 const FIRST_WIDTH: usize = 56;
 
-// What stands at the end of a line where more does not fit.
+// What stands at the end of a line if more does not fit.
 const CUT: &[u8] = b"..";
 
 /// A part of a line.
@@ -124,7 +124,7 @@ impl<A: Allocator + Copy> ScreenLine<A> {
         Ok(())
     }
 
-    /// Cuts the line where it has more columns than these.
+    /// Cuts the line if it has more columns than these.
     pub fn cut(&mut self, columns: usize) -> Result<(), AllocError> {
         if self.bytes.len() <= columns {
             return Ok(());
@@ -134,8 +134,8 @@ impl<A: Allocator + Copy> ScreenLine<A> {
         self.bytes.extend_from_slice(CUT)
     }
 
-    /// Cuts the line to the screen, and puts it at the end of a text, with another line after it. Where both are too
-    /// long the second has what the first leaves of the screen, or a third of it.
+    /// Cuts the line to the screen, and puts it at the end of a text, with another line after it. If both are too long,
+    /// the second has what the first leaves of the screen, or a third of it.
     pub fn end_before(mut self, next: Self, out: &mut Vec<u8, A>) -> Result<(), AllocError> {
         let width = self.width;
         let left = width.saturating_sub(next.columns());

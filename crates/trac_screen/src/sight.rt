@@ -15,7 +15,7 @@ pub struct Sight<'m, A: Allocator + Copy> {
     pub active: &'m [u8],
     /// The innermost begun function, with its arguments so far.
     pub begun: Option<(Kind, Args<'m>)>,
-    /// The text that this function stands in; the base text where none is begun.
+    /// The text that this function stands in; the base text if none is begun.
     pub around: &'m [u8],
     /// The forms and blocks.
     pub store: &'m Store<A>,
@@ -59,7 +59,7 @@ pub fn is_nameless<A: Allocator + Copy>(machine: &Machine<A>, number: usize) -> 
     arguments_in(machine, number).is_some_and(|arguments| arguments.get(0).is_empty())
 }
 
-// The arguments so far of the begun function of this number; none where none is begun.
+// The arguments so far of the begun function of this number; none if none is begun.
 fn arguments_in<E: TwoEnds<u8, A>, M: TwoEnds<Mark, A>, A: Allocator + Copy>(
     machine: &Core<E, M, A>,
     number: usize,
@@ -89,7 +89,7 @@ pub fn last_of<'m>(arguments: &Args<'m>) -> &'m [u8] {
     arguments.get(arguments.count().saturating_sub(1))
 }
 
-// The arguments of the call that the next step performs; none where it performs none.
+// The arguments of the call that the next step performs; none if it performs none.
 pub(crate) fn performed_in<'s, 'm, A: Allocator + Copy>(
     sight: &'s Sight<'m, A>,
 ) -> Option<&'s Args<'m>> {

@@ -9,7 +9,7 @@ use std::alloc::{AllocError, Allocator};
 // So many columns a step takes at most, so that what it did is seen.
 const STEP_WIDTH: usize = 48;
 
-// What it did begins in this column, where the step leaves room.
+// What it did begins in this column, if the step leaves room.
 const TREATMENT_COLUMN: usize = 34;
 
 /// What a step did with a byte.

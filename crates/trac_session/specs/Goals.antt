@@ -10,7 +10,7 @@ use Rattle.trac_rules.specs.Goals.{has_other_form, is_call_with, is_end_of, is_o
 use Rattle.trac_rules.specs.Goals.{leaves_at_most}
 use Rattle.trac_session.specs.declared.goal.Goal as code
 
--- whether a name is that of the call, byte for byte; where there is no call there is no name
+-- whether a name is that of the call, byte for byte; if there is no call, there is no name
 abbrev pub is_named : List ℕ → Option (List ℕ) → Bool
 is_named name None = false
 is_named name (Some called) = bytes_eq called name
@@ -26,8 +26,8 @@ outcome met (Some refusal) = Some refusal
 outcome true None = None
 outcome false None = Some NotMet
 
--- a search is a walk to a goal, which is not met by standing still: where all the steps were taken and
--- the goal is not met, it says so
+-- a search is a walk to a goal, which is not met by standing still. If all the steps were taken and the goal is not
+-- met, it says so
 abbrev pub IsSearch : Command → Goal → ℕ → PlainSession → ℕ → Option Refusal → PlainSession → Type 0
 IsSearch command goal n old steps why new = (ended : Option Refusal) × IsWalk command goal n old steps ended new
     × (why ≡ outcome (nat_lt 0 steps && goal new.last) ended)

@@ -12,7 +12,7 @@ use Rattle.trac_step.specs.Room.{HasRoom}
 
 -- ---- going back
 
--- a state where there is one, and what is led on from it
+-- a state if there is one, and what is led on from it
 abbrev pub led_on : Option State → (State → List State) → List State
 led_on None rest = []
 led_on (Some s) rest = s ∷ rest s

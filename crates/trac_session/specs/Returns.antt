@@ -1,4 +1,4 @@
--- Searches back that go forward again where they meet nothing.
+-- Searches back that go forward again if they meet nothing.
 use Rattle.std.specs.Prelude.{◌≡◌, ◌<◌, ℕ, max, length, false, None, Some}
 use Rattle.std.specs.List.{All}
 use Rattle.trac_rules.specs.declared.refusal.Refusal.{Refusal}

@@ -18,8 +18,8 @@ pub record HasMovedBack (n : ℕ) (old new : PlainSession) : Type 0 where
   pub last : old.last ≡ moved_on n new.last
   pub earlier : old.earlier ≡ on_the_way n new.last ++ new.earlier
 
--- of the states before the last one, the newest first: the step from the first of them, where there is one,
--- moves no byte to the current text
+-- of the states before the last one, the newest first: the step from the first of them, if there is one, moves no byte
+-- to the current text
 abbrev pub HasNotMovedLast : List State → Type 0
 HasNotMovedLast [] = Unit {0}
 HasNotMovedLast (s ∷ states) = recorded s ≡ Moved → ⊥
@@ -28,7 +28,7 @@ HasNotMovedLast (s ∷ states) = recorded s ≡ Moved → ⊥
 abbrev pub HasNoPlain : PlainSession → Type 0
 HasNoPlain p = length p.earlier < p.limit → BeginsPlain 1 p.last → ⊥
 
--- where memory was refused for the step from this state, that step moves no plain byte: to move one takes no memory
+-- if memory was refused for the step from this state, that step moves no plain byte: to move one takes no memory
 abbrev pub IsAsked : Option Refusal → State → Type 0
 IsAsked (Some Memory) s = BeginsPlain 1 s → ⊥
 IsAsked why s = Unit {0}

@@ -1,13 +1,13 @@
--- Walks that stop where the records weigh enough.
+-- Walks that stop once the records weigh enough.
 use Rattle.std.specs.Prelude.{◌≡◌, ℕ, ◌<◌, ◌≤◌, nat_lt, ◌&&◌, drop, MatchOption, Option}
 use Rattle.trac_rules.specs.declared.refusal.Refusal.{Refusal}
 use Rattle.trac_rules.specs.Session.{PlainSession, Goal, Step, IsWalk}
 use Rattle.trac_rules.specs.Weights.{weights_from}
 use Rattle.trac_session.specs.Goals.{outcome}
 
--- a walk of at most n steps forward to a goal that stops also where the records weigh more than `most`: it is a walk of
--- as many steps as were allowed to it, which are fewer than n only where it took one at least and the records weigh
--- more after the last of them; before that one they did not, where it was not the first
+-- a walk of at most n steps forward to a goal that stops also if the records weigh more than `most`. It is a walk of as
+-- many steps as were allowed to it. These are fewer than n only if it took one at least and the records weigh more
+-- after the last of them. Before that one they did not, if it was not the first
 pub record IsWalkWithin (most : ℕ) (goal : Goal) (n : ℕ) (old : PlainSession) (steps : ℕ) (why : Option Refusal)
     (new : PlainSession) : Type 0 where
   pub allowed : ℕ
@@ -15,11 +15,11 @@ pub record IsWalkWithin (most : ℕ) (goal : Goal) (n : ℕ) (old : PlainSession
   pub walk : IsWalk Step goal allowed old steps why new
   pub heavy : allowed < n → (0 < allowed) × (most < weights_from new.earlier)
   pub light : 1 < steps → weights_from (drop 1 new.earlier) ≤ most
-  -- a refusal ends it only where the records do not weigh too much, or where it took no step
+  -- a refusal ends it only if the records do not weigh too much, or if it took no step
   pub refused : MatchOption why (Unit {0}) (λ refusal. 0 < steps → weights_from new.earlier ≤ most)
 
--- a search is such a walk, as a search without that stop is a walk: where its steps were taken and
--- the goal is not met, it says so
+-- a search is such a walk, as a search without that stop is a walk. If its steps were taken and the goal is not met, it
+-- says so
 abbrev pub IsSearchWithin : ℕ → Goal → ℕ → PlainSession → ℕ → Option Refusal → PlainSession → Type 0
 IsSearchWithin most goal n old steps why new = (ended : Option Refusal) × IsWalkWithin most goal n old steps ended new
     × (why ≡ outcome (nat_lt 0 steps && goal new.last) ended)

@@ -9,24 +9,28 @@ use std::alloc::{Allocator, Global};
 use trac_rules::refusal::Refusal;
 pub use trac_rules::reply::Reply;
 
-/// What a session can be told to do.
+/// What a session can be told to do by `perform`. A refused command changes nothing.
 #[derive(Clone, Copy, Debug, PartialEq, Eq)]
 pub enum Command<'a> {
-    /// Add these bytes to the end of the tape.
+    /// Add these bytes to the end of the tape. Refused as `Closed` after `End`, as `TooLong` if the tape would pass
+    /// 33,554,432 bytes, and as `Memory`.
     Feed(&'a [u8]),
-    /// End the input after what was fed.
+    /// End the input after what was fed. Never refused.
     End,
-    /// Go forward by one step.
+    /// Go forward by one step. Refused as `JournalFull` if the journal holds as many records as it may, else as
+    /// `Core::step` is.
     Step,
-    /// Go back over the last step.
+    /// Go back over the last step. Refused as `AtStart` if no earlier state is kept.
     Back,
-    /// Keep the last state and so many steps before it, and release what was pending at the first state that stays.
+    /// Keep the last state and so many before it, and forget those before. What the first kept state has printed is
+    /// released from all of them, and what it has read of the tape is dropped. Never refused.
     Commit(usize),
 }
 
 /// The replies to a list of commands, one for each, in their order.
 pub type Replies<A = Global> = Vec<Reply, A>;
 
+// The reply to a command that went so.
 fn reply_to(outcome: Result<(), Refusal>) -> Reply
     ensures { result ≡ reply_of outcome }
 {
@@ -37,7 +41,6 @@ fn reply_to(outcome: Result<(), Refusal>) -> Reply
 }
 
 impl<A: Allocator + Copy> Session<A> {
-    // Carries out one command.
     fn carry_out(&mut self, command: Command<'_>) -> Reply
         ensures { Answers (command_of command.entry) self.old result self.new }
     {
@@ -56,14 +59,14 @@ impl<A: Allocator + Copy> Session<A> {
         }
     }
 
-    /// Carries out these commands one after another, and gives the reply to each: done, or refused with nothing changed
-    /// by that command. A refused command does not keep those after it from being carried out.
+    /// Carries out these commands one after another, and gives the reply to each. A refused one changes nothing, and
+    /// those after it are carried out.
     ///
-    /// After any list of commands, from any session, the session's states are those of the plain list to which each
-    /// accepted step adds the next state of the scanning rules, and from which each step back takes the last away.
+    /// After any list of commands, from any session, the session's states are those of a plain list. Each accepted
+    /// step adds the next state by T-64's rules to it, and each step back takes the last away. Each commit takes away
+    /// the first ones, and from the others what the first of these has printed and read.
     ///
-    /// Refused with `Memory`, with nothing done, where there is no memory for the list of replies, which is
-    /// reserved first.
+    /// Refused with `Memory`, with nothing done, if there is no memory for the replies, which is taken first.
     pub fn perform(&mut self, commands: &[Command<'_>]) -> Result<Replies<A>, Refusal>
         ensures done { IfOk result (λ replies. Run (map command_of commands.now) replies.items self.old self.new) }
         ensures nothing_done { IfErr result (λ e. (e ≡ Refusal.Memory) × (self.new ≡ self.old)) }

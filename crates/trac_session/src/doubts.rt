@@ -14,9 +14,9 @@ use trac_rules::width::Width;
 use trac_step::{Args, Core, Mark};
 
 impl<A: Allocator + Copy> Session<A> {
-    /// What the next step would do that a person is unlikely to have meant, in the order in which doubts
-    /// are defined. The tape decides nothing, so a step may be refused and have doubts. Refused with
-    /// `Memory` where the allocator refuses.
+    /// What the next step would do that a person is unlikely to have meant, in the order in which doubts are defined.
+    /// The tape decides nothing, so a step may be refused and have doubts. Refused with `Memory` if the allocator
+    /// refuses.
     pub fn doubts(&self, alloc: A) -> Result<Vec<Doubt, A>, Refusal>
         ensures made { IfOk result (λ v. v.items ≡ doubts self.now.width self.now.last) }
         ensures err { IsOkUnless result Refusal.Memory }

@@ -18,16 +18,16 @@ use trac_step::{Args, Core, Kind, Mark};
 
 /// What a walk looks for. Whether a state meets it is a definition (`trac_rules/specs/Goals.antt`).
 pub enum Goal<'a, A: Allocator + Copy = Global> {
-    /// The next step performs a call whose first arguments are these, its name first, each compared byte for byte.
-    /// Where none are given, any call.
+    /// The next step performs a call whose first arguments are these, its name first, each compared byte for byte. If
+    /// none are given, any call.
     Call(&'a [&'a [u8]]),
     /// The next step performs a call, but not the `ps` or the `rs` of the idle program `#(ps,#(rs))`. A
     /// program's own `rs` that stands last in a text, with nothing gathered before it, cannot be told from
     /// that one, and is passed over too.
     OwnCall,
-    /// The next step performs the begun function of this number, the outermost being number 1: it stands at
-    /// its end. Where a text ends before its functions do, the idle program is loaded, and a later function
-    /// that is begun so deep meets the goal.
+    /// The next step performs the begun function of this number, the outermost being number 1: it stands at its end. If
+    /// a text ends before its functions do, the idle program is loaded, and a later function that is begun so deep
+    /// meets the goal.
     End(usize),
     /// Fewer than this many functions are begun. On the way back from inside function number N, the outermost being
     /// number 1, `Shallower(N)` is first met at the state before that function was begun.
@@ -41,7 +41,7 @@ pub enum Goal<'a, A: Allocator + Copy = Global> {
     /// At most so many bytes of the output are not released yet. On the way back from where byte number `n` of it, from
     /// 0 on, is printed, this is met first at the call that prints it.
     Unprinted(usize),
-    /// There is a doubt of the next step (`Session::doubts`), where numbers are of this width, which is that of the
+    /// There is a doubt of the next step (`Session::doubts`), if numbers are of this width, which is that of the
     /// session.
     Doubtful(Width),
 }
@@ -60,7 +60,7 @@ impl<'a, A: Allocator + Copy> Clone for Goal<'a, A> {
 impl<'a, A: Allocator + Copy> Copy for Goal<'a, A> {}
 
 impl<'a, A: Allocator + Copy> Goal<'a, A> {
-    // Whether the goal is met only where the next step performs a call or has a doubt.
+    // Whether the goal is met only if the next step performs a call or has a doubt.
     pub(crate) fn is_never_met_quietly(&self) -> bool
         ensures { result ≡ true → (s : State) → IsQuiet s → goal_of self.now s ≡ false }
     {

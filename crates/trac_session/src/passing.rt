@@ -25,7 +25,7 @@ impl<A: Allocator + Copy> Session<A> {
     }
 
     /// Goes back over steps that moved a byte each to the current text, up to `most` of them, until one that did
-    /// something else. Returns how many these are: fewer than `most` only where the step before did something else, or
+    /// something else. Returns how many these are: fewer than `most` only if the step before did something else, or
     /// there is none. It takes the same time however many they are, but for moving the bytes, and no memory.
     pub fn pass_back(&mut self, most: u64) -> u64
         ensures passed { repeated Back result self.old ≡ Some self.new }

@@ -54,7 +54,7 @@ impl<A: Allocator + Copy> Model for Session<A> {
 impl<A: Allocator + Copy> Session<A> {
     /// A session in the initial state, with an empty tape and numbers of this width, which nothing changes later. Its
     /// journal may hold so many records: 1 to 1,048,576.
-    /// Refused with `Memory` where the allocator refuses.
+    /// Refused with `Memory` if the allocator refuses.
     pub fn new(alloc: A, limit: usize, width: Width) -> Result<Self, Refusal>
         requires some { 1 ≤ limit }
         requires most { limit ≤ JOURNAL_LIMIT }
@@ -73,8 +73,8 @@ impl<A: Allocator + Copy> Session<A> {
     }
 
     /// Adds these bytes to the end of the tape.
-    /// Refused, with nothing changed, as `Closed` after the end of the input, as `TooLong` where the tape would pass
-    /// 33,554,432 bytes, and with `Memory` where the tape cannot grow.
+    /// Refused, with nothing changed, as `Closed` after the end of the input, as `TooLong` if the tape would pass
+    /// 33,554,432 bytes, and with `Memory` if the tape cannot grow.
     pub fn feed(&mut self, bytes: &[u8]) -> Result<(), Refusal>
         ensures { Answers (Feed bytes.now) self.old (reply_of result) self.new }
     {
@@ -98,10 +98,9 @@ impl<A: Allocator + Copy> Session<A> {
     }
 
     /// Goes forward by one step.
-    /// Refused, with nothing changed, as `JournalFull` where the journal holds as many records as it may;
-    /// else as `NeedInput` or `Ended` where the step reads input that is not there, and as `Ended` also where
-    /// it performs `hl`; else as `TooLong` where the state after the step passes a limit; and with `Memory`
-    /// where there is not enough of it.
+    /// Refused, with nothing changed, as `JournalFull` if the journal holds as many records as it may. Else as
+    /// `NeedInput` or `Ended` if the step reads input that is not there, and as `Ended` also if it performs `hl`. Else
+    /// as `TooLong` if the state after the step passes a limit; and with `Memory` if there is not enough of it.
     #[inline(always)]
     pub(crate) fn step(&mut self) -> Result<(), Refusal>
         ensures { Answers Step self.old (reply_of result) self.new }
@@ -118,7 +117,7 @@ impl<A: Allocator + Copy> Session<A> {
     }
 
     /// Goes back over the last step, which takes no memory.
-    /// Refused, with nothing changed, as `AtStart` where there is no record to go back over.
+    /// Refused, with nothing changed, as `AtStart` if there is no record to go back over.
     // The loop of a walk calls it, so that it holds the steps of scanning alone.
     #[inline(never)]
     pub(crate) fn step_back(&mut self) -> Result<(), Refusal>
@@ -157,9 +156,9 @@ impl<A: Allocator + Copy> Session<A> {
         output.split_at(printed).0
     }
 
-    /// Keeps the last state and so many steps before it, or all where there are fewer, and forgets what was before: the
+    /// Keeps the last state and so many steps before it, or all if there are fewer, and forgets what was before. The
     /// first state that stays becomes the first one of all. Its output is released from it and from all after it, so
-    /// read `pending_before` first, and what it has read of the tape is dropped. With 0 the last state alone stays, all
+    /// read `pending_before` first. What it has read of the tape is dropped. With 0 the last state alone stays, all
     /// that is pending is released, and the names of deleted forms are forgotten. It takes no memory and always
     /// succeeds, and takes time for what it drops, and none for what it keeps.
     pub fn commit(&mut self, keep: usize)

@@ -3,14 +3,14 @@ ghost use Rattle.std.specs.Prelude.{◌≡◌, Some};
 
 use trac_rules::refusal::Refusal;
 
-/// How far a walk went. Its steps stand, also where it was ended early.
+/// How far a walk went. Its steps stand, also if it was ended early.
 #[derive(Clone, Copy, Debug, PartialEq, Eq)]
 pub struct Walk {
     /// How many steps were taken.
     pub done: u64,
-    /// Why it went no further: the refusal that ended it, or `NotMet` where it looked for a goal, as a name, and did
-    /// not meet it. None where all the steps that were wanted were taken, where the goal was met, or where
-    /// `forward_within` stopped for what the records weigh.
+    /// Why it went no further: the refusal that ended it, or `NotMet` if it looked for a goal, as a name, and did not
+    /// meet it. None if all the steps that were wanted were taken, if the goal was met, or if `forward_within` stopped
+    /// for what the records weigh.
     pub why: Option<Refusal>,
 }
 
@@ -27,7 +27,7 @@ impl Walk {
     }
 }
 
-/// How a search back ended that goes forward again where it meets nothing.
+/// How a search back ended that goes forward again if it meets nothing.
 #[derive(Clone, Copy, Debug, PartialEq, Eq)]
 pub enum Return {
     /// The goal was met after so many steps back, where the session now stands.

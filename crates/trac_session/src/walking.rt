@@ -60,8 +60,8 @@ impl<A: Allocator + Copy> Session<A> {
         }
     }
 
-    // Goes this way by a step, or over bytes that a step each moves where no state before such a step meets the goal:
-    // by up to so many steps. Returns how many these are.
+    // Goes this way by up to so many steps: by one, or, if no state before a step that moves a byte meets the goal,
+    // over bytes that a step each moves. Returns how many steps these are.
     #[inline(always)]
     fn go_on(&mut self, direction: Direction, goal: &Goal<'_, A>, most: u64) -> Result<u64, Refusal>
         requires { 0 < most }
@@ -144,7 +144,7 @@ impl<A: Allocator + Copy> Session<A> {
         Walk { done, why: None }
     }
 
-    // How many steps may be taken at once: one alone where the records weigh more than `most` already.
+    // How many steps may be taken at once: one alone if the records weigh more than `most` already.
     fn steps_within(&self, n: u64, most: u64) -> u64
         requires { 0 < n }
         ensures some { 0 < result }
@@ -154,7 +154,7 @@ impl<A: Allocator + Copy> Session<A> {
         if self.weight() > most { 1 } else { n }
     }
 
-    // The same walk, which returns `NotMet` where no refusal ended it and its goal is not met.
+    // The same walk, which returns `NotMet` if no refusal ended it and its goal is not met.
     fn searched(&self, goal: &Goal<'_, A>, walk: Walk) -> Walk
         ensures done { result.done ≡ walk.done }
         ensures why { result.why ≡ outcome (nat_lt 0 walk.done && goal_of goal.now self.now.last) walk.why }
@@ -168,8 +168,7 @@ impl<A: Allocator + Copy> Session<A> {
         }
     }
 
-    // How many steps back a search may take: all that there are, and one even where there is none,
-    // which is then refused.
+    // How many steps back a search may take: all that there are, and one even if there is none, which is then refused.
     fn steps_back(&self) -> u64
         ensures { result ≡ max 1 (length self.now.earlier) }
     {
@@ -213,8 +212,8 @@ impl<A: Allocator + Copy> Session<A> {
     }
 
     /// Goes forward by up to `n` steps, until the state meets the goal. That it did so already, before any step, does
-    /// not count. A refused step ends the walk as in `forward`; where `n` steps were taken and the goal is not met, the
-    /// walk returns `NotMet`, also where `n` is 0.
+    /// not count. A refused step ends the walk as in `forward`. If `n` steps were taken and the goal is not met, the
+    /// walk returns `NotMet`, also if `n` is 0.
     pub fn forward_to(&mut self, goal: Goal<'_, A>, n: u64) -> Walk
         ensures { IsSearch Step (goal_of goal.entry) n self.old result.done result.why self.new }
     {
@@ -233,8 +232,8 @@ impl<A: Allocator + Copy> Session<A> {
     }
 
     /// Goes back over steps, until the state meets the goal. That it did so already, before any step back, does not
-    /// count; the first state is tested too. Where all steps are gone back over and the goal is not met, the walk
-    /// returns `NotMet`, and where there is no step to go back over, `AtStart`. It takes no memory.
+    /// count; the first state is tested too. If all steps are gone back over and the goal is not met, the walk returns
+    /// `NotMet`. If there is no step to go back over, it returns `AtStart`. It takes no memory.
     pub fn back_to(&mut self, goal: Goal<'_, A>) -> Walk
         ensures { IsSearch Back (goal_of goal.entry) (max 1 (length self.old.earlier)) self.old result.done
             result.why self.new }
@@ -243,9 +242,9 @@ impl<A: Allocator + Copy> Session<A> {
         self.searched(&goal, walk)
     }
 
-    /// Goes back as `back_to` does, and where no earlier state meets the goal goes forward again, by as many steps:
-    /// these give the same states, so the session shows those that it had. Only where memory is refused for one of
-    /// these steps it stands before that one. To move a plain byte takes none, nor does the way back.
+    /// Goes back as `back_to` does. If no earlier state meets the goal, it goes forward again, by as many steps. These
+    /// give the same states, so the session shows those that it had. Only if memory is refused for one of these steps
+    /// does it stand before that one. To move a plain byte takes none, nor does the way back.
     pub fn return_to(&mut self, goal: Goal<'_, A>) -> Return
         ensures { IsReturn (goal_of goal.entry) self.old result self.new }
     {
@@ -266,9 +265,8 @@ impl<A: Allocator + Copy> Session<A> {
     }
 
     /// Goes forward by up to `n` steps, until the next step would perform a function of this name, which is compared
-    /// byte for byte. That it would do so already, before any step, does not count. A refused step ends the walk as
-    /// in `forward`; where `n` steps were taken and the name was not met, the walk returns `NotMet`, also where `n`
-    /// is 0.
+    /// byte for byte. That it would do so already, before any step, does not count. A refused step ends the walk as in
+    /// `forward`. If `n` steps were taken and the name was not met, the walk returns `NotMet`, also if `n` is 0.
     pub fn until(&mut self, name: &[u8], n: u64) -> Walk
         ensures { IsSearch Step (is_call_of name.now) n self.old result.done result.why self.new }
     {
@@ -276,9 +274,9 @@ impl<A: Allocator + Copy> Session<A> {
     }
 
     /// Goes back over steps, until the next step would perform a function of this name, which is compared byte for
-    /// byte. That it would do so already, before any step back, does not count; the first state is tested too. Where
-    /// all steps are gone back over and the name was not met, the walk returns `NotMet`, and where there is no step to
-    /// go back over, `AtStart`. It takes no memory.
+    /// byte. That it would do so already, before any step back, does not count; the first state is tested too. If all
+    /// steps are gone back over and the name was not met, the walk returns `NotMet`. If there is no step to go back
+    /// over, it returns `AtStart`. It takes no memory.
     pub fn back_until(&mut self, name: &[u8]) -> Walk
         ensures { IsSearch Back (is_call_of name.now) (max 1 (length self.old.earlier)) self.old result.done
             result.why self.new }

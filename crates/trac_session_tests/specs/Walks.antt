@@ -6,7 +6,7 @@ use Rattle.trac_rules.specs.Stepping.{step}
 use Rattle.trac_step.specs.Layout.{Shown}
 use Rattle.trac_step.specs.Room.{HasRoom}
 
--- what a step over this whole input is given beside the state, where numbers are of 128 bits
+-- what a step over this whole input is given beside the state, if numbers are of 128 bits
 abbrev pub over_whole : List ℕ → Environment
 over_whole input = record { tape = record { bytes = input; ended = true }; width = W128 }
 

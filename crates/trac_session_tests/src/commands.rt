@@ -67,8 +67,8 @@ fn is_at_start(session: &Session<Memory<'_>>, unread: &[u8]) -> bool {
     session.is_empty() && session.unread() == unread
 }
 
-// Performs the list. Where there is no memory for the replies nothing is done, and the next try is
-// accepted: whether that was so.
+// Performs the list. If there is no memory for the replies, nothing is done, and the next try is accepted: whether that
+// was so.
 fn is_performed_again(
     rt: &impl Abort,
     session: &mut Session<Memory<'_>>,
@@ -82,8 +82,8 @@ fn is_performed_again(
     true
 }
 
-// Where no command is refused memory, the replies are these, and the text is not read again after
-// the commit and the last step.
+// If no command is refused memory, the replies are these, and the text is not read again after the commit and the last
+// step.
 fn is_replied(session: &Session<Memory<'_>>, replies: &[u8]) -> bool {
     replies == REPLIES && is_at_start(session, b"AB'")
 }

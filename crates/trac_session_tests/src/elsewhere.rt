@@ -50,7 +50,7 @@ struct After {
     output_room: usize,
 }
 
-// Takes a step. Where the walk says so, every request for memory is refused meanwhile.
+// Takes a step. If the walk says so, every request for memory is refused meanwhile.
 fn take_step<E: TwoEnds<u8, A>, M: TwoEnds<Mark, A>, A: Allocator + Copy>(
     rt: &impl Abort,
     walk: &Walk<'_>,

@@ -6,7 +6,7 @@ use std::process::Abort;
 use trac_faults::Refusing;
 use trac_gap::{GapBuf, PlainEnds, TwoEnds};
 
-// Puts `abc` on the left and `d` on the right. Where room for them is refused, the next try is accepted.
+// Puts `abc` on the left and `d` on the right. If room for them is refused, the next try is accepted.
 fn fill<E: TwoEnds<u8, A>, A: Allocator + Copy>(rt: &impl Abort, ends: &mut E) {
     if ends.reserve(4).is_err() {
         ends.reserve(4).expect(rt, "it was refused again");
@@ -16,7 +16,7 @@ fn fill<E: TwoEnds<u8, A>, A: Allocator + Copy>(rt: &impl Abort, ends: &mut E) {
     ends.put_right(b"d");
 }
 
-// A copy. Where that is refused, the next try is accepted.
+// A copy. If that is refused, the next try is accepted.
 fn copied<E: TwoEnds<u8, A>, A: Allocator + Copy>(rt: &impl Abort, ends: &E) -> E {
     let Ok(copy) = ends.copy() else {
         return ends.copy().expect(rt, "it was refused again");
@@ -162,8 +162,8 @@ fn with_room<E: TwoEnds<u8, A>, A: Allocator + Copy>(rt: &impl Abort, alloc: A, 
     ends
 }
 
-// The list on the left is this one, and that on the right begins so, or is this one where no room is left for more; and
-// these are the lists of a copy.
+// The list on the left is this one, and that on the right begins so, or is this one if no room is left for more. These
+// are the lists of a copy.
 fn expect_both<E: TwoEnds<u8, A>, A: Allocator + Copy>(
     rt: &impl Abort,
     ends: &E,

@@ -92,7 +92,7 @@ fn expect_held(rt: &impl Abort, heap: Heap<'_>, session: &Session<Heap<'_>>, bef
     assert!(rt; heap.used() <= most, "{} bytes of {most}", heap.used());
 }
 
-// Goes forward in parts of so many steps until the input has to go on, with a commit after each where it keeps some.
+// Goes forward in parts of so many steps until the input has to go on, with a commit after each if it keeps some.
 fn go_through(
     rt: &impl Abort,
     heap: Heap<'_>,

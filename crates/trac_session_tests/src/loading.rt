@@ -225,7 +225,7 @@ const LIMITS: &[(Limited, usize)] = &[
     (Limited::Blocks, BLOCK_LIMIT),
 ];
 
-// A name as long as it may be is left out above: it takes seconds where all memory is watched.
+// A name as long as it may be is left out above: it takes seconds if all memory is watched.
 const LONG_NAME: &[(Limited, usize)] = &[(Limited::Name, NAME_LIMIT)];
 
 // The first bytes of a long text.
@@ -267,7 +267,7 @@ fn erased<A: Allocator + Copy>(
     out
 }
 
-// The count where it is of this part, and else none.
+// The count if it is of this part, and else none.
 fn count_of(part: Limited, (limited, count): (Limited, usize)) -> usize {
     if part == limited { count } else { 0 }
 }

@@ -1,7 +1,7 @@
 //! Whole programs with what they print.
 use crate::EACH_PRIMITIVE;
 
-/// Whole inputs, and what they print where numbers are of 128 bits. Each run ends with its input.
+/// Whole inputs, and what they print if numbers are of 128 bits. Each run ends with its input.
 pub(crate) const PROGRAMS: &[(&[u8], &[u8])] = &[
     EACH_PRIMITIVE,
     (b"", b""),

@@ -20,8 +20,8 @@ fn new_session(
     Session::new(memory, limit, width)
 }
 
-/// A session whose journal may hold so many records, and whose numbers have this width, where one request may be
-/// refused: it fails then, for memory alone, and the next try is accepted.
+/// A session whose journal may hold so many records, and whose numbers have this width. One request may be refused:
+/// then making the session fails, for memory alone, and the next try is accepted.
 pub(crate) fn made<'a>(
     rt: &impl Abort,
     memory: Memory<'a>,

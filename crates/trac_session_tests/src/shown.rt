@@ -1,5 +1,5 @@
 //! What a machine shows of its state, written as texts. What is added to a text needs memory, of which there is plenty:
-//! an end where there is none would be one more return, which a proof carries through each caller.
+//! to end if there is none would be one more return, which a proof carries through each caller.
 use std::alloc::{Allocator, Global};
 use std::process::Abort;
 use trac_forms::{Block, Form, Item, Store};

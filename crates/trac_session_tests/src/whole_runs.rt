@@ -43,7 +43,7 @@ const REFUSED_RUNS: &[Option<usize>] = &[None, Some(5)];
 // The widths of numbers. These programs print the same with both.
 const WIDTHS: &[Width] = &[Width::W128, Width::W64];
 
-// How many records the journal of a run without commits may hold, as that of the programs where nothing else is said.
+// How many records the journal of a run without commits may hold, as that of the programs if nothing else is said.
 const JOURNAL: usize = 65_536;
 
 /// What a run is over.
@@ -155,7 +155,7 @@ fn released_by(
     text.len()
 }
 
-// Makes the commit of this run, where there is one, and returns what is released by then.
+// Makes the commit of this run, if there is one, and returns what is released by then.
 fn commit(
     rt: &impl Abort,
     run: &Run<'_>,
@@ -175,8 +175,8 @@ fn commit(
     }
 }
 
-// Takes a step from this state, where one request may be refused: that is answered as such, nothing has changed then,
-// and the next try is accepted. Returns why no step is taken.
+// Takes a step from this state. One request may be refused: that is answered as such, nothing has changed then, and the
+// next try is accepted. Returns why no step is taken.
 fn step_from(
     rt: &impl Abort,
     run: &Run<'_>,

@@ -18,7 +18,7 @@ use Rattle.trac_step.specs.Layout.{Shown}
 
 -- ---- scanning moves on
 
--- a fact of the state that scanning moves on to, where it asks for no call
+-- a fact of the state that scanning moves on to, if it asks for no call
 abbrev pub IfMoves : Scanned → (State → Type 0) → Type 0
 IfMoves (Moves t) P = P t
 IfMoves (Calls call) P = Unit {0}
@@ -28,7 +28,7 @@ abbrev pub IsMove : Scanned → Type 0
 IsMove (Moves t) = Unit {0}
 IsMove (Calls call) = ⊥
 
--- the state with a function of this kind begun, or, where none is named, with a further argument of the innermost one
+-- the state with a function of this kind begun, or, if none is named, with a further argument of the innermost one
 abbrev pub with_mark : Option Kind → State → State
 with_mark (Some kind) s = begun kind s
 with_mark None s = comma_in s.frames s
@@ -48,7 +48,7 @@ with_storage storage s = record s { forms = storage.forms; blocks = storage.bloc
 abbrev pub with_change : {A : Type 0} → Scanned → Change A → State → State
 with_change scanned change s = with_storage (changed (arguments_in scanned) change (storage_of s)) s
 
--- what a planned call does where these texts are made for it, and forms and blocks are these after it
+-- what a planned call does if these texts are made for it, and forms and blocks are these after it
 abbrev pub effect_with : {A : Type 0} → Plan → Made A → Storage → Effect
 effect_with plan made storage = record {
   value = made.value.items;
@@ -60,13 +60,13 @@ effect_with plan made storage = record {
   storage = storage;
 }
 
--- the state after the call that scanning asks for, where this is planned
+-- the state after the call that scanning asks for, if this is planned
 abbrev pub state_after : {A : Type 0} → Plan → Made A → Change A → Scanned → State
 state_after plan made change (Moves t) = t
 state_after plan made change (Calls call) =
     after_call call (effect_with plan made (changed call.arguments change (storage_of call.state)))
 
--- the same where forms and blocks are changed already
+-- the same if forms and blocks are changed already
 abbrev pub state_ended : {A : Type 0} → Plan → Made A → Scanned → State
 state_ended plan made (Moves t) = t
 state_ended plan made (Calls call) = after_call call (effect_with plan made (storage_of call.state))

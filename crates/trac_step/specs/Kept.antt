@@ -28,8 +28,8 @@ pub record FitsJournal (called : Called) (arguments : List (List ℕ)) (undone :
   pub small : AreSmall called (length (concat arguments)) (length arguments)
   pub light : IsLight (CallOf (record_with called arguments undone))
 
--- a journal has room for the record of the call at which a state stands, where this is said of the call, and this is
--- what it destroyed of forms and blocks
+-- a journal has room for the record of the call at which a state stands, if this is said of the call, and this is what
+-- it destroyed of forms and blocks
 pub record HasRoomForCall (s : State) (called : Called) (undone : Undone) (journal : Journaled) : Type 0 where
   pub not_full : length journal.records < JOURNAL_LIMIT
   pub place : HasPlaceForCall (length (concat (arguments_in (scan s)))) (length (arguments_in (scan s)) - 1) journal
@@ -76,8 +76,8 @@ pub record IsCarriedOut {R : Type 0} (result : Result R Refusal) (before after :
   pub err : IsOkUnless result Memory
   pub room : IsNoLess before after
 
--- a machine takes its next step and its record is added, or the step is refused, and nothing but rooms changes; a step
--- of scanning is refused memory only where the machine or the journal lacks room
+-- a machine takes its next step and its record is added, or the step is refused, and nothing but rooms changes. A step
+-- of scanning is refused memory only if the machine or the journal lacks room
 pub record IsStepped {R : Type 0} (environment : Environment) (result : Result R Refusal) (before after : Shown)
     (old new : Journaled) : Type 0 where
   pub taken : OnOk result (step environment before.state ≡ Ok after.state)
@@ -87,7 +87,7 @@ pub record IsStepped {R : Type 0} (environment : Environment) (result : Result R
   pub lacking : IfErr result (λ e. e ≡ Memory → 1 ≤ old.places → LacksRoomAhead before)
   pub room : IsNoLess before after
 
--- the newest of the records, where there is one, leads back to a state for which a machine has room
+-- the newest of the records, if there is one, leads back to a state for which a machine has room
 abbrev pub CanGoBack : Shown → List Record → Type 0
 CanGoBack m [] = Unit {0}
 CanGoBack m (newest ∷ older) = IsSomeAnd (state_before newest m.state) (λ s. HasRoom m s)

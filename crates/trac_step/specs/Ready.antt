@@ -18,7 +18,7 @@ use Rattle.trac_step.specs.declared.calling.Plan.{Plan}
 use Rattle.trac_step.specs.Calling.{BeginsInnermost, arguments_in, state_after, state_ended}
 use Rattle.trac_step.specs.Layout.{Shown}
 
--- the record of the call at which a state stands, where it is planned so
+-- the record of the call at which a state stands, if it is planned so
 abbrev pub recorded_after : {A : Type 0} → Plan → Change A → State → Record
 recorded_after plan change s =
     Called (record_with plan.called (arguments_in (scan s)) (undone_of change (storage_of s)))
@@ -40,7 +40,7 @@ pub record IsPlanned {A : Type 0} (environment : Environment) (s : State) (made 
   pub taken : step environment s ≡ Ok (state_after plan made change (scan s))
   pub recorded : record_of environment s ≡ Some (recorded_after plan change s)
 
--- what may be performed where a `)` stands: nothing where no function is begun
+-- what may be performed where a `)` stands: nothing if no function is begun
 abbrev pub IsFound : {A : Type 0} → Environment → State → Made A → Change A → Option Plan → Type 0
 IsFound environment s made change None = s.frames ≡ []
 IsFound environment s made change (Some plan) = IsPlanned environment s made plan change

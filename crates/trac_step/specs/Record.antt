@@ -38,8 +38,8 @@ recorded_by (Call kind arguments value scanned printed read meta trace change) =
 abbrev pub before : {A : Type 0} → Record A → State → Option State
 before r t = rules.state_before (recorded_by r) t
 
--- a machine takes its next step and its record is given, or the step is refused, and nothing but rooms changes; a step
--- of scanning is refused memory only where the machine lacks room
+-- a machine takes its next step and its record is given, or the step is refused, and nothing but rooms changes. A step
+-- of scanning is refused memory only if the machine lacks room
 pub record IsTaken {A : Type 0} (environment : Environment) (result : Result (Record A) Refusal) (before after : Shown)
     : Type 0 where
   pub taken : OnOk result (step environment before.state ≡ Ok after.state)

@@ -24,7 +24,7 @@ pub record IsNoLess (old new : Shown) : Type 0 where
   pub output : old.output_room ≤ new.output_room
   pub names : AreAmong old.known new.known
 
--- the next step lacks room: where it is one of scanning, and not the one that empties all texts, the machine has no
--- room for the state to which it leads. Of any other step this says nothing
+-- the next step lacks room: if it is one of scanning, and not the one that empties all texts, the machine has no room
+-- for the state to which it leads. Of any other step this says nothing
 abbrev pub LacksRoomAhead : Shown → Type 0
 LacksRoomAhead m = front_of m.state.active ≢ front.Nothing → IfMoves (scan m.state) (λ t. HasRoom m t → ⊥)

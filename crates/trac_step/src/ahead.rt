@@ -10,7 +10,7 @@ use trac_text::front::front_at;
 use trac_text::{Args, Kind, Mark};
 
 impl<E: TwoEnds<u8, A>, M: TwoEnds<Mark, A>, A: Allocator + Copy> Core<E, M, A> {
-    /// The call that the next step would perform: its kind, and all its arguments, its name first; none where it would
+    /// The call that the next step would perform: its kind, and all its arguments, its name first; none if it would
     /// perform none. It takes no memory, and no time for the functions that are begun around it.
     pub fn next_call(&self) -> Option<(Kind, Args<'_>)>
         ensures { MatchOption result (next_call self.now.state ≡ None)

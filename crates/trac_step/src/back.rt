@@ -41,7 +41,7 @@ impl<E: TwoEnds<u8, A>, M: TwoEnds<Mark, A>, A: Allocator + Copy> Core<E, M, A> 
             (journal.old.records ≡ []) × ((journal.new.records ≡ []) × (self.new ≡ self.old)) }
         ensures room { IsNoLess self.old self.new }
     {
-        self.is_in_its_room();
+        self.recall_room();
         if let Some(short) = journal.pop_short() {
             self.undo_short(short);
             return true;

@@ -50,9 +50,9 @@ pub(crate) struct Plan {
     pub(crate) position: usize,
     // whether its value is scanned, though the function may be neutral
     pub(crate) forced: bool,
-    // the meta character, where it is set
+    // the meta character, if it is set
     pub(crate) meta: Option<u8>,
-    // the trace, where it is set
+    // the trace, if it is set
     pub(crate) trace: Option<bool>,
 }
 
@@ -104,7 +104,7 @@ fn put_printed<A: Allocator>(output: &mut SlidingBuf<u8, A>, printed: &[u8])
 
 impl<E: TwoEnds<u8, A>, M: TwoEnds<Mark, A>, A: Allocator + Copy> Core<E, M, A> {
     // Plans the call of the innermost function: its texts are made, and what becomes of forms and blocks is put in
-    // place of a change that keeps them. Or why it is refused. None where no function is begun.
+    // place of a change that keeps them. Or why it is refused. None if no function is begun.
     fn planned(
         &self,
         tape: Tape<'_>,
@@ -244,7 +244,7 @@ impl<E: TwoEnds<u8, A>, M: TwoEnds<Mark, A>, A: Allocator + Copy> Core<E, M, A> 
         Ok(Record::of_call(plan.called, arguments, undone))
     }
 
-    // A `)`: the innermost function is performed, or the `)` is deleted where none is begun.
+    // A `)`: the innermost function is performed, or the `)` is deleted if none is begun.
     pub(crate) fn close(&mut self, tape: Tape<'_>) -> Result<Record<A>, Refusal>
         requires front { front_of self.old.state.active ≡ Front.Closing }
         requires within { self.old.state.position ≤ length tape.bytes.now }
@@ -296,8 +296,7 @@ impl<E: TwoEnds<u8, A>, M: TwoEnds<Mark, A>, A: Allocator + Copy> Core<E, M, A> 
         self.change_storage_into(journal, *plan, change)
     }
 
-    // The same, where something may change. It is lent no plan, so that this can stay in registers
-    // where nothing changes.
+    // The same, if something may change. It is lent no plan, so that this can stay in registers if nothing changes.
     #[inline(never)]
     fn change_storage_into(
         &mut self,
@@ -341,8 +340,8 @@ impl<E: TwoEnds<u8, A>, M: TwoEnds<Mark, A>, A: Allocator + Copy> Core<E, M, A> 
         Ok(())
     }
 
-    // A `)`, as `close` has it, where the record is kept. The texts of the call are made in these buffers. The loop of
-    // a walk calls it, and has the steps of scanning in itself.
+    // A `)`, as `close` has it, but its record is kept in this journal. The texts of the call are made in these
+    // buffers. The loop of a walk calls this, and has the steps of scanning in itself.
     #[inline(never)]
     pub(crate) fn close_into(
         &mut self,

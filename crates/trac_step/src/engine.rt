@@ -56,7 +56,7 @@ impl<E: TwoEnds<u8, A>, M: TwoEnds<Mark, A>, A: Allocator + Copy> Model for Core
 impl<E: TwoEnds<u8, A>, M: TwoEnds<Mark, A>, A: Allocator + Copy> Core<E, M, A> {
     /// A machine in the state in which a processor begins, with numbers of this width: it is about
     /// to run the idle program of T-64.
-    /// Refused with `Memory` where the allocator refuses.
+    /// Refused with `Memory` if the allocator refuses.
     pub fn new(alloc: A, width: Width) -> Result<Self, Refusal>
         ensures made { IfOk result (λ m. m.state ≡ initial) }
         ensures width { IfOk result (λ m. m.width ≡ width) }

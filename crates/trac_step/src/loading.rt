@@ -35,8 +35,8 @@ impl<E: TwoEnds<u8, A>, M: TwoEnds<Mark, A>, A: Allocator + Copy> Core<E, M, A> 
     /// that is less than the state needs is made as large as that. Each begun function has to have an
     /// argument, the one that is being gathered.
     ///
-    /// Refused with `TooLong` where the state, a room or a name passes a limit, and with `Memory` where the allocator
-    /// refuses, which may come first where there are too many forms: they are counted in their store.
+    /// Refused with `TooLong` if the state, a room or a name passes a limit, and with `Memory` if the allocator
+    /// refuses. `Memory` may come first if there are too many forms: they are counted in their store.
     pub fn load(alloc: A, parts: &Parts<A>, width: Width) -> Result<Self, Refusal>
         requires { EachGathers parts.now.frames.items }
         ensures answer { MayAnswer (λ m. m.state) (loaded parts.now) result }

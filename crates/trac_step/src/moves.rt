@@ -95,7 +95,7 @@ impl<E: TwoEnds<u8, A>, M: TwoEnds<Mark, A>, A: Allocator + Copy> Core<E, M, A> 
         }
     }
 
-    // The next step, where it performs no function.
+    // The next step, if it performs no function.
     pub(crate) fn move_step(&mut self, front: Front) -> Result<Record<A>, Refusal>
         requires front { front ≡ front_of self.old.state.active }
         requires moves { IsMove (scan self.old.state) }
@@ -141,8 +141,8 @@ impl<E: TwoEnds<u8, A>, M: TwoEnds<Mark, A>, A: Allocator + Copy> Core<E, M, A> 
         }
     }
 
-    // The first n bytes of the active text are deleted, and a function of this kind is begun, or, where none is named,
-    // a further argument of the innermost one; this is kept of it.
+    // The first n bytes of the active text are deleted, and a function of this kind is begun, or, if none is named, a
+    // further argument of the innermost one. This is kept of it.
     #[inline(always)]
     fn mark_into(
         &mut self,

@@ -61,15 +61,15 @@ impl<E: TwoEnds<u8, A>, M: TwoEnds<Mark, A>, A: Allocator + Copy> Core<E, M, A> 
         self.neutral().frame(i)
     }
 
-    /// The begun functions, one after another from the outermost on: a walk over all of them takes time for all marks
-    /// together, where `frame` looks for each from the innermost on.
+    /// The begun functions, one after another from the outermost on. A walk over all of them takes time for all marks
+    /// together, whereas `frame` looks for each from the innermost on.
     pub fn begun_functions(&self) -> BegunFunctions<'_>
         ensures { result ≡ reverse self.now.state.frames }
     {
         self.neutral().begun_functions()
     }
 
-    /// The name of the function that the next step would perform; none where it would perform none. It takes no memory.
+    /// The name of the function that the next step would perform; none if it would perform none. It takes no memory.
     pub fn at_call(&self) -> Option<&[u8]>
         ensures { MatchOption result (call_at self.now.state ≡ None) (λ name. call_at self.now.state ≡ Some name.now) }
     {
@@ -123,7 +123,7 @@ impl<E: TwoEnds<u8, A>, M: TwoEnds<Mark, A>, A: Allocator + Copy> Core<E, M, A> 
         ensures width { result ≡ self.now.width }
         ensures room { HasRoom self.now self.now.state }
     {
-        self.is_in_its_room();
+        self.recall_room();
         self.width
     }
 }

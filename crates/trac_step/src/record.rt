@@ -56,7 +56,7 @@ pub enum Record<A: Allocator + Copy = Global> {
         printed: usize,
         /// How many bytes of the tape were read.
         read: usize,
-        /// The meta character before, where the call set one.
+        /// The meta character before, if the call set one.
         meta: Option<u8>,
         /// Whether each call was printed before.
         trace: bool,
@@ -157,7 +157,7 @@ impl<E: TwoEnds<u8, A>, M: TwoEnds<Mark, A>, A: Allocator + Copy> Core<E, M, A> 
                     meta,
                     trace,
                 };
-                self.is_in_its_room();
+                self.recall_room();
                 self.begin_again(called, &arguments.lend());
                 self.restore_storage(undone);
             }

@@ -76,8 +76,8 @@ impl<E: TwoEnds<u8, A>, M: TwoEnds<Mark, A>, A: Allocator + Copy> Core<E, M, A> 
         Ok(Short::Comma)
     }
 
-    // The first n bytes of the active text are deleted, and a function of this kind is begun, or, where none is named,
-    // a further argument of the innermost one.
+    // The first n bytes of the active text are deleted, and a function of this kind is begun, or, if none is named, a
+    // further argument of the innermost one.
     #[inline]
     pub(crate) fn mark(&mut self, n: usize, frame: Option<Kind>) -> Result<(), Refusal>
         requires front { n ≤ length self.old.state.active }
@@ -115,7 +115,7 @@ impl<E: TwoEnds<u8, A>, M: TwoEnds<Mark, A>, A: Allocator + Copy> Core<E, M, A> 
         ensures end { result < most → result < length self.old.state.active →
             is_plain (get_or self.old.state.active result 0) ≡ false }
     {
-        self.is_in_its_room();
+        self.recall_room();
         let count = plain_front(self.text.right(), most);
         gather_plain(&mut self.text, count);
         count

@@ -24,16 +24,20 @@ use trac_text::front::front_at;
 use trac_text::{Mark, Refusal};
 
 impl<E: TwoEnds<u8, A>, M: TwoEnds<Mark, A>, A: Allocator + Copy> Core<E, M, A> {
-    /// Takes the next step of T-64's rules over this tape, and gives what the way back needs: the record of what
-    /// the step destroyed, and of nothing else. The state after it is a proper one: a step is refused where its
-    /// new state would pass any limit.
+    /// Takes the next step of T-64's rules over this tape, and answers its record: what the step destroyed, so that
+    /// `undo` can go back over it. Sessions call `step_into`, which packs the record into a journal.
     ///
-    /// Refused with `NeedInput` where a function reads input that is not there yet, with `Ended` where it will never be
-    /// there or `hl` is performed, with `TooLong` where the state after the step would pass a limit, and with `Memory`
-    /// where the allocator refuses; after each the state is as it was. A step of scanning is refused memory only where
-    /// the machine has no room for the new state, but for the step that empties all texts, which keeps them in its
-    /// record. No step, refused ones among them, lessens the machine's room or forgets a name, and after an accepted
-    /// one there is room for the state before it. The tape has to hold at least as many bytes as are read.
+    /// Refused, and the state is as it was:
+    /// - `NeedInput`: a function reads input that is not there yet.
+    /// - `Ended`: it reads input that will never be there, or it is `hl`.
+    /// - `TooLong`: the state after the step would pass a limit.
+    /// - `Memory`: the allocator refuses. If the machine has room for the state after it, a step of scanning asks for
+    ///   no memory, unless the active text is empty: then the record takes the neutral text, and the idle program is
+    ///   loaded.
+    ///
+    /// No step, not even a refused one, lessens how much the machine has room for, or forgets a name that its store
+    /// knows. After an accepted step there is room for the state before it. The tape has to hold at least the bytes
+    /// that earlier steps have read.
     pub fn step(&mut self, tape: Tape<'_>) -> Result<Record<A>, Refusal>
         requires { self.old.state.position ≤ length tape.bytes.now }
         ensures taken { IfOk result
@@ -58,16 +62,20 @@ impl<E: TwoEnds<u8, A>, M: TwoEnds<Mark, A>, A: Allocator + Copy> Core<E, M, A> 
         ensures lacking { IfErr result (λ e. e ≡ Refusal.Memory → LacksRoomAhead self.old) }
         ensures room { IsNoLess self.old self.new }
     {
-        self.is_in_its_room();
+        self.recall_room();
         self.next_step(tape)
     }
 
-    /// Takes the next step, as `step` does, and keeps its record in this journal, the newest of its records; or changes
-    /// nothing but rooms. Refused as `step` is, and with `Memory` also where the journal cannot grow; then the state
-    /// and the records are as they were. All memory is taken before anything changes. Where the journal has a place for
-    /// one record more, a step of scanning is refused memory only where `step` may be. A call makes its texts in these
-    /// buffers, which serve one step after another. The journal may not be full, and the tape has to have fewer than
-    /// 2^32 bytes and at least as many as are read.
+    /// Takes the next step, as `step` does, and adds its record to this journal.
+    ///
+    /// Refused as `step` is, and with `Memory` also if the journal cannot grow: the state and the records are as they
+    /// were, since all memory is taken before anything changes. If the journal has a place for one record more, a step
+    /// of scanning is refused memory only if `step` would be, unless it loads the idle program.
+    ///
+    /// A call makes its texts in the buffers `made`. They serve one step after another, and it does not matter what
+    /// they hold before. The journal must have fewer than 1,048,576 records. The tape has to hold at least the bytes
+    /// that earlier steps have read, and fewer than 2^32, as records count in 32 bits.
+    // The loop of a walk has the steps of scanning in itself, which is faster than a call for each.
     #[inline(always)]
     pub fn step_into(
         &mut self,
@@ -90,12 +98,12 @@ impl<E: TwoEnds<u8, A>, M: TwoEnds<Mark, A>, A: Allocator + Copy> Core<E, M, A> 
         ensures lacking { IfErr result (λ e. e ≡ Refusal.Memory → 1 ≤ journal.old.places → LacksRoomAhead self.old) }
         ensures room { IsNoLess self.old self.new }
     {
-        self.is_in_its_room();
+        self.recall_room();
         self.next_step_into(journal, tape, made)
     }
 
-    // The step itself. A `)` performs the innermost function. Whatever else the active text begins with has a rule of
-    // scanning, which only one mark too many can refuse.
+    // The step itself. A `)` performs the innermost function, or is deleted if none is begun. All else with which the
+    // active text may begin has a rule of scanning.
     fn next_step(&mut self, tape: Tape<'_>) -> Result<Record<A>, Refusal>
         requires { self.old.state.position ≤ length tape.bytes.now }
         ensures { IsTaken (environment_of self.old.width tape.entry) result self.old self.new }
@@ -107,7 +115,7 @@ impl<E: TwoEnds<u8, A>, M: TwoEnds<Mark, A>, A: Allocator + Copy> Core<E, M, A> 
         self.move_step(front)
     }
 
-    // The same, where its record is kept.
+    // The same, with its record added to the journal. Of all limits, scanning can pass only that on marks.
     #[inline(always)]
     fn next_step_into(
         &mut self,
@@ -129,8 +137,8 @@ impl<E: TwoEnds<u8, A>, M: TwoEnds<Mark, A>, A: Allocator + Copy> Core<E, M, A> 
         self.carry_out(journal, front)
     }
 
-    // A machine shows a proper state, for which it has room. It does nothing: it is called for what it says.
-    pub(crate) fn is_in_its_room(&self)
+    // Does nothing. It reminds the prover that a machine shows a state within all limits, for which it has room.
+    pub(crate) fn recall_room(&self)
         ensures proper { IsProper self.now.state }
         ensures room { HasRoom self.now self.now.state }
     {

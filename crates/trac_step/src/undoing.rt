@@ -37,7 +37,7 @@ impl<E: TwoEnds<u8, A>, M: TwoEnds<Mark, A>, A: Allocator + Copy> Core<E, M, A> 
         self.text.push_right(byte);
     }
 
-    // A text of this length is protected again by its `(`, and ended by its match where this was deleted.
+    // A text of this length is protected again by its `(`, and ended by its match if this was deleted.
     pub(crate) fn unprotect(&mut self, inner: usize, closed: bool)
         requires { CanShow self.old (restored (Quoted inner closed) self.old.state) }
         ensures state { restored (Quoted inner closed) self.old.state ≡ Some self.new.state }

@@ -34,13 +34,13 @@ names_put (MoveIn held name address) = name.items ∷ []
 names_put (Bring number forms) = names_in (named_forms forms.items)
 names_put change = []
 
--- the places for blocks that are spare before a change and after it: just as many, but where it
--- puts a block, which takes one
+-- the places for blocks that are spare before a change and after it: just as many, unless it puts a block, which takes
+-- one
 abbrev pub HasPlaces : {A : Type 0} → code.Change A → ℕ → ℕ → Type 0
 HasPlaces (MoveIn held name address) before after = before ≤ after + 1
 HasPlaces change before after = after ≡ before
 
--- a change takes no memory where these names are known: it changes what is there, or puts a form under one of them
+-- a change takes no memory if these names are known: it changes what is there, or puts a form under one of them
 abbrev pub TakesNone : {A : Type 0} → Names → code.Change A → Type 0
 TakesNone known Keep = Unit {0}
 TakesNone known (Put name form) = IsTrue (set.contains known name.items)

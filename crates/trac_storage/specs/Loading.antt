@@ -1,4 +1,4 @@
--- Loading: the state that parts show, and where it is refused.
+-- Loading: the state that parts show, and when it is refused.
 use Rattle.std.specs.Prelude.{ℕ, ◌&&◌, nat_le, List, length, map, Bool, true, Option, None, Some, Vec, Result, Ok}
 use Rattle.std.specs.FinMap as finite
 use Rattle.std.specs.List.{All, list_all}
@@ -26,7 +26,7 @@ forms_of held = with_all held finite.empty
 abbrev pub held_of : Held → Held
 held_of held = moved_out (names_in held) (forms_of held)
 
--- a block of these forms; none where it is erased
+-- a block of these forms; none if it is erased
 abbrev pub block_of : {A : Type 0} → Option (Vec (Vec ℕ A × Form) A) → Block
 block_of None = None
 block_of (Some forms) = Some (held_of (named_forms forms.items))
@@ -45,7 +45,7 @@ state_in parts = record {
   output = parts.output.items;
 }
 
--- ---- where it is refused
+-- ---- when it is refused
 
 -- whether the rooms that are wanted are within the limits
 abbrev pub rooms_fit : {A : Type 0} → code.Parts A → Bool
@@ -60,7 +60,7 @@ names_fit names = list_all (λ name. nat_le (length name) NAME_LIMIT) names
 abbrev pub parts_fit : {A : Type 0} → code.Parts A → Bool
 parts_fit parts = is_proper (state_in parts) && rooms_fit parts && names_fit (texts_of parts.names.items)
 
--- the state of the parts, or `TooLong` where something passes a limit
+-- the state of the parts, or `TooLong` if something passes a limit
 abbrev pub loaded : {A : Type 0} → code.Parts A → Result State Refusal
 loaded parts = limited (λ _. parts_fit parts) (Ok (state_in parts))
 

@@ -26,11 +26,11 @@ use trac_text::Args;
 
 /// Changes forms and blocks as a call of these arguments planned it, and returns what that destroyed. The names under
 /// which it puts forms are known then, and no other name becomes known or is forgotten. What stands in `change` after
-/// it is not claimed: what was planned may have been taken out of there, also where it is refused.
+/// it is not claimed: what was planned may have been taken out of there, even if the call is refused.
 ///
-/// Refused with `Memory` where the allocator refuses, and then forms and blocks are as before. Setting a
-/// pointer, cutting and erasing take no memory, and putting a form takes some only where its name is not
-/// known: else these are never refused.
+/// Refused with `Memory` if the allocator refuses, and then forms and blocks are as before. Setting a pointer, cutting
+/// and erasing take no memory, and putting a form takes some only if its name is not known. But for that, these are
+/// never refused.
 pub fn change_forms<A: Allocator + Copy>(
     store: &mut Store<A>,
     alloc: A,
@@ -136,8 +136,8 @@ fn cut_out<A: Allocator + Copy>(
     }
 }
 
-// Sets the pointer of the form of this name, if there is one: before the item at this place, or at the end where the
-// form has none there. Returns what that destroyed, which is where the pointer stood.
+// Sets the pointer of the form of this name, if there is one. The pointer then stands before the item at this place, or
+// at the end if the form has none there. Returns what that destroyed, which is where the pointer stood.
 fn set_pointer<A: Allocator + Copy>(store: &mut Store<A>, name: &[u8], place: usize) -> Undone<A>
     ensures storage { storage_in store.new
         ≡ pointed name.now place (finite.get store.old.forms name.now) (storage_in store.old) }
@@ -152,8 +152,8 @@ fn set_pointer<A: Allocator + Copy>(store: &mut Store<A>, name: &[u8], place: us
 }
 
 // Moves the forms of these names into a new block, and puts its address under a name. Returns what that destroyed,
-// which is what the address replaces. It takes memory for the block, for its place, and where the name is not
-// known, all before any form leaves.
+// which is what the address replaces. It takes memory for the block, for its place, and also if the name is not known:
+// all before any form leaves.
 fn put_aside<A: Allocator + Copy>(
     store: &mut Store<A>,
     alloc: A,

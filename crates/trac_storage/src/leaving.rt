@@ -81,8 +81,8 @@ fn copies_of<A: Allocator + Copy>(
 }
 
 // Puts copies of the forms of the block of this number under their names, which are each different. Returns what that
-// destroyed, which are the forms that they replace. It takes memory for the list of these, and where a name is not
-// known, all before any form is put.
+// destroyed, which are the forms that they replace. It takes memory for the list of these, and also if a name is not
+// known: all before any form is put.
 pub(crate) fn bring<A: Allocator + Copy>(
     store: &mut Store<A>,
     alloc: A,

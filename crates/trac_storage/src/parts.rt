@@ -26,10 +26,10 @@ pub struct Parts<A: Allocator + Copy = Global> {
     /// The begun functions, from the outermost on: the kind of each, and its arguments, of which
     /// the last is being gathered.
     pub frames: Vec<(Kind, Vec<Vec<u8, A>, A>), A>,
-    /// The forms with their names. Where a name stands again, the later form replaces the earlier one.
+    /// The forms with their names. If a name stands again, the later form replaces the earlier one.
     pub forms: Vec<(Vec<u8, A>, Form<A>), A>,
-    /// The blocks in the order of their numbers, from 0 on; an erased one is none. Where a name stands again in a
-    /// block, the later form stands in the place of the earlier one.
+    /// The blocks in the order of their numbers, from 0 on; an erased one is none. If a name stands again in a block,
+    /// the later form stands in the place of the earlier one.
     pub blocks: Vec<Option<Vec<(Vec<u8, A>, Form<A>), A>>, A>,
     /// The byte that ends a text of the input.
     pub meta: u8,

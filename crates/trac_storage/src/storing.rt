@@ -64,8 +64,8 @@ fn names_of<A: Allocator + Copy>(
     Ok(names)
 }
 
-// A block of copies of these forms. Where a name stands again, its last form stands in the first one's place: so all
-// forms go into a store first, and leave it in the order of their names.
+// A block of copies of these forms. If a name stands again, its last form stands in the first one's place. So all forms
+// go into a store first, and leave it in the order of their names.
 fn block_with<A: Allocator + Copy>(alloc: A, forms: &[Named<A>]) -> Result<Block<A>, FormError>
     ensures held { IfOk result (λ block. block.held ≡ held_of (named_forms forms.now)) }
     ensures err { IsOkUnless result FormError.Memory }
@@ -94,7 +94,7 @@ fn copied_block<A: Allocator + Copy>(
     Ok(Some(block))
 }
 
-// Puts a block after all others, or, where there is none, an erased one. A place has to be spare.
+// Puts a block after all others, or, if there is none, an erased one. A place has to be spare.
 fn push_any<A: Allocator + Copy>(
     alloc: A,
     store: &mut Store<A>,
@@ -155,7 +155,7 @@ fn know_names<A: Allocator + Copy>(
 
 /// A store of copies of the forms and blocks of parts, which knows the names of the forms and the further names.
 ///
-/// Refused with `TooLong` where there are too many forms, or too many in a block, and with `Memory` where the allocator
+/// Refused with `TooLong` if there are too many forms, or too many in a block. Refused with `Memory` if the allocator
 /// refuses, which may come first.
 pub fn stored<A: Allocator + Copy>(alloc: A, parts: &Parts<A>) -> Result<Store<A>, Refusal>
     ensures answer { MayAnswer (λ store. storage_in store)

@@ -5,12 +5,12 @@ use Rattle.trac_rules.specs.declared.byte.TheConstants.{CARRIAGE_RETURN, LINE_FE
 use Rattle.trac_streams.specs.declared.lines.TheConstants.{LINE_LIMIT}
 
 -- what stands between line feeds. A line feed ends a line, and so does the end of the text; a line feed at the very end
--- begins no line. `onto_first` puts a byte before the first line, and makes a line of it where there is none
+-- begins no line. `onto_first` puts a byte before the first line, and makes a line of it if there is none
 abbrev pub between_feeds : List ℕ → List (List ℕ)
 between_feeds [] = []
 between_feeds (b ∷ rest) = if b == LINE_FEED then [] ∷ between_feeds rest else onto_first b (between_feeds rest)
 
--- a line without the one carriage return at its end, where there is one
+-- a line without the one carriage return at its end, if there is one
 abbrev pub without_return : List ℕ → List ℕ
 without_return line = if ends_with nat_eq line (CARRIAGE_RETURN ∷ []) then take (length line - 1) line else line
 

@@ -15,8 +15,8 @@ use Rattle.trac_streams.specs.Pending.{Pending}
 abbrev pub HELD_LIMIT : ℕ
 HELD_LIMIT = LINE_LIMIT + 1 + READ_SIZE
 
--- what stands at the front of these bytes, whatever more comes after them: nothing, where they have ended. What
--- ends a line has two bytes at most
+-- what stands at the front of these bytes, whatever more comes after them: nothing, if they have ended. What ends a
+-- line has two bytes at most
 abbrev pub IsFront : List ℕ → Bool → NextLine → Type 0
 IsFront bytes ended (Line len whole) = (len ≤ length bytes) × (whole ≤ length bytes)
     × ((more : List ℕ) → (ended ≡ true → more ≡ []) →
@@ -83,7 +83,7 @@ pub record Gathers (in_old in_new : Option (List ℕ)) (old new : Pending) : Typ
   pub few : (got ≡ []) ⊎ (length new.bytes ≤ HELD_LIMIT)
 
 -- a read failed, or there was no memory for what it gave; the end was not seen. What earlier reads gave came after the
--- bytes that were there, and what the last one gave is lost: nothing, where it failed
+-- bytes that were there, and what the last one gave is lost: nothing, if it failed
 pub record MayFail (in_old in_new : Option (List ℕ)) (old new : Pending) (ending : Ending) : Type 0 where
   pub kept : List ℕ
   pub lost : List ℕ

@@ -45,7 +45,7 @@ impl Ending {
 }
 
 impl fmt::Display for Ending {
-    /// The line on standard error, without its line feed; empty where the input ended.
+    /// The line on standard error, without its line feed; empty if the input ended.
     fn fmt<W: fmt::Write>(&self, f: &mut fmt::Formatter<W>) -> fmt::Result {
         match self {
             Ending::Ended => write!(f, ""),

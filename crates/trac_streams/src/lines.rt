@@ -117,7 +117,7 @@ impl<A: Allocator + Copy> Lines<A> {
         }
     }
 
-    /// Whether there is any byte more, after one read where that is needed, which is added to a count.
+    /// Whether there is any byte more, after one read if that is needed. The read is added to a count.
     ///
     /// `Ending::Read`: the reader failed. `Ending::Memory`: memory was refused. As after a refused
     /// `seek`, what was there stands.
@@ -204,7 +204,7 @@ fn drop_front<A: Allocator>(bytes: &mut Vec<u8, A>, n: usize)
     bytes.truncate(bytes.len() - n);
 }
 
-// What stands at the front of these bytes, where the text ends after them or may go on.
+// What stands at the front of these bytes, after which the text ends or may go on.
 fn front_of(bytes: &[u8], ended: bool) -> NextLine
     ensures { IsFront bytes.now ended result }
 {
@@ -229,7 +229,7 @@ fn front_of(bytes: &[u8], ended: bool) -> NextLine
     }
 }
 
-// How long a line is without the one carriage return at its end, where there is one.
+// How long a line is without the one carriage return at its end, if there is one.
 fn len_without_return(line: &[u8]) -> usize
     ensures within { result ≤ length line.now }
     ensures cut { take result line.now ≡ without_return line.now }

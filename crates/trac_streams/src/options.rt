@@ -8,7 +8,7 @@ use trac_rules::width::Width;
 /// The most steps that a run may be allowed.
 pub const BUDGET_LIMIT: u64 = 1_000_000_000_000;
 
-/// How many steps a run may take where nothing else is said.
+/// How many steps a run may take if nothing else is said.
 pub const DEFAULT_BUDGET: u64 = 1_000_000_000;
 
 /// The options of a run.
@@ -29,8 +29,8 @@ pub fn is_in_range(number: u64, most: u64) -> bool
     1 <= number && number <= most
 }
 
-/// How wide numbers are to be where so many bits are wanted, and of 128 bits where nothing is said. None
-/// where another width is wanted.
+/// How wide numbers are to be if so many bits are wanted, and of 128 bits if nothing is said. None if another width is
+/// wanted.
 pub fn decimals_of(asked: Option<u64>) -> Option<Width>
     ensures { MatchOption asked (result ≡ Some W128) (λ bits. result ≡ width_of bits) }
 {

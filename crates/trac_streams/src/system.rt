@@ -8,9 +8,9 @@ use crate::input::read_tape;
 use std::process::ExitCode;
 use std::{fs, io};
 
-/// The bytes of the file at this path, which is closed before any command is read: where standard input is closed, the
+/// The bytes of the file at this path. The file is closed before any command is read: if standard input is closed, the
 /// system opens the file in its place. `Ending::Read`: it cannot be opened, or not be read. `Ending::Limit` and
-/// `Ending::Memory` are those of `read_tape`, and `Memory` also where there is none to open the file.
+/// `Ending::Memory` are those of `read_tape`, and `Memory` also if there is none to open the file.
 pub fn tape_in(rt: &HostRuntime, path: &str) -> Result<Vec<u8>, Ending> {
     match fs::File::open(rt, path) {
         Ok(mut file) => read_tape(rt.alloc(), &mut file),

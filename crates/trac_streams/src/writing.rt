@@ -35,7 +35,7 @@ pub fn flush<W: Write>(output: &mut W) -> Result<(), Ending>
     Ok(())
 }
 
-/// Writes what is pending, flushes and ends the run so; or as `Write` where the writer fails.
+/// Writes what is pending, flushes and ends the run so; or as `Write` if the writer fails.
 pub fn finish<W: Write>(output: &mut W, text: &[u8], ending: Ending) -> Ending
     ensures { Closes (W.contents output.old) (W.contents output.new) text.now ending result }
 {

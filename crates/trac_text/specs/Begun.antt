@@ -23,7 +23,7 @@ pub record IsFront (m : MarkedText) (number : ℕ) (front : MarkedText) : Type 0
   pub inner : List Frame
   pub frames_are : (neutral_of m).frames ≡ inner ++ (neutral_of front).frames
 
--- the first frame is given, its kind and all its arguments; none where none is left now or later
+-- the first frame is given, its kind and all its arguments; none if none is left now or later
 abbrev pub GivesFrame : List Frame → Option (Kind × List (List ℕ)) → List Frame → Type 0
 GivesFrame old given new =
     MatchOption given ((old ≡ []) × (new ≡ [])) (λ f. IsFrame (slice_get old 0) f.0 f.1 × (new ≡ drop 1 old))

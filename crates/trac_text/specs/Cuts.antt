@@ -31,7 +31,7 @@ abbrev pub lengths_between : ℕ → List Mark → List ℕ
 lengths_between from [] = []
 lengths_between from (m ∷ marks) = (m.place - from) ∷ lengths_between m.place marks
 
--- what stands for a mark where there is none
+-- what stands for a mark if there is none
 abbrev pub no_mark : Mark
 no_mark = record { place = 0; frame = None }
 

@@ -7,7 +7,7 @@ use Rattle.trac_rules.specs.declared.scan.Front.{Front}
 use Rattle.trac_rules.specs.declared.scan.Front.TheVariants.{Comma, ActiveCall, NeutralCall}
 use Rattle.trac_rules.specs.Matching.{Protected}
 
--- whether the rule for this front makes a mark, where there are so many marks
+-- whether the rule for this front makes a mark, if there are so many marks
 abbrev pub adds_mark : Front → ℕ → Bool
 adds_mark ActiveCall marks = true
 adds_mark NeutralCall marks = true
@@ -18,8 +18,8 @@ adds_mark front marks = false
 abbrev pub with_protected : Protected → Ends ℕ → Ends ℕ
 with_protected p e = record e { left = e.left ++ p.inner; right = p.rest }
 
--- the texts with a value where it goes: after the neutral text for a neutral function, where it is not
--- forced, else before the active text
+-- the texts with a value where it goes: after the neutral text for a neutral function, if it is not forced, else before
+-- the active text
 abbrev pub with_value : Kind → Bool → List ℕ → Ends ℕ → Ends ℕ
 with_value Active forced value e = record e { right = value ++ e.right }
 with_value Neutral true value e = record e { right = value ++ e.right }

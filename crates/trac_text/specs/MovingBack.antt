@@ -16,26 +16,26 @@ with_last_before n e =
     record e { left = take (length e.left - n) e.left; right = drop (length e.left - n) e.left ++ e.right }
 
 -- the texts with a protected text of this length, which is at the end of the one on the left, before the one on the
--- right, with its `(` and, where it had one, its match
+-- right, with its `(` and, if it had one, its match
 abbrev pub without_protected : ℕ → Bool → Ends ℕ → Ends ℕ
 without_protected inner closed e =
     let moved = with_last_before inner (record e { right = ending_of closed ++ e.right }) in
     record moved { right = codes "(" ++ moved.right }
 
--- the kind of the function that the last mark begins, the marks being given from the last one on; none where it ends an
--- argument, and where there is no mark
+-- the kind of the function that the last mark begins; none if it ends an argument, or if there is no mark; the marks
+-- are given from the last one on
 abbrev pub last_begun : List Mark → Option Kind
 last_begun [] = None
 last_begun (m ∷ marks) = m.frame
 
--- how a function of this kind begins; empty where none is named
+-- how a function of this kind begins; empty if none is named
 abbrev pub beginning_by : Option Kind → List ℕ
 beginning_by None = []
 beginning_by (Some kind) = beginning_of kind
 
 -- ---- over a call
 
--- so many bytes of a value are there, where it went: on the right, where it was to be scanned, or else on the left
+-- so many bytes of a value are there, where it went: on the right, if it was to be scanned, or else on the left
 abbrev pub HasValue : Bool → ℕ → Ends ℕ → Type 0
 HasValue true n e = n ≤ length e.right
 HasValue false n e = n ≤ length e.left

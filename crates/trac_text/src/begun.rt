@@ -90,8 +90,7 @@ fn next_function(marks: &[Mark], from: usize) -> usize
     place
 }
 
-// The text before the mark of this number, which begins a function, and its marks; all of it where
-// there is no such mark.
+// The text before the mark of this number, which begins a function, and its marks; all of it if there is no such mark.
 fn front_of<'a>(text: &'a [u8], marks: &'a [Mark], number: usize) -> (&'a [u8], &'a [Mark])
     requires ordered { IsOrdered (record { text = text.now; marks = marks.now }) }
     requires next { IsNextFunction marks.now number }

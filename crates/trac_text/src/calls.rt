@@ -41,8 +41,8 @@ pub fn cut_function<E: TwoEnds<u8, A>, M: TwoEnds<Mark, A>, A: Allocator + Copy>
     marks.cut_left(marks.left().len() - beginning.number);
 }
 
-/// Puts a value where it goes by T-64's rule: at the end of the text on the left for a neutral function, where it is
-/// not forced, else before the text on the right. There has to be room for it. It takes no memory.
+/// Puts a value where it goes by T-64's rule. The value of a neutral function goes at the end of the text on the left,
+/// if it is not forced. Any other goes before the text on the right. There has to be room for it. It takes no memory.
 pub fn put_value<E: TwoEnds<u8, A>, A: Allocator + Copy>(
     text: &mut E,
     kind: Kind,

@@ -14,8 +14,8 @@ use trac_gap::TwoEnds;
 use trac_rules::byte::CLOSING;
 use trac_rules::kind::Kind;
 
-// Takes a value of n bytes off again, from where it went: from the front of the text on the right, where it was to be
-// scanned, or else from the end of the one on the left.
+// Takes a value of n bytes off again, from where it went. That is the front of the text on the right if it was to be
+// scanned, or else the end of the one on the left.
 fn take_value<E: TwoEnds<u8, A>, A: Allocator + Copy>(text: &mut E, scanned: bool, n: usize)
     requires { HasValue scanned n (E.ends text.old) }
     ensures { E.ends text.new ≡ without_value scanned n (E.ends text.old) }
@@ -27,9 +27,9 @@ fn take_value<E: TwoEnds<u8, A>, A: Allocator + Copy>(text: &mut E, scanned: boo
     text.cut_left(n);
 }
 
-/// Takes a value of n bytes off again, from where it went, and puts a `)` before the text on the right and
-/// the function that it ends, with its arguments, at the end of the one on the left. There has to be room
-/// for these. It takes no memory.
+/// Takes a value of n bytes off again, from where it went. Puts a `)` before the text on the right. Puts the function
+/// that this `)` ends, with its arguments, at the end of the text on the left. There has to be room for these. It takes
+/// no memory.
 pub fn put_call<E: TwoEnds<u8, A>, M: TwoEnds<Mark, A>, A: Allocator + Copy>(
     text: &mut E,
     marks: &mut M,

@@ -17,7 +17,7 @@ use trac_rules::kind::Kind;
 use trac_rules::refusal::Refusal;
 
 /// Copies of the base text and all begun functions of a neutral text, whose arguments have fewer than 2^32 bytes
-/// together. Refused with `Memory` where the allocator refuses.
+/// together. Refused with `Memory` if the allocator refuses.
 pub fn kept_of<A: Allocator + Copy>(
     alloc: A,
     text: NeutralText<'_>,

@@ -6,8 +6,8 @@ use std::alloc::Allocator;
 use trac_gap::TwoEnds;
 use trac_rules::refusal::Refusal;
 
-/// Makes room for n more items. What the lists hold stays. Refused with `Memory` where the allocator
-/// refuses, and then nothing changed.
+/// Makes room for n more items. What the lists hold stays. Refused with `Memory` if the allocator refuses, and then
+/// nothing changed.
 #[inline]
 pub fn reserve<T: Copy, A: Allocator + Copy, E: TwoEnds<T, A>>(
     list: &mut E,
@@ -19,7 +19,7 @@ pub fn reserve<T: Copy, A: Allocator + Copy, E: TwoEnds<T, A>>(
     ensures ok { OnOk result (item_count (E.ends list.new) + n ≤ (E.ends list.new).capacity) }
     ensures unchanged { OnErr result (E.ends list.new ≡ E.ends list.old) }
 
-    // Memory is refused only where there is no room.
+    // Memory is refused only if there is no room.
     ensures full { OnErr result ((E.ends list.old).capacity < item_count (E.ends list.old) + n) }
     ensures err { IsOkUnless result Refusal.Memory }
 {

@@ -86,7 +86,7 @@ impl<'a> NeutralText<'a> {
         self.functions
     }
 
-    /// The innermost begun function, which the next `)` ends by T-64's rule; none where no function is begun.
+    /// The innermost begun function, which the next `)` ends by T-64's rule; none if no function is begun.
     pub fn innermost(&self) -> Option<Innermost<'a>>
         ensures { MatchOption result ((neutral_of self.now).frames ≡ [])
             (λ f. IsInnermost self.now f.number f.place f.kind f.arguments) }
@@ -139,7 +139,7 @@ impl<'a> NeutralText<'a> {
     }
 }
 
-// The innermost function of a text with these marks; none where no function is begun.
+// The innermost function of a text with these marks; none if no function is begun.
 pub(crate) fn innermost_in<'a>(text: &'a [u8], marks: &'a [Mark]) -> Option<Innermost<'a>>
     requires { IsOrdered (record { text = text.now; marks = marks.now }) }
     ensures { MatchOption result ((neutral_of (record { text = text.now; marks = marks.now })).frames ≡ [])

@@ -20,7 +20,7 @@ use trac_rules::refusal::Refusal;
 /// A begun function: its kind, and its arguments, of which the last is being gathered.
 type Function<A> = (Kind, Vec<Vec<u8, A>, A>);
 
-// How many bytes texts hold together; `usize::MAX` where there are more.
+// How many bytes texts hold together; `usize::MAX` if there are more.
 fn total_len<A: Allocator + Copy>(texts: &[Vec<u8, A>]) -> usize
     ensures { result ≡ min (total_length (texts_of texts.now)) (2 ^ 64 - 1) }
 {
@@ -42,8 +42,8 @@ fn argument_len<A: Allocator + Copy>(functions: &[Function<A>]) -> usize
     total
 }
 
-/// How many bytes active text, base text and the arguments of begun functions hold together;
-/// `usize::MAX` where there are more.
+/// How many bytes active text, base text and the arguments of begun functions hold together; `usize::MAX` if there are
+/// more.
 pub fn text_len<A: Allocator + Copy>(active: &[u8], base: &[u8], functions: &[Function<A>]) -> usize
     ensures { result
         ≡ min (length active.now + length base.now + function_bytes (functions_of functions.now)) (2 ^ 64 - 1) }
@@ -54,7 +54,7 @@ pub fn text_len<A: Allocator + Copy>(active: &[u8], base: &[u8], functions: &[Fu
         .saturating_add(argument_len(functions))
 }
 
-/// How many marks begun functions have, as many as arguments; `usize::MAX` where there are more.
+/// How many marks begun functions have, as many as arguments; `usize::MAX` if there are more.
 pub fn mark_count<A: Allocator + Copy>(functions: &[Function<A>]) -> usize
     ensures { result ≡ min (argument_count (functions_of functions.now)) (2 ^ 64 - 1) }
 {
@@ -158,8 +158,8 @@ fn marks_of<A: Allocator + Copy, M: TwoEnds<Mark, A>>(
 }
 
 /// Lists that hold these texts and begun functions, from the outermost on: active text, base text and arguments, and
-/// the marks; with room for at least so many bytes and marks. Each function has to have an argument, the one that is
-/// being gathered, and texts and marks may not pass the limits. Refused with `Memory` where the allocator refuses.
+/// the marks. They have room for at least so many bytes and marks. Each function has to have an argument, the one that
+/// is being gathered, and texts and marks may not pass the limits. Refused with `Memory` if the allocator refuses.
 pub fn texts_and_marks<A: Allocator + Copy, E: TwoEnds<u8, A>, M: TwoEnds<Mark, A>>(
     alloc: A,
     active: &[u8],

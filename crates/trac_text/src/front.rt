@@ -125,7 +125,7 @@ fn far_plain_end(text: &[u8], from: usize, end: usize) -> usize
     place
 }
 
-// Whether one of the group of bytes that begins at this place is low. Where none is, all of them are plain.
+// Whether one of the group of bytes that begins at this place is low. If none is, all of them are plain.
 fn group_has_low(text: &[u8], at: usize) -> bool
     requires { at + GROUP ≤ length text.now }
     ensures { result ≡ false → ((k : ℕ) → k < at → is_plain_byte (get_or text.now k 0) ≡ true)
@@ -145,8 +145,8 @@ fn is_low(b: u8) -> bool
     (b < b'-') & (b != b' ')
 }
 
-/// Whether the rule for this front makes a mark, where there are so many marks: a function is begun, or,
-/// inside of one, a further argument.
+/// Whether the rule for this front makes a mark, if there are so many marks: a function is begun, or, inside of one, a
+/// further argument.
 pub fn makes_mark(front: Front, marks: usize) -> bool
     ensures { result ≡ adds_mark front marks }
 {

@@ -6,6 +6,6 @@ use trac_rules::kind::Kind;
 pub struct Mark {
     /// How many bytes of the neutral text stand before it.
     pub place: usize,
-    /// The kind of the function that is begun here; none where a finished argument ends.
+    /// The kind of the function that is begun here; none if a finished argument ends here.
     pub frame: Option<Kind>,
 }

@@ -4,8 +4,8 @@ ghost use Rattle.trac_rules.specs.Matching.{match_of};
 
 use trac_rules::byte;
 
-/// The place of the `)` that matches the `(` before this text, by T-64's rule; none where there is
-/// no match. Bytes count from 0.
+/// The place of the `)` that matches the `(` before this text, by T-64's rule; none if there is no match. Bytes count
+/// from 0.
 pub fn match_in(text: &[u8]) -> Option<usize>
     ensures place { result ≡ match_of text.now }
     ensures within { IfSome result (λ k. k < length text.now) }

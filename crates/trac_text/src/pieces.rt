@@ -50,8 +50,8 @@ pub type Functions<A = Global> = Vec<(Kind, Pieces<A>), A>;
 
 impl<A: Allocator + Copy> Pieces<A> {
     /// A copy of these arguments, which have fewer than 2^32 bytes together. It is made in memory for exactly their
-    /// bytes and a length for each but the last: where there are no bytes, or no further argument, no block is taken.
-    /// It takes time for the bytes and the arguments. Refused with `Memory` where the allocator refuses.
+    /// bytes and a length for each but the last. If there are no bytes, or no further argument, no block is taken. It
+    /// takes time for the bytes and the arguments. Refused with `Memory` if the allocator refuses.
     pub fn of(alloc: A, arguments: &Args<'_>) -> Result<Self, Refusal>
         requires short { length (concat arguments.now) < 2 ^ 32 }
         ensures same { IfOk result (λ p. all_texts p ≡ arguments.now) }

@@ -48,9 +48,9 @@ pub fn take_first<A: Allocator + Copy, E: TwoEnds<u8, A>>(text: &mut E) -> u8
     first
 }
 
-/// Takes the first n bytes on the right away, and puts a mark after all others, at the end of the text on the left: of
-/// a function of this kind, or, where none is named, of a further argument. Refused with `Memory` where the marks have
-/// no room and the allocator refuses; then nothing changed but that no mark is left on the right.
+/// Takes the first n bytes on the right away, and puts a mark after all others, at the end of the text on the left. It
+/// is the mark of a function of this kind, or, if none is named, of a further argument. Refused with `Memory` if the
+/// marks have no room and the allocator refuses; then nothing changed but that no mark is left on the right.
 #[inline]
 pub fn push_mark<A: Allocator + Copy, E: TwoEnds<u8, A>, M: TwoEnds<Mark, A>>(
     text: &mut E,
@@ -68,7 +68,7 @@ pub fn push_mark<A: Allocator + Copy, E: TwoEnds<u8, A>, M: TwoEnds<Mark, A>>(
     ensures unchanged_marks { OnErr result ((M.ends marks.new).left ≡ (M.ends marks.old).left) }
     ensures unchanged_room { OnErr result ((M.ends marks.new).capacity ≡ (M.ends marks.old).capacity) }
 
-    // Memory is refused only where there is no room.
+    // Memory is refused only if there is no room.
     ensures full { OnErr result ((M.ends marks.old).capacity ≤ length (M.ends marks.old).left) }
     ensures err { IsOkUnless result Refusal.Memory }
 {
@@ -83,8 +83,8 @@ pub fn push_mark<A: Allocator + Copy, E: TwoEnds<u8, A>, M: TwoEnds<Mark, A>>(
     Ok(())
 }
 
-/// Empties both lists, and puts the idle program on the right, as T-64 does where the active text is empty. Refused
-/// with `Memory` where there is no room for it and the allocator refuses; then nothing changed.
+/// Empties both lists, and puts the idle program on the right, as T-64 does when the active text is empty. Refused with
+/// `Memory` if there is no room for it and the allocator refuses; then nothing changed.
 pub fn restart<A: Allocator + Copy, E: TwoEnds<u8, A>, M: TwoEnds<Mark, A>>(
     text: &mut E,
     marks: &mut M,

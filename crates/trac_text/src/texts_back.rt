@@ -11,8 +11,8 @@ use trac_gap::TwoEnds;
 use trac_rules::byte::{CLOSING, OPENING};
 use trac_rules::kind::Kind;
 
-/// Moves a protected text of this length, which is at the end of the left, back to the right, and puts its `(` before
-/// it and, where it was closed, a `)` after it. It takes no memory.
+/// Moves a protected text of this length, which is at the end of the left, back to the right. Puts its `(` before it
+/// and, if it was closed, a `)` after it. It takes no memory.
 pub fn give_protected_back<A: Allocator + Copy, E: TwoEnds<u8, A>>(
     text: &mut E,
     inner: usize,
@@ -45,7 +45,7 @@ pub fn pop_mark<A: Allocator + Copy, E: TwoEnds<u8, A>, M: TwoEnds<Mark, A>>(
     text.put_right(bytes);
 }
 
-// The kind of the function that the last mark begins; none where it ends an argument, and where there is no mark.
+// The kind of the function that the last mark begins; none if it ends an argument, or if there is no mark.
 fn kind_of_last(marks: &[Mark]) -> Option<Kind>
     ensures { result ≡ last_begun (reverse marks.now) }
 {

@@ -17,6 +17,6 @@ goal_of_aim (aims.Rest most) = leaves_at_most most
 goal_of_aim (aims.Unprinted count) = is_unprinted count
 goal_of_aim (aims.Doubtful width) = is_doubtful width
 
--- a state meets what a walker is sent to, where it is sent to something
+-- a state meets what a walker is sent to, if it is sent to something
 abbrev pub MeetsAim : Option Aim → State → Type 0
 MeetsAim aim s = MatchOption aim (Unit {0}) (λ a. goal_of_aim a s ≡ true)

@@ -16,7 +16,7 @@ abbrev pub HasStayed : {X : Type 0} → Search → X → X → Type 0
 HasStayed Met old new = Unit {0}
 HasStayed (Unmet why step) old new = new ≡ old
 
--- where this is said of a search, it has left that as it was
+-- if this is said of a search, it has left that as it was
 abbrev pub IsAsToldOf : {X : Type 0} → Option Stop → X → X → Type 0
 IsAsToldOf (Some (stops.Unmet why)) old new = new ≡ old
 IsAsToldOf (Some (stops.UnmetUpTo why step)) old new = new ≡ old
@@ -25,12 +25,12 @@ IsAsToldOf other old new = Unit {0}
 
 -- ---- within the room that there is
 
--- how much the records may weigh where the session is not run anew, of which they may weigh so much in all
+-- how much the records may weigh if the session is not run anew, of which they may weigh so much in all
 abbrev pub near_weight : ℕ → PlainSession → ℕ
 near_weight most old = min most (weights_from old.earlier + NEAR_WEIGHT)
 
--- why a search of at most so many steps ended, after so many: as it says, but it may lack room where it has steps left,
--- and where the output is too long
+-- why a search of at most so many steps ended, after so many: as it says. But it may lack room if it has steps left, or
+-- if the output is too long
 abbrev pub IsReason : ℕ → ℕ → Option Refusal → Option Refusal → Type 0
 IsReason steps most (Some NotMet) why = (steps < most → why ≡ Some JournalFull) × (steps ≡ most → why ≡ Some NotMet)
 IsReason steps most (Some TooLong) why = (why ≡ Some TooLong) ⊎ (why ≡ Some JournalFull)
@@ -41,8 +41,8 @@ abbrev pub is_unmet : Option Refusal → Bool
 is_unmet (Some NotMet) = true
 is_unmet why = false
 
--- a search of at most `most` steps, which stops where the records weigh more than `weight` and takes at most `room` of
--- these steps, and why it ended
+-- a search of at most `most` steps, and why it ended. It stops if the records weigh more than `weight`, and takes at
+-- most `room` of these steps
 abbrev pub HasWalked : ℕ → Goal → ℕ → ℕ → PlainSession → ℕ → Option Refusal → PlainSession → Type 0
 HasWalked weight goal room most old steps why new =
     (said : Option Refusal) × IsSearchWithin weight goal room old steps said new × IsReason steps most said why

@@ -23,7 +23,7 @@ deed_at (InForm name i) = Puts
 deed_at (InHeld number name i) = Puts
 deed_at place = Gives
 
--- what a call did that passed a byte on, where the way begins at the step of this number
+-- what a call did that passed a byte on, if the way begins at the step of this number
 abbrev pub deed_of : ℕ → Passing → Deed
 deed_of step call = record { step = step - call.steps; done = deed_at call.from }
 
@@ -31,12 +31,12 @@ deed_of step call = record { step = step - call.steps; done = deed_at call.from 
 abbrev pub deeds_said : {A : Type 0} → Way A → List Deed
 deeds_said {A} way = map (λ (told : Told A). record { step = told.step; done = told.deed }) way.told.items
 
--- all of so many calls, where they are few enough; else the first of them
+-- all of so many calls, if they are few enough; else the first of them
 abbrev pub shown : {X : Type 0} → ℕ → List X → List X
 shown count calls = if nat_lt count LINE_COUNT then calls else take FIRST_COUNT calls
 
--- after one call more it is counted, and said after those before; or, where they are too many, the
--- first of these alone are
+-- after one call more it is counted, and said after those before; or, if they are too many, the first of these alone
+-- are
 pub record Tells {A : Type 0} (old : Way A) (call : Passing) (new : Way A) : Type 0 where
   pub begins : new.step ≡ old.step
   pub count : new.count ≡ min (old.count + 1) (2 ^ 64 - 1)
@@ -50,10 +50,10 @@ pub record HasTold {A : Type 0} (step : ℕ) (calls : List Passing) (way : Way A
   pub count : way.count ≡ min (length calls) (2 ^ 64 - 1)
   pub said : deeds_said way ≡ shown (length calls) (map (deed_of step) calls)
 
--- so it is after a trace, but where memory was refused to say more
+-- so it is after a trace, unless memory was refused to say more
 abbrev pub AreTold : {A : Type 0} → ℕ → List Passing → End → Way A → Type 0
 AreTold step calls end way = end ≢ Untold → HasTold step calls way
 
--- the number of the step that comes next, where so many are forgotten and so many kept, as far as 64 bits count
+-- the number of the step that comes next, if so many are forgotten and so many kept, as far as 64 bits count
 abbrev pub number_of_step : ℕ → ℕ → ℕ
 number_of_step forgotten kept = min (forgotten + kept) (2 ^ 64 - 1)

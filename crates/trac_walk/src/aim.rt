@@ -22,7 +22,7 @@ pub enum Aim<'a> {
     Rest(usize),
     /// At most so many bytes of output that are not released.
     Unprinted(usize),
-    /// A step of which there is a doubt, where numbers are of this width.
+    /// A step of which there is a doubt, if numbers are of this width.
     Doubtful(Width),
 }
 

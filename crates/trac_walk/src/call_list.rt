@@ -8,11 +8,12 @@ use trac_screen::{Before, ScreenLine, call_into, outcome_into, takes_default};
 use trac_session::Refusal;
 
 impl<A: Allocator + Copy> Telling<'_, A> {
-    /// A line for each of the last calls of the program's own, the earliest first: the number of its step, the call,
-    /// and its value, cut to the screen unless they are wanted whole; and whether the value is its default argument. To
-    /// find them it goes back, and then forward again to where it was. Where a step is refused on the way, for memory
-    /// alone, the lines end there, and the refusal is returned; where that is refused too, it stands there. The error
-    /// is that memory was refused for the lines, or to search a form for the text of `in`, here and below.
+    /// A line for each of the last calls of the program's own, the earliest first. It has the number of the step of the
+    /// call, the call, and its value, cut to the screen unless they are wanted whole. It also says whether the value is
+    /// its default argument. To find the calls it goes back, and then forward again to where it was. If a step is
+    /// refused on the way, for memory alone, the lines end there, and the refusal is returned; if that is refused too,
+    /// it stands there. The error is that memory was refused for the lines, or to search a form for the text of `in`,
+    /// here and below.
     pub(crate) fn calls_into(
         &mut self,
         count: u64,

@@ -10,8 +10,8 @@ use trac_orders::Move;
 use trac_screen::{Glance, SEARCH_LIMIT, Stop};
 use trac_session::Refusal;
 
-/// Carries out a move, and says why it stopped before its goal, where it did. It takes no memory but for steps, and for
-/// a copy of the form of which the last change is looked for.
+/// Carries out a move, and says why it stopped before its goal, if it did. It takes no memory but for steps, and for a
+/// copy of the form of which the last change is looked for.
 ///
 /// A search forward goes on after so many steps on which it has met nothing.
 pub fn carry_out<A: Allocator + Copy>(
@@ -69,7 +69,7 @@ fn to_end<A: Allocator + Copy>(walker: &mut Walker<A>) -> Option<Stop> {
     }
 }
 
-// Back to the first step that is kept. Where that is not the start of the program, it is said.
+// Back to the first step that is kept. If that is not the start of the program, it says so.
 fn to_start<A: Allocator + Copy>(walker: &mut Walker<A>) -> Option<Stop> {
     let stopped = stop_back(walker.back(u64::MAX));
     if walker.first_step() == 0 {
@@ -78,8 +78,8 @@ fn to_start<A: Allocator + Copy>(walker: &mut Walker<A>) -> Option<Stop> {
     stopped
 }
 
-// Forward to a goal, after so many steps on which it was not met. Where it is not met before a step is refused, or by
-// the steps of a search, the walker stays as it was.
+// Forward to a goal, after so many steps on which it was not met. If it is not met before a step is refused, or by the
+// steps of a search, the walker stays as it was.
 fn until<A: Allocator + Copy>(walker: &mut Walker<A>, aim: Aim<'_>, searched: u64) -> Option<Stop>
     ensures { IsAsToldOf result walker.old.window walker.new.window }
 {
@@ -165,7 +165,7 @@ fn over_call<A: Allocator + Copy>(walker: &mut Walker<A>) -> Option<Stop> {
     stop_before_end(walker.forward_to(Aim::Rest(rest), SEARCH_LIMIT))
 }
 
-// Back to where the function began whose value ends here, the way over it back; forward again where there is none.
+// Back to where the function began whose value ends here, the way over it back; forward again if there is none.
 fn over_back<A: Allocator + Copy>(walker: &mut Walker<A>) -> Option<Stop> {
     let here = walker.step();
     let stopped = to_beginning(walker, here)?;
@@ -175,8 +175,8 @@ fn over_back<A: Allocator + Copy>(walker: &mut Walker<A>) -> Option<Stop> {
     }
 }
 
-// Back to the beginning of a function whose value ends at this step, that of the earliest where there are several: what
-// is left to scan here was left after the `)` that ended it, and until here no less was left.
+// Back to the beginning of a function whose value ends at this step, that of the earliest if there are several. What is
+// left to scan here was left after the `)` that ended it, and until here no less was left.
 fn to_beginning<A: Allocator + Copy>(walker: &mut Walker<A>, here: u64) -> Option<Stop> {
     let rest = walker.glance().rest;
     let unmet = match walker.return_to(Aim::Rest(rest)) {

@@ -45,7 +45,7 @@ fn line_into<A: Allocator + Copy>(
     line.end_before(place, out)
 }
 
-// Where the byte comes from that a doubt is about, after a sign; nothing where there is none.
+// Where the byte comes from that a doubt is about, after a sign; nothing if there is none.
 fn place_into<A: Allocator + Copy>(
     walker: &mut Walker<A>,
     program: &[u8],
@@ -122,7 +122,7 @@ fn text_begins<A: Allocator + Copy>(walker: &Walker<A>) -> u64 {
         .saturating_add(layout_len(walker.unread()) as u64)
 }
 
-// How many blanks and line ends stand at the front of a text; 0 where nothing else is in it.
+// How many blanks and line ends stand at the front of a text; 0 if nothing else is in it.
 fn layout_len(text: &[u8]) -> usize {
     for (place, byte) in text.iter().enumerate() {
         if !matches!(*byte, b' ' | b'\t' | b'\r' | b'\n') {

@@ -20,6 +20,5 @@ mod walking;
 
 pub use aim::Aim;
 pub use doubts_told::place_of;
-pub use origins::Unsaid;
 pub use walker::Walker;
 pub use walking::{Settings, walk};

@@ -121,8 +121,8 @@ fn back_into_argument<A: Allocator + Copy>(walker: &mut Walker<A>, argument: usi
     Within::Unkept
 }
 
-// Goes to the call that gave the byte at this place of the active text from a form in which a gap follows, which was
-// filled with nothing: which item the gap is, and its number. None where there is no such call.
+// Goes to the call that gave the byte at this place of the active text from a form in which a gap follows that was
+// filled with nothing. Returns which item the gap is, and its number. None if there is no such call.
 fn to_gap<A: Allocator + Copy>(
     alloc: A,
     walker: &mut Walker<A>,

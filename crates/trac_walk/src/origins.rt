@@ -14,7 +14,7 @@ use trac_session::Machine;
 
 /// A witness of a byte's way of which nothing is said.
 #[derive(Clone, Copy)]
-pub struct Unsaid;
+pub(crate) struct Unsaid;
 
 impl<A: Allocator + Copy> Witness<A> for Unsaid {
     fn passed(&mut self, _: &Machine<A>, _: u64, _: Place<'_>) -> Result<(), AllocError> {
@@ -23,10 +23,10 @@ impl<A: Allocator + Copy> Witness<A> for Unsaid {
 }
 
 impl<A: Allocator + Copy> Telling<'_, A> {
-    /// Goes back to the step that made a byte, or read it, and tells the way there: a line for each call that carried
-    /// it, the latest first, and then where it stands. Of a byte of the program it says the line and the column. It
-    /// takes memory for the lines alone. The error is that memory was refused, here and below, or that the name of a
-    /// form could not be kept.
+    /// Goes back to the step that made a byte, or read it, and tells the way there. That is a line for each call that
+    /// carried it, the latest first, and then where it stands. Of a byte of the program it says the line and the
+    /// column. It takes memory for the lines alone. The error is that memory was refused, here and below, or that the
+    /// name of a form could not be kept.
     pub(crate) fn way_into(&mut self, spot: Spot<'_>) -> Result<(), AllocError> {
         if let Some(argument) = argument_meant(self.walker, spot) {
             return self.argument_into(argument, true);
@@ -78,7 +78,7 @@ impl<A: Allocator + Copy> Telling<'_, A> {
     }
 
     /// A line that says where the walker stands, and where the name of the call that comes next was written. For that
-    /// it goes back, as `way_into` does, and forward again; where a step is refused on the way there, for memory alone,
+    /// it goes back, as `way_into` does, and forward again. If a step is refused on the way there, for memory alone,
     /// that is said, and it stands there.
     pub(crate) fn written_into(&mut self) -> Result<(), AllocError> {
         let place = match of_next(self.walker) {
@@ -118,8 +118,8 @@ impl<A: Allocator + Copy> Telling<'_, A> {
         }
     }
 
-    // Of an empty argument what left it so; of another one how a byte of it is meant, where all of it was named, or
-    // that it has no such byte.
+    // Of an empty argument what left it so. Of another one how a byte of it is meant, if all of it was named, or that
+    // it has no such byte.
     fn argument_into(&mut self, argument: u64, is_whole: bool) -> Result<(), AllocError> {
         match argument_len(self.walker, argument) {
             Ok(0) => self.empty_argument_into(argument as usize),
@@ -184,7 +184,7 @@ fn stands_at<A: Allocator + Copy>(walker: &Walker<A>, spot: Spot<'_>) -> bool {
     }
 }
 
-// The argument that `y . A` means: it is read as of a form whose name is a dot, so it is meant where there is none.
+// The argument that `y . A` means: it is read as of a form whose name is a dot, so it is meant if there is none.
 fn argument_meant<A: Allocator + Copy>(walker: &Walker<A>, spot: Spot<'_>) -> Option<u64> {
     match spot {
         Spot::OfForm(b".", argument) if walker.sight().store.get(b".").is_none() => Some(argument),
@@ -270,7 +270,7 @@ pub fn origin_of<A: Allocator + Copy>(walker: &Walker<A>, program: &[u8], end: E
     }
 }
 
-// Which byte of all input a way ended at, where it was read.
+// Which byte of all input a way ended at, if it was read.
 fn number_read<A: Allocator + Copy>(walker: &Walker<A>, end: &End) -> Option<u64> {
     match end {
         End::Read(n) => Some(walker.input_number(*n)),

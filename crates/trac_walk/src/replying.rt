@@ -80,7 +80,7 @@ impl<A: Allocator + Copy> Memo<A> {
 impl<A: Allocator + Copy> Telling<'_, A> {
     /// Does what a line asks for, and says what is to be said of it; whether the dialogue goes on. An empty line asks
     /// for the last move again, for a search whose steps were spent from where it ended, or to follow a byte as the
-    /// last line that did; before the first of these it says where the walk stands. The error is that memory was
+    /// last line that did. Before the first of these it says where the walk stands. The error is that memory was
     /// refused, here and below.
     pub(crate) fn reply_into(
         &mut self,
@@ -223,7 +223,7 @@ impl<A: Allocator + Copy> Telling<'_, A> {
         memo.places.keep(start, self.walker.step())
     }
 
-    // Says why a move stopped, where it did, and once that steps are forgotten, where they are, and up to which.
+    // Says why a move stopped, if it did, and once that steps are forgotten, if they are, and up to which.
     fn tell_stop(&mut self, stop: Option<Stop>, told: &mut bool) -> Result<(), AllocError> {
         if let Some(stop) = stop {
             self.stop(stop)?;
@@ -236,8 +236,8 @@ impl<A: Allocator + Copy> Telling<'_, A> {
         window_into(self.alloc, first_step, self.walker.forgetting(), self.out)
     }
 
-    // Feeds a line, and says where it stands, or why the line was refused. Where a text is read that neither the line
-    // nor what was unread before it ends, it also says that.
+    // Feeds a line, and says where it stands, or why the line was refused. If a text is read that neither the line nor
+    // what was unread before it ends, it also says that.
     fn feed(&mut self, text: &[u8]) -> Result<(), AllocError> {
         if let Err(refusal) = self.walker.feed(self.alloc, text) {
             self.say(refused(refusal))?;

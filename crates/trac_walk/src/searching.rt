@@ -78,13 +78,13 @@ impl Room {
 pub enum Search {
     /// It stands at what was looked for.
     Met,
-    /// A step was refused so, after so many steps on which nothing was met; `NotMet` where all its steps were
-    /// taken. It stands where it began.
+    /// A step was refused so, after so many steps on which nothing was met; `NotMet` if all its steps were taken. It
+    /// stands where it began.
     Unmet(Refusal, u64),
 }
 
 impl<A: Allocator + Copy> Walker<A> {
-    /// Goes forward to a goal, by so many steps at most. Where it is not met, or a step is refused before, also for
+    /// Goes forward to a goal, by so many steps at most. If it is not met, or a step is refused before, also for
     /// memory, all that is kept is as it was. The walker runs the program anew from its start, beside it, to go further
     /// than 1,048,576 steps from the first one that is kept, or over records that weigh more than it may keep. It does
     /// so too after as many steps as it keeps, if the records weigh 32,768 more than at first.
@@ -164,8 +164,8 @@ impl<A: Allocator + Copy> Walker<A> {
     }
 }
 
-// Goes forward to a goal, by so many steps at most, as far as there is room for their records:
-// `JournalFull` where there is no more.
+// Goes forward to a goal, by so many steps at most, as far as there is room for their records: `JournalFull` if there
+// is no more.
 #[tactic(auto, using(crate::proofs::SteppedBack::came_back))]
 fn search_near<A: Allocator + Copy>(
     session: &mut Session<A>,
@@ -226,7 +226,7 @@ fn has_met_nothing(walk: Walk) -> bool
     matches!(walk.why, Some(Refusal::NotMet))
 }
 
-// Goes forward to a goal over one leg: `NotMet` where it meets nothing there.
+// Goes forward to a goal over one leg: `NotMet` if it meets nothing there.
 fn walk_leg<A: Allocator + Copy>(session: &mut Session<A>, aim: Aim<'_>, leg: Leg) -> Walk
     ensures within { result.done ≤ leg.most }
     ensures walked { repeated Step result.done session.old ≡ Some session.new }
@@ -245,8 +245,8 @@ fn walk_leg<A: Allocator + Copy>(session: &mut Session<A>, aim: Aim<'_>, leg: Le
     session.forward_to_within(goal_for(aim), leg.most, leg.weight)
 }
 
-// Why a walk towards a goal ended. Where its records weigh too much before so many steps, or what is printed next has
-// no room beside what is kept, there is no room for the next step.
+// Why a walk towards a goal ended. If its records weigh too much before so many steps, or what is printed next has no
+// room beside what is kept, there is no room for the next step.
 fn full_for<A: Allocator + Copy>(
     session: &Session<A>,
     done: u64,

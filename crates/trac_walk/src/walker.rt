@@ -23,9 +23,9 @@ use trac_window::Window;
 // record takes at most so many bytes for each that it weighs.
 const WEIGHED_BYTES: u64 = 12;
 
-/// A session over a program, and how far it is from the start. Where the journal is full or its records weigh
-/// too much, and where there is no room for more output, the walker forgets the older half of the steps, with
-/// what they printed, and goes on.
+/// A session over a program, and how far it is from the start. If the journal is full, or its records weigh too much,
+/// or there is no room for more output, the walker makes room. It forgets the older half of the steps, with what they
+/// printed, and goes on.
 #[derive(Drop)]
 pub struct Walker<A: Allocator + Copy> {
     // the session, and what of it is forgotten
@@ -34,7 +34,7 @@ pub struct Walker<A: Allocator + Copy> {
     limit: usize,
     // how much the records may weigh
     weight: u64,
-    // why some were forgotten first; not said where the journal was full
+    // why some were forgotten first; not said if the journal was full
     pub(crate) reason: Option<Forgetting>,
     // all input so far, which begins with the program
     input: Vec<u8, A>,
@@ -69,8 +69,8 @@ impl<A: Allocator + Copy> Walker<A> {
         })
     }
 
-    /// At the start of the program again, with all input so far.
-    /// Refused as `TooLong`, where that has more than 33,554,432 bytes, and as `Memory`.
+    /// At the start of the program again, with all input so far. Refused as `TooLong`, if that has more than 33,554,432
+    /// bytes, and as `Memory`.
     pub(crate) fn window_anew(&self) -> Result<Window<A>, Refusal> {
         let input = self.input.as_slice();
         let mut window = match Window::over(self.alloc, input, JOURNAL_LIMIT, self.width()) {
@@ -252,8 +252,8 @@ impl<A: Allocator + Copy> Walker<A> {
         self.go(None, most)
     }
 
-    /// Goes forward to a goal, by so many steps at most, until one is refused, which is returned; `NotMet` where the
-    /// steps were taken and the goal was not met.
+    /// Goes forward to a goal, by so many steps at most, until one is refused, which is returned. Returns `NotMet` if
+    /// the steps were taken and the goal was not met.
     pub fn forward_to(&mut self, aim: Aim<'_>, most: u64) -> Option<Refusal>
         ensures { result ≡ None → goal_of_aim aim.entry self.new.window.session.last ≡ true }
     {
@@ -276,7 +276,7 @@ impl<A: Allocator + Copy> Walker<A> {
         walk_on(&mut self.window.session, None, room, self.weight).why
     }
 
-    // Goes forward, to a goal where there is one, walk by walk: after each that ended for want of room it makes room.
+    // Goes forward, to a goal if there is one, walk by walk: after each that ended for want of room it makes room.
     fn go(&mut self, aim: Option<Aim<'_>>, most: u64) -> Option<Refusal>
         ensures { result ≡ None → MeetsAim aim.entry self.new.window.session.last }
     {
@@ -323,13 +323,13 @@ impl<A: Allocator + Copy> Walker<A> {
         self.window.session.back(steps).why
     }
 
-    /// Goes back to a goal, and forward again where it is not met on the way back: then `NotMet` is returned. Where a
-    /// step was refused on the way forward again, the walker stands there, and that refusal is returned.
+    /// Goes back to a goal, and forward again if it is not met on the way back: then `NotMet` is returned. If a step
+    /// was refused on the way forward again, the walker stands there, and that refusal is returned.
     pub fn return_to(&mut self, aim: Aim<'_>) -> Option<Refusal> {
         refusal_of(self.window.session.return_to(goal_for(aim)))
     }
 
-    /// Goes back to the call that changed the form of this name last, as `return_to` does. `Memory` also where there is
+    /// Goes back to the call that changed the form of this name last, as `return_to` does. `Memory` also if there is
     /// none for a copy of the form, and then it does not move.
     pub fn return_to_change(&mut self, name: &[u8]) -> Option<Refusal> {
         let Ok(form) = form_of(self.sight().store, name) else {
@@ -345,7 +345,7 @@ impl<A: Allocator + Copy> Walker<A> {
         }
     }
 
-    // Forgets the older half of the steps that are kept where there are enough, and as often as their records weigh too
+    // Forgets the older half of the steps that are kept, if there are enough, and as often as their records weigh too
     // much.
     fn make_room(&mut self) {
         if self.window.session.len() >= self.limit {
@@ -359,7 +359,7 @@ impl<A: Allocator + Copy> Walker<A> {
         }
     }
 
-    // Forgets the older half of the journal where that is why the next step is refused: what it prints has no room.
+    // Forgets the older half of the journal if that is why the next step is refused: what it prints has no room.
     // Whether it did; it may take several times, until the output of the steps that are left is short enough.
     fn make_output_room(&mut self) -> bool {
         let len = self.window.session.len();
@@ -375,8 +375,8 @@ impl<A: Allocator + Copy> Walker<A> {
 // The functions over a session here promise little of it, so that whoever calls them has few of its
 // clauses in his proof.
 
-// A walk forward by so many steps at most, towards a goal where there is one. It stops also where
-// the records weigh more than this.
+// A walk forward by so many steps at most, towards a goal if there is one. It stops also if the records weigh more than
+// this.
 fn walk_on<A: Allocator + Copy>(
     session: &mut Session<A>,
     aim: Option<Aim<'_>>,
@@ -391,7 +391,7 @@ fn walk_on<A: Allocator + Copy>(
     }
 }
 
-// A copy of the form of this name, where there is one. The error is that memory was refused.
+// A copy of the form of this name, if there is one. The error is that memory was refused.
 fn form_of<A: Allocator + Copy>(
     store: &Store<A>,
     name: &[u8],

@@ -56,14 +56,14 @@ impl<'p, A: Allocator + Copy> Replier<A> for Guide<'p, A> {
     }
 }
 
-/// Walks through a program, forwards and backwards, for a person: it reads lines, does what each asks for,
-/// and writes where it stands then, which is flushed before more is read. A line that is not understood gets
-/// one line, and changes nothing.
+/// Walks through a program, forwards and backwards, for a person. It reads lines, does what each asks for, and writes
+/// where it stands then, which is flushed before more is read. A line that is not understood gets one line, and changes
+/// nothing.
 ///
-/// It ends with `Ended` at the end of the lines, and where it is asked to; with `Limit`, and nothing read or written,
-/// where the program has more than 33,554,432 bytes; with `Read` and `Write` where the reader or the writer fails; with
-/// `Memory` where there is no memory for the session, for a line or for what is to be written; and with `Budget` after
-/// as many lines as a number of 64 bits counts.
+/// It ends with `Ended` at the end of the lines, and when it is asked to. It ends with `Limit`, and nothing read or
+/// written, if the program has more than 33,554,432 bytes. It ends with `Read` if the reader fails, and with `Write` if
+/// the writer does. It ends with `Memory` if there is no memory for the session, for a line or for what is to be
+/// written. It ends with `Budget` after as many lines as a number of 64 bits counts.
 #[tactic(auto, using(crate::proofs::Ended::for_walk))]
 pub fn walk<R: Read, W: Write, A: Allocator + Copy>(
     alloc: A,

@@ -7,13 +7,13 @@ use trac_lint::{Found, Halt, Settings, Sources, lint};
 use trac_streams::{Ending, tape_in};
 use trac_words::lint_words::{LintLine, read_lint_line};
 
-// What is said where memory was refused.
+// What is said if memory was refused.
 const NO_MEMORY: &str = "there is no memory";
 
-// What is said where the writer failed.
+// What is said if the writer failed.
 const NO_OUTPUT: &str = "the output cannot be written";
 
-// The status where a file is not looked through.
+// The status if a file is not looked through.
 const FAILED: u8 = 2;
 
 /// Looks for doubts as the words of a command line ask for.
@@ -49,7 +49,7 @@ pub(crate) fn lint_by(rt: &HostRuntime, words: &[&str]) -> ExitCode {
 }
 
 // Looks through the programs in the files at these paths, each with the text in the file at that one after it, if there
-// is one; the highest of their statuses. Where the output cannot be written the others are not looked through.
+// is one. Returns the highest of their statuses. If the output cannot be written, the others are not looked through.
 fn lint_all(rt: &HostRuntime, paths: &[String], input: Option<&str>, settings: Settings) -> u8 {
     let mut status = 0;
     for path in paths {
@@ -61,7 +61,7 @@ fn lint_all(rt: &HostRuntime, paths: &[String], input: Option<&str>, settings: S
     status
 }
 
-// The status of one; none where the output cannot be written.
+// The status of one; none if the output cannot be written.
 fn lint_file(rt: &HostRuntime, path: &str, input: Option<&str>, settings: Settings) -> Option<u8> {
     let (Ok(name), Ok(input_name)) = (
         one_line(rt.alloc(), path),
@@ -112,7 +112,7 @@ fn one_line(alloc: Global, path: &str) -> Result<String, AllocError> {
     Ok(line)
 }
 
-// The bytes of the file at this path; none, which is said under this name, where they cannot be had.
+// The bytes of the file at this path; none, which is said under this name, if they cannot be had.
 fn file_at(rt: &HostRuntime, path: &str, name: &str) -> Option<Vec<u8>> {
     let why = match tape_in(rt, path) {
         Ok(tape) => return Some(tape),

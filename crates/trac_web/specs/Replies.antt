@@ -6,8 +6,8 @@ use Rattle.trac_web.specs.declared.outcome.Outcome.{Outcome}
 use Rattle.trac_web.specs.declared.outcome.Outcome.TheVariants.{Ends, TooLong}
 use Rattle.trac_web.specs.Outcomes.{status_told}
 
--- how a request ends whose reply has so many bytes, or more, in a buffer of so many. The writer of a reply fails where
--- its buffer is full; where it is not, there was no memory
+-- how a request ends whose reply has so many bytes, or more, in a buffer of so many. The writer of a reply fails if its
+-- buffer is full; if it is not, there was no memory
 abbrev pub ends_where : Ending → Bool → Bool → Outcome
 ends_where Write true longer = TooLong
 ends_where Write false longer = Ends Memory

@@ -30,8 +30,8 @@ IsBudget budget = (1 ≤ budget) × (budget ≤ BUDGET_LIMIT)
 abbrev pub IsJournal : ℕ → Type 0
 IsJournal journal = (1 ≤ journal) × (journal ≤ JOURNAL_LIMIT)
 
--- a number and how many bits numbers have are judged so: the width, where the number is taken and there are numbers of
--- so many bits, and else which of the two is wrong
+-- a number and how many bits numbers have are judged so. If the number is taken and there are numbers of so many bits,
+-- the width; else which of the two is wrong
 pub record IsJudged (Taken : Type 0) (wrong : Outcome) (decimals : ℕ) (judged : Result Width Outcome) : Type 0 where
   pub within : IfOk judged (λ width. Taken)
   pub taken : (width : Width) → Taken → width_of decimals ≡ Some width → judged ≡ Ok width
@@ -47,15 +47,15 @@ pub record Tells (Taken : Type 0) (wrong : Outcome) (decimals : ℕ)
 
 -- ---- texts that are written
 
--- a run of a program, with all of its input, wrote this and ended so: it is what the rules print by so many steps;
--- where the buffer is full, or memory was refused, a front of that
+-- a run of a program, with all of its input, wrote this and ended so: it is what the rules print by so many steps. If
+-- the buffer is full, or memory was refused, it is a front of that
 pub record WritesRun (width : Width) (budget : ℕ) (input written : List ℕ) (ending : Ending) : Type 0 where
   pub front : IsFrontOf written (output_of width input budget).bytes
   pub shows : Shows ending written (output_of width input budget)
 
--- the debugger over this tape replied so to these commands, and ended so: it is a text that may be shown; where the
--- buffer is full, or memory was refused, a front of one, and if the buffer is not full, of whole replies. It ends for
--- the tape where that is too long
+-- the debugger over this tape replied so to these commands, and ended so: it is a text that may be shown. If the buffer
+-- is full, or memory was refused, it is a front of one, and if the buffer is not full, of whole replies. It ends for
+-- the tape if that is too long
 pub record WritesReplies
     (tape : List ℕ) (limit : ℕ) (width : Width) (commands written : List ℕ) (ending : Ending) : Type 0 where
   pub front : (text : List ℕ) × (stop : Ending) × MayShow tape limit width commands text stop × IsFrontOf written text
@@ -80,8 +80,8 @@ search_ending halts.TooLong = Limit
 search_ending halts.Memory = Memory
 search_ending halts.Write = Write
 
--- a search for doubts told so many places by this, and ended so: it wrote nothing just where no place is told, but
--- where the buffer is full. Which doubts and places these are is not stated
+-- a search for doubts told so many places by this, and ended so: it wrote nothing exactly if no place is told, unless
+-- the buffer is full. Which doubts and places these are is not stated
 pub record WritesDoubts (told : ℕ) (written : List ℕ) (ending : Ending) : Type 0 where
   pub few : told ≤ PLACE_LIMIT
   pub none : told ≡ 0 → written ≡ []

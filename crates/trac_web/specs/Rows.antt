@@ -20,7 +20,7 @@ word_field word n = word ++ field n
 abbrev pub name_field : List ℕ → List ℕ
 name_field name = field (length name) ++ (codes " " ++ name)
 
--- a place, where so many bytes of the output are released; those of the output are counted from the start of the
+-- a place, when so many bytes of the output are released. Those of the output are counted from the start of the
 -- program, as far as 64 bits count
 abbrev pub place_field : ℕ → Place → List ℕ
 place_field released (InActive i) = word_field (codes " active") i
@@ -60,6 +60,6 @@ pub record AddsRow {A : Type 0} (old : Rows A) (call : Passing) (new : Rows A) :
   pub after : new.released ≡ old.released
   pub text : new.text.items ≡ old.text.items ++ row old.step old.released call
 
--- so it is after a trace, but where memory was refused for a row
+-- so it is after a trace, unless memory was refused for a row
 abbrev pub AreRows : {A : Type 0} → ℕ → ℕ → List Passing → End → Rows A → Type 0
 AreRows step released calls end rows = end ≢ Untold → HasRows step released calls rows

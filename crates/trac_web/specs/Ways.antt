@@ -33,8 +33,8 @@ pub record SpotSeen : Type 0 where
 abbrev pub spot_seen : code.Spot → SpotSeen
 spot_seen s = record { kind = s.kind; first = s.first; second = s.second; third = s.third; name = s.name.now }
 
--- the place, if there is such a kind, where so many bytes of the output are released: those of the output are
--- counted from the start of the program
+-- the place, if there is such a kind, when so many bytes of the output are released. Those of the output are counted
+-- from the start of the program
 abbrev pub place_in : ℕ → SpotSeen → Option Place
 place_in released s =
     if s.kind == 0 then Some (InOutput (s.first - released)) else

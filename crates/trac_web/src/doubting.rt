@@ -11,8 +11,8 @@ use trac_lint::{Halt, Settings, Sources, lint};
 use trac_rules::width::Width;
 use trac_streams::Ending;
 
-// How many bytes the records may take of the steps that can be gone back over, as of `trac-lint`
-// where nothing else is said.
+// How many bytes the records may take of the steps that can be gone back over, as of `trac-lint` if nothing else is
+// said.
 const KEEP: u64 = 268_435_456;
 
 /// Looks for the doubts of a program with all of its input, as `trac_lint::lint` does, and puts a row for each

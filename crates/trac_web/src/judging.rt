@@ -6,7 +6,7 @@ use trac_rules::limit::JOURNAL_LIMIT;
 use trac_rules::width::Width;
 use trac_streams::{BUDGET_LIMIT, decimals_of, is_in_range};
 
-/// How wide numbers are to be, where a run may be allowed so many steps.
+/// How wide numbers are to be, if a run may be allowed so many steps.
 ///
 /// `Outcome::WrongBudget`: it may not. `Outcome::WrongDecimals`: there are no numbers of so many bits.
 pub fn width_for_run(budget: u64, decimals: u64) -> Result<Width, Outcome>
@@ -18,7 +18,7 @@ pub fn width_for_run(budget: u64, decimals: u64) -> Result<Width, Outcome>
     decimals_of(Some(decimals)).ok_or(Outcome::WrongDecimals)
 }
 
-/// How wide numbers are to be, where a journal may be allowed so many records.
+/// How wide numbers are to be, if a journal may be allowed so many records.
 ///
 /// `Outcome::WrongJournal`: it may not. `Outcome::WrongDecimals`: there are no numbers of so many bits.
 pub fn width_for_walk(journal: u64, decimals: u64) -> Result<Width, Outcome>

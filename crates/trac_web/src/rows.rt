@@ -20,7 +20,7 @@ pub struct Rows<A: Allocator + Copy> {
 }
 
 impl<A: Allocator + Copy> Rows<A> {
-    /// None so far, of a way that begins at this step, where so many bytes of the output are released.
+    /// None so far, of a way that begins at this step, when so many bytes of the output are released.
     pub fn new(alloc: A, step: u64, released: u64) -> Self
         ensures { HasRows step released [] result }
     {
@@ -67,7 +67,7 @@ fn deed_of(from: Place<'_>) -> &'static [u8]
     }
 }
 
-// Puts a place at the end of a text, where so many bytes of the output are released.
+// Puts a place at the end of a text, when so many bytes of the output are released.
 fn place_into<A: Allocator>(
     released: u64,
     place: Place<'_>,

@@ -13,7 +13,7 @@ use trac_run::run_session;
 use trac_session::Session;
 use trac_streams::{BUDGET_LIMIT, Ending};
 
-// How many records the journal of a run may hold, as of the program's where nothing else is said.
+// How many records the journal of a run may hold, as of the program's if nothing else is said.
 const RECORDS: usize = 65_536;
 
 /// Runs a program with all of its input, as `trac_run::run` does, into the buffer of the host, and counts its steps.

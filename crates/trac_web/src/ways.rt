@@ -55,7 +55,7 @@ pub fn way_text<A: Allocator + Copy>(
     }
 }
 
-// The place in a state of which so many bytes of the output are released. None where there is no such kind.
+// The place in a state of which so many bytes of the output are released. None if there is no such kind.
 fn place_in(spot: Spot<'_>, released: u64) -> Option<Place<'_>>
     ensures { option_map place_of result ≡ place_in released (spot_seen spot.entry) }
 {
@@ -97,7 +97,7 @@ fn window_at<A: Allocator + Copy>(
     Ok(window)
 }
 
-// Goes forward by so many steps. Where there is no room for more, it forgets the older half of those so far.
+// Goes forward by so many steps. If there is no room for more, it forgets the older half of those so far.
 fn go<A: Allocator + Copy>(window: &mut Window<A>, steps: u64) -> Result<(), Outcome>
     ensures went { OnOk result (TakesSteps steps window.old.session window.new.session) }
     ensures none { IfErr result IsReason }
@@ -176,7 +176,7 @@ fn read_into<A: Allocator>(read: ReadByte, out: &mut Vec<u8, A>) -> Result<(), A
     word_into(b"", read.column, out)
 }
 
-// The byte of all input that a session read next, where a way ends so: the session has dropped a front of the input.
+// The byte of all input that a session read next, if a way ends so: the session has dropped a front of the input.
 fn read_at<A: Allocator + Copy>(session: &Session<A>, tape: &[u8], end: End) -> ReadByte {
     let End::Read(n) = end else {
         return ReadByte {

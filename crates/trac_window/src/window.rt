@@ -62,7 +62,7 @@ impl<A: Allocator + Copy> Window<A> {
         self.forgotten = self.forgotten.saturating_add(steps as u64);
     }
 
-    /// Forgets the older half of the steps, as `keep_steps` does, where the records of all of them weigh more than this
+    /// Forgets the older half of the steps, as `keep_steps` does, if the records of all of them weigh more than this
     /// (`Session::weight`); whether it did. A step that is the only one stays, whatever it weighs.
     pub fn lighten(&mut self, most: u64) -> bool
         ensures heavy { (result ≡ true)

@@ -11,7 +11,7 @@ use std::alloc::{AllocError, Global};
 use trac_rules::width::Width;
 use trac_streams::BUDGET_LIMIT;
 
-/// How many steps a program may take where nothing else is said.
+/// How many steps a program may take if nothing else is said.
 pub const DEFAULT_STEPS: u64 = 10_000_000;
 
 /// What a command line of `trac-lint` asks for.
@@ -20,7 +20,7 @@ pub enum LintLine {
     /// To look for doubts in the programs in the files at these paths.
     Lint {
         paths: Vec<String>,
-        /// The file that each program reads after its own, where one is named.
+        /// The file that each program reads after its own, if one is named.
         input: Option<String>,
         /// How many steps a program may take.
         steps: u64,
@@ -76,7 +76,7 @@ fn paths_in(alloc: Global, found: &ArgMatches<'_>) -> Result<Vec<String>, AllocE
     Ok(paths)
 }
 
-// The path of the file with input, where one is named.
+// The path of the file with input, if one is named.
 fn input_in(alloc: Global, found: &ArgMatches<'_>) -> Result<Option<String>, AllocError> {
     match found.get_str("input") {
         Some(name) => Ok(Some(String::from_str(alloc, name)?)),

@@ -18,7 +18,7 @@ pub(crate) enum Program {
     Lint,
 }
 
-/// What is said where a command line asks for nothing else.
+/// What is said if a command line asks for nothing else.
 #[derive(Drop)]
 pub(crate) enum Said {
     /// Help, or the version.
@@ -74,8 +74,8 @@ fn is_unknown(kind: ErrorKind) -> bool {
     kind == ErrorKind::UnknownArgument || kind == ErrorKind::InvalidSubcommand
 }
 
-// The place of the first word of a command line that is neither an argument nor a subcommand: clap gives no more than
-// a text of it, so it is the last one of the fewest words in which clap finds one. None where there is none.
+// The place of the first word of a command line that is neither an argument nor a subcommand. Clap gives no more than a
+// text of it, so it is the last one of the fewest words in which clap finds one. None if there is none.
 fn unknown_place<'a>(
     mut command: Command<'a>,
     words: &'a [&'a str],
@@ -90,7 +90,7 @@ fn unknown_place<'a>(
     Ok(None)
 }
 
-// Why clap does not take these words; none where it does.
+// Why clap does not take these words; none if it does.
 fn refusal_of<'a>(command: &mut Command<'a>, words: &'a [&'a str]) -> Option<ErrorKind> {
     match command.try_get_matches_from_mut(words) {
         Ok(_found) => None,
@@ -98,7 +98,7 @@ fn refusal_of<'a>(command: &mut Command<'a>, words: &'a [&'a str]) -> Option<Err
     }
 }
 
-// The word at a place that may be none; empty where there is none.
+// The word at a place that may be none; empty if there is none.
 fn word_at<'w>(words: &[&'w str], place: Option<usize>) -> &'w str {
     match place {
         Some(place) => words.get(place).copied().unwrap_or(""),
@@ -106,7 +106,7 @@ fn word_at<'w>(words: &[&'w str], place: Option<usize>) -> &'w str {
     }
 }
 
-// What is said of a command line in which this word is not known: this text of clap, with a tip where one helps.
+// What is said of a command line in which this word is not known: this text of clap, with a tip if one helps.
 fn with_tip(
     alloc: Global,
     program: Program,
@@ -185,7 +185,7 @@ fn with_file_tip(
 struct Paragraphs<'t> {
     // What is wrong.
     wrong: &'t str,
-    // Its tips, each in a line that is set in. Empty where it has none.
+    // Its tips, each in a line that is set in. Empty if it has none.
     tips: &'t str,
     // How the command is used.
     usage: &'t str,

@@ -12,7 +12,7 @@ use clap::{Arg, ArgAction, ArgMatches, Command};
 use std::alloc::{AllocError, Global};
 use trac_streams::{DEFAULT_BUDGET, Options};
 
-/// How many MiB the records may take of the steps that can be gone back over, where nothing else is said.
+/// How many MiB the records may take of the steps that can be gone back over, if nothing else is said.
 pub const DEFAULT_KEEP: u64 = 256;
 
 /// The most that they may be allowed: one TiB.

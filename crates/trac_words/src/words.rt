@@ -11,7 +11,7 @@ use trac_rules::limit::JOURNAL_LIMIT;
 use trac_rules::width::Width;
 use trac_streams::{BUDGET_LIMIT, DEFAULT_BUDGET, Options, decimals_of, is_in_range};
 
-/// How many records a run's journal may hold where nothing else is said.
+/// How many records a run's journal may hold if nothing else is said.
 pub const DEFAULT_JOURNAL: usize = 65_536;
 
 /// What a command line asks for.
@@ -195,7 +195,7 @@ pub(crate) fn with_options<'a>(
         .arg(decimals(alloc, widths))
 }
 
-/// What `--journal` means where steps are gone back over.
+/// What `--journal` means if steps are gone back over.
 pub(crate) const BACK: &str = "How many steps can be gone back over: 1 to 1048576";
 
 pub(crate) fn file<'a>(alloc: Global) -> Arg<'a> {

@@ -26,4 +26,4 @@ pub returns-clause-held : goal.returns-clause-held
 returns-clause-held g c = λ k few.
     let long : length c.right.result.now ≡ length c.args.self.now.state.active =
     ap (λ (text : List ℕ). length text) c.right.ensures.right ∙ ap (λ (m : Shown). length m.state.active) c.self.view_is in
-    HasRoom-moved_on c.args.self.now c.args.self.now.state k (omega (arith, few, c.plain_front-count.ensures.within, long)) c.is_in_its_room.ensures.room
+    HasRoom-moved_on c.args.self.now c.args.self.now.state k (omega (arith, few, c.plain_front-count.ensures.within, long)) c.recall_room.ensures.room

@@ -13,7 +13,7 @@ pub begin_again-requires : goal.begin_again-requires
 begin_again-requires g c =
     let k = c.in-Some-newest_call in
     let told = subst (λ (j : Journaled). HasCallFirst k.call.called (all_texts k.call.arguments) j.records) c.in_default.ensures.1 k.ensures in
-    call_begins c.args.self.now c.args.journal.now.records k.call.called k.call.arguments told c.requires c.is_in_its_room.ensures.proper c.is_in_its_room.ensures.room
+    call_begins c.args.self.now c.args.journal.now.records k.call.called k.call.arguments told c.requires c.recall_room.ensures.proper c.recall_room.ensures.room
 
 pub restore_storage-requires : goal.restore_storage-requires
 restore_storage-requires g c =
@@ -21,7 +21,7 @@ restore_storage-requires g c =
     let undone = undone_in c.pop_call-undone.result in
     let told = subst (λ (j : Journaled). HasCallFirst k.call.called (all_texts k.call.arguments) j.records) c.in_default.ensures.1 k.ensures in
     let out = subst (λ (j : Journaled). HasCallOut undone j.records c.pop_call-undone.new.self.records) c.in_default.ensures.1 c.pop_call-undone.ensures in
-    call_restores c.args.self.now c.args.journal.now.records k.call.called k.call.arguments told c.requires c.is_in_its_room.ensures.proper c.is_in_its_room.ensures.room
+    call_restores c.args.self.now c.args.journal.now.records k.call.called k.call.arguments told c.requires c.recall_room.ensures.proper c.recall_room.ensures.room
     c.begin_again.new.self c.begin_again.ensures undone c.pop_call-undone.new.self.records out
 
 pub returns-in-Some-newest_call-clause-back : goal.returns-in-Some-newest_call-clause-back
@@ -30,7 +30,7 @@ returns-in-Some-newest_call-clause-back g c =
     let undone = undone_in c.pop_call-undone.result in
     let told = subst (λ (j : Journaled). HasCallFirst k.call.called (all_texts k.call.arguments) j.records) c.in_default.ensures.1 k.ensures in
     let out = subst (λ (j : Journaled). HasCallOut undone j.records c.pop_call-undone.new.self.records) c.in_default.ensures.1 c.pop_call-undone.ensures in
-    λ done. call_gone_back c.args.self.now c.args.journal.now.records k.call.called k.call.arguments told c.requires c.is_in_its_room.ensures.proper c.is_in_its_room.ensures.room
+    λ done. call_gone_back c.args.self.now c.args.journal.now.records k.call.called k.call.arguments told c.requires c.recall_room.ensures.proper c.recall_room.ensures.room
     c.begin_again.new.self c.begin_again.ensures undone c.pop_call-undone.new.self.records out c.restore_storage.new.self c.restore_storage.ensures
 
 pub unload-requires : goal.unload-requires

@@ -81,7 +81,7 @@ begin_again-requires g c =
     let said = told k.kind k.value k.scanned k.printed k.read k.meta k.trace in
     let undone = undone_in k.undone in
     let is = lends (recorded_by c.args.taken) said k.arguments c.lend.result undone (ap (λ x. recorded_by x) k.is) c.lend.ensures in
-    can_begin said (all_texts c.lend.result) undone c.args.self.now c.is_in_its_room.ensures.proper c.is_in_its_room.ensures.room (can_show_known (recorded_by c.args.taken) _ is c.args.self.now c.requires)
+    can_begin said (all_texts c.lend.result) undone c.args.self.now c.recall_room.ensures.proper c.recall_room.ensures.room (can_show_known (recorded_by c.args.taken) _ is c.args.self.now c.requires)
 
 pub restore_storage-requires : goal.restore_storage-requires
 restore_storage-requires g c =
@@ -89,7 +89,7 @@ restore_storage-requires g c =
     let said = told k.kind k.value k.scanned k.printed k.read k.meta k.trace in
     let undone = undone_in k.undone in
     let is = lends (recorded_by c.args.taken) said k.arguments c.lend.result undone (ap (λ x. recorded_by x) k.is) c.lend.ensures in
-    can_restore said (all_texts c.lend.result) undone c.args.self.now c.is_in_its_room.ensures.proper c.is_in_its_room.ensures.room
+    can_restore said (all_texts c.lend.result) undone c.args.self.now c.recall_room.ensures.proper c.recall_room.ensures.room
     (can_show_known (recorded_by c.args.taken) _ is c.args.self.now c.requires) c.begin_again.new.self c.begin_again.ensures
 
 pub returns-in-Call : goal.returns-in-Call
@@ -99,8 +99,8 @@ returns-in-Call g c =
     let said = told k.kind k.value k.scanned k.printed k.read k.meta k.trace in
     let undone = undone_in k.undone in
     let is = lends (recorded_by c.args.taken) said k.arguments c.lend.result undone (ap (λ x. recorded_by x) k.is) c.lend.ensures in
-    let proper = c.is_in_its_room.ensures.proper in
-    let room = c.is_in_its_room.ensures.room in
+    let proper = c.recall_room.ensures.proper in
+    let room = c.recall_room.ensures.room in
     let can = can_show_known (recorded_by c.args.taken) _ is m c.requires in
     let begun = c.begin_again.new.self in
     let new = c.restore_storage.new.self in

@@ -3,7 +3,7 @@ use Rattle.trac_rules.specs.Proper.{IsProper}
 use Rattle.trac_step.specs.Layout.{parts_of, Shown}
 use Rattle.trac_step.proofs.Limited.{proper_of_sound}
 use Rattle.trac_step.proofs.Rooms.{HasRoom-parts}
-use Rattle.trac_step.proofs.engine.Core.is_in_its_room.Goals as goal
+use Rattle.trac_step.proofs.engine.Core.recall_room.Goals as goal
 
 pub returns-clause-proper : goal.returns-clause-proper
 returns-clause-proper g c =
