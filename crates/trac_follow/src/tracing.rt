@@ -1,5 +1,6 @@
-//! Following a byte back to where it comes from, past all calls that passed it on: that took it out of an argument, a
-//! form or a block, and gave it as their value, printed it, or put it into a form or a block.
+//! Following a byte back to where it comes from, past each call that passed it on. A call passes a byte on if it takes
+//! it from one of its arguments, or from a block to a form. It does so too if it takes the byte from a form to the
+//! call's value, to the output or to a block.
 ghost use Rattle.std.specs.Prelude.{◌≡◌, ◌≤◌, [], ⊤, IfErr, IfNone, IfOk, IfSome, MatchOption, OnErr, OnOk, Some};
 ghost use Rattle.trac_follow.specs.declared.tracing.Onward.TheVariants.{OfForm};
 ghost use Rattle.trac_follow.specs.Following.{IsFollowed, IsKnown};
@@ -21,15 +22,17 @@ use trac_session::{Machine, Session};
 
 /// Who is told of the calls on the way of a byte.
 pub trait Witness<A: Allocator + Copy> {
-    // `passes` ties the witness before it is told of a call to the witness after; `refuses` does so if it refuses. A
-    // witness that gives neither promises nothing.
+    // `passes` relates the witness before it is told of a call, and the witness after. `refuses` relates these two if it
+    // refuses. A witness that gives neither promises nothing.
     ghost passes: { Self → Passing → Self → Type 0 } = { λ _ _ _. ⊤ };
 
     ghost refuses: { Self → Passing → Self → Type 0 } = { λ _ _ _. ⊤ };
 
     /// Told of a call that passed the byte on, the latest call first. `machine` is about to perform the call, `steps`
-    /// steps before the state in which the trace begins. `from` is a place in a later state: the one where the trace
-    /// begins, or, if a call was told of before, the one from which that call took the byte.
+    /// steps before the state where the trace begins.
+    ///
+    /// `from` is the place in a later state from which the byte was followed to this call. At the first telling, that is
+    /// where the trace begins. At each other, the call of the telling before took the byte from there.
     ///
     /// If the witness answers the error, for want of memory or because it has heard enough, the trace ends.
     fn passed(
@@ -44,21 +47,23 @@ pub trait Witness<A: Allocator + Copy> {
             (record { state = machine.now.state; steps = steps; from = place_of from.entry }) self.new) };
 }
 
-/// How a trace ended. The session stays there: the step that comes next is the one that it would take now.
+/// How a trace ended. The session stays in the state that the trace reached. The step that comes next from there is
+/// the one that it went back over last.
 #[derive(Clone, Copy)]
 pub enum End {
     /// Nothing stood at the place, and the session has not moved.
     Nothing,
-    /// It is older: no further step is kept, or as many were gone back over as were wanted.
+    /// The byte stands in the state reached already. No further step is kept, or the trace has gone back over as many
+    /// steps as it was asked to.
     Earlier,
-    /// The step that comes next read it, as the byte of this number of the session's tape as it is now, the first being
-    /// number 0.
+    /// The step that comes next read it: it is the byte of this number on the session's tape. Number 0 is the first
+    /// byte that the tape holds now, whether it is read or not.
     Read(usize),
     /// The step that comes next made it.
     Made,
-    /// The call that comes next passed it on, and the witness was told of that. But the call took it out of a form, or
-    /// out of one in a block, whose name has more than 256 bytes and could not be kept. The store does not know that
-    /// name, or its count of owners is full.
+    /// The call that comes next passed it on, and the witness was told of that. But the call took it from a form whose
+    /// name has more than 256 bytes, and the trace could not keep that name. Either no more owners of the name can be
+    /// counted, or the store does not know it. The latter can be only if the form is in a block.
     Unkept,
     /// The call that comes next passed it on, and the witness refused to be told of that.
     Untold,
@@ -73,13 +78,15 @@ pub struct Traced {
     pub end: End,
 }
 
-/// Follows the byte at a place, or the item of a form, back to where it comes from: over up to `most` steps, and past
-/// each call that passed it on, until a step made or read it. The session goes back over these steps, and stays there.
+/// Follows what stands at a place, a byte or an item of a form, back to where it comes from. Here both are called the
+/// byte. The session goes back over up to `most` steps, past each call that passed the byte on, to the step that made
+/// or read it. It stays in the state that it reached.
 ///
 /// The witness is told of just the calls that passed the byte on. If it refuses, the trace ends.
 ///
-/// The trace takes no memory but what the witness takes. If a call took the byte out of a form, the trace keeps the
-/// form's name: it copies up to 256 bytes, and shares a longer name with the store. If it cannot, it ends.
+/// The trace takes no memory but what the witness takes. If a call took the byte from a form, of the store or of a
+/// block, the trace keeps the form's name. It copies a name of up to 256 bytes, and shares a longer one with the store.
+/// If it cannot, it ends as `End::Unkept`.
 ///
 /// `End::Nothing` is answered only if nothing stands at the place.
 pub fn trace<A: Allocator + Copy, W: Witness<A>>(
@@ -100,23 +107,24 @@ pub fn trace<A: Allocator + Copy, W: Witness<A>>(
     let width = session.width();
     let mut here = KeptPlace::lent(place);
     let mut steps = 0;
-    // A leg goes back to the nearest call that passed the byte on, over one step at least: so `most` legs are enough.
+    // A leg that ends at a call has gone back over one step at least: so `most` legs are enough.
     for _leg in 0..most {
         let leg = follow_leg(session, width, &here, most - steps);
         steps += leg.steps;
-        let from = match passed_from(leg.source) {
-            Ok(from) => from,
+        let onward = match onward_of(leg.source) {
+            Ok(onward) => onward,
             Err(end) => return ended(steps, end),
         };
         let Ok(()) = witness.passed(session.machine(), steps, here.place()) else {
             return ended(steps, End::Untold);
         };
-        // Most places are in no form. They need no name, and to write one costs more than most legs.
-        if let Some(spot) = formless_spot(from) {
+        // Most places are in no form, and need no name. Then only the spot changes: to write over the 256 bytes that
+        // `here` has for a name would take more time than the usual leg.
+        if let Some(spot) = formless_spot(onward) {
             here.go_to(spot);
             continue;
         }
-        let Some(there) = kept_place(session.machine(), from) else {
+        let Some(there) = kept_place(session.machine(), onward) else {
             return ended(steps, End::Unkept);
         };
         here = there;
@@ -124,8 +132,8 @@ pub fn trace<A: Allocator + Copy, W: Witness<A>>(
     ended(steps, End::Earlier)
 }
 
-// Follows a byte back to the nearest call that passed it on, as `follow` does. It is apart from the loop for its proof
-// alone.
+// Follows a byte back over one leg: to the nearest call that passed it on, or to the step that made or read it. The leg
+// ends before that if no further step is kept, or after `most` steps. It is apart from the loop for its proof alone.
 fn follow_leg<'a, A: Allocator + Copy>(
     session: &mut Session<A>,
     width: Width,
@@ -156,9 +164,9 @@ pub(crate) enum Onward<'a> {
     OfForm(usize),
 }
 
-// Where a byte stood before a call passed it on, by what was found of it. If no call did, how the trace ends.
-fn passed_from<'a>(source: Source<'a>) -> Result<Onward<'a>, End>
-    ensures on { IfOk result (λ from. source.entry ≡ source_of from) }
+// Where the byte stood before a call passed it on, if the leg that found this ended at a call. Else how the trace ends.
+fn onward_of<'a>(source: Source<'a>) -> Result<Onward<'a>, End>
+    ensures on { IfOk result (λ onward. source.entry ≡ source_of onward) }
     ensures ends { IfErr result (λ end. EndsAs source.entry end) }
 {
     match source {
@@ -167,16 +175,17 @@ fn passed_from<'a>(source: Source<'a>) -> Result<Onward<'a>, End>
         Source::Here(_) => Err(End::Earlier),
         Source::Read(n) => Err(End::Read(n)),
         Source::Made => Err(End::Made),
+        // It is not found on a leg: something stands where each begins.
         Source::Nothing => Err(End::Nothing),
     }
 }
 
 // Where a byte stood, if that was in no form and in no form of a block: such a place needs no name.
-fn formless_spot(from: Onward<'_>) -> Option<Nameless>
-    ensures { MatchOption result (IsOfStorage from.entry)
-        (λ spot. IsFormless spot × ((s : State) → LeadsTo s from.entry (named spot []))) }
+fn formless_spot(onward: Onward<'_>) -> Option<Nameless>
+    ensures { MatchOption result (IsOfStorage onward.entry)
+        (λ spot. IsFormless spot × ((s : State) → LeadsTo s onward.entry (named spot []))) }
 {
-    match from {
+    match onward {
         Onward::At(there) => formless(there),
         Onward::OfForm(_) => None,
     }
@@ -185,12 +194,12 @@ fn formless_spot(from: Onward<'_>) -> Option<Nameless>
 // Where a byte stood, with the name of its form. `None` if that name has more than 256 bytes and cannot be kept.
 fn kept_place<'n, A: Allocator + Copy>(
     machine: &Machine<A>,
-    from: Onward<'_>,
+    onward: Onward<'_>,
 ) -> Option<KeptPlace<'n, A>>
-    ensures leads { IfSome result (λ kept. LeadsTo machine.now.state from.entry kept) }
-    ensures long { IfNone result (LeadsToLong machine.now.state from.entry) }
+    ensures leads { IfSome result (λ kept. LeadsTo machine.now.state onward.entry kept) }
+    ensures long { IfNone result (LeadsToLong machine.now.state onward.entry) }
 {
-    match from {
+    match onward {
         Onward::At(there) => KeptPlace::of(machine.store(), there),
         Onward::OfForm(item) => item_of_call(machine, item),
     }

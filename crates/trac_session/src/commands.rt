@@ -18,7 +18,7 @@ pub enum Command<'a> {
     /// End the input after what was fed. Never refused.
     End,
     /// Go forward by one step. Refused as `JournalFull` if the journal holds as many records as it may, else as
-    /// `Core::step` is.
+    /// `Machine::step` is.
     Step,
     /// Go back over the last step. Refused as `AtStart` if no earlier state is kept.
     Back,
@@ -64,7 +64,7 @@ impl<A: Allocator + Copy> Session<A> {
     ///
     /// After any list of commands, from any session, the session's states are those of a plain list. Each accepted
     /// step adds the next state by T-64's rules to it, and each step back takes the last away. Each commit takes away
-    /// the first ones, and from the others what the first of these has printed and read.
+    /// the first ones, and from those kept what the first kept one has printed and read.
     ///
     /// Refused with `Memory`, with nothing done, if there is no memory for the replies, which is taken first.
     pub fn perform(&mut self, commands: &[Command<'_>]) -> Result<Replies<A>, Refusal>

@@ -341,7 +341,7 @@ impl<E: TwoEnds<u8, A>, M: TwoEnds<Mark, A>, A: Allocator + Copy> Core<E, M, A> 
     }
 
     // A `)`, as `close` has it, but its record is kept in this journal. The texts of the call are made in these
-    // buffers. The loop of a walk calls this, and has the steps of scanning in itself.
+    // buffers. The loop of a walk calls this, and has the most frequent rules of scanning in itself.
     #[inline(never)]
     pub(crate) fn close_into(
         &mut self,

@@ -1,4 +1,5 @@
-//! One step of the machine.
+//! One step of the machine: it performs a function, or carries out a rule of scanning and performs none. If no function
+//! is begun, the step at a `)` deletes it, and is a step of scanning.
 ghost use Rattle.std.specs.Prelude.{◌≡◌, ◌<◌, ◌≤◌, ◌^◌, length, IfOk, IfErr, OnErr, OnOk, Ok, Some};
 ghost use Rattle.trac_rules.specs.declared.limit.TheConstants.{JOURNAL_LIMIT};
 ghost use Rattle.trac_rules.specs.Outcomes.{MayRefuse};
@@ -27,17 +28,20 @@ impl<E: TwoEnds<u8, A>, M: TwoEnds<Mark, A>, A: Allocator + Copy> Core<E, M, A> 
     /// Takes the next step of T-64's rules over this tape, and answers its record: what the step destroyed, so that
     /// `undo` can go back over it. Sessions call `step_into`, which packs the record into a journal.
     ///
-    /// Refused, and the state is as it was:
-    /// - `NeedInput`: a function reads input that is not there yet.
-    /// - `Ended`: it reads input that will never be there, or it is `hl`.
-    /// - `TooLong`: the state after the step would pass a limit.
-    /// - `Memory`: the allocator refuses. If the machine has room for the state after it, a step of scanning asks for
-    ///   no memory, unless the active text is empty: then the record takes the neutral text, and the idle program is
-    ///   loaded.
+    /// If the step is refused, the state stays as it was. It is refused with:
+    /// - `NeedInput`: its function reads input that is not there yet.
+    /// - `Ended`: its function reads input that will never be there, or halts the processor, as `hl` does.
+    /// - `TooLong`: the state after the step would pass a limit of `trac_rules::limit`.
+    /// - `Memory`: the allocator refuses.
     ///
-    /// No step, not even a refused one, lessens how much the machine has room for, or forgets a name that its store
-    /// knows. After an accepted step there is room for the state before it. The tape has to hold at least the bytes
-    /// that earlier steps have read.
+    /// A step of scanning asks for no memory if the machine has room for the state after it. The step from an empty
+    /// active text is the exception: it copies the neutral text into its record, and loads the idle program.
+    ///
+    /// No step, not even a refused one, lessens the machine's room. After an accepted step there is room for the state
+    /// before it. A name that the store knows stays known, even if the step deletes its form: so the form can return
+    /// without memory.
+    ///
+    /// The tape must have at least `position()` bytes: those that were read, and that `release` has not dropped.
     pub fn step(&mut self, tape: Tape<'_>) -> Result<Record<A>, Refusal>
         requires { self.old.state.position ≤ length tape.bytes.now }
         ensures taken { IfOk result
@@ -47,8 +51,8 @@ impl<E: TwoEnds<u8, A>, M: TwoEnds<Mark, A>, A: Allocator + Copy> Core<E, M, A> 
             (λ r. record_of (environment_of self.old.width tape.entry) self.old.state ≡ Some (recorded_by r)) }
         ensures weighs { IfOk result (λ r. weight (recorded_by r) ≤ loss self.old.state) }
 
-        // Of a call each of three parts is got back by itself: texts and begun functions, forms and
-        // blocks, and all else.
+        // The record of a call gives back three parts of the state, each without the others: texts and begun functions,
+        // forms and blocks, and all else.
         ensures texts { IfOk result (λ r. (c : CallRecord) → recorded_by r ≡ Called c →
             texts_before c (texts_in self.new.state) ≡ Some (texts_in self.old.state)) }
         ensures storage { IfOk result (λ r. (c : CallRecord) → recorded_by r ≡ Called c →
@@ -66,16 +70,21 @@ impl<E: TwoEnds<u8, A>, M: TwoEnds<Mark, A>, A: Allocator + Copy> Core<E, M, A> 
         self.next_step(tape)
     }
 
-    /// Takes the next step, as `step` does, and adds its record to this journal.
+    /// Takes the next step, as `step` does, and adds its record to this journal, so that `step_back` can go back over
+    /// it.
     ///
-    /// Refused as `step` is, and with `Memory` also if the journal cannot grow: the state and the records are as they
-    /// were, since all memory is taken before anything changes. If the journal has a place for one record more, a step
-    /// of scanning is refused memory only if `step` would be, unless it loads the idle program.
+    /// Refused as `step` is, and with `Memory` also if the journal cannot grow. Any refusal leaves the state and the
+    /// records as they were: the step takes all memory before it changes these. A step of scanning asks for no memory
+    /// if the machine has room for the state after it, and the journal for its record. The step from an empty active
+    /// text is the exception here too.
     ///
-    /// A call makes its texts in the buffers `made`. They serve one step after another, and it does not matter what
-    /// they hold before. The journal must have fewer than 1,048,576 records. The tape has to hold at least the bytes
-    /// that earlier steps have read, and fewer than 2^32, as records count in 32 bits.
-    // The loop of a walk has the steps of scanning in itself, which is faster than a call for each.
+    /// A step that performs a function makes its value, and what it prints, in the buffers `made`. These serve step
+    /// after step, and what they hold before does not matter.
+    ///
+    /// The journal must have fewer than 1,048,576 records. The tape must have at least `position()` bytes, and fewer
+    /// than 2^32, as records count in 32 bits.
+    // A session's loop over many steps has this function inlined, with the most frequent rules of scanning: a call for
+    // each step is slower. `close_into` and the other rules stay functions of their own.
     #[inline(always)]
     pub fn step_into(
         &mut self,
@@ -102,8 +111,8 @@ impl<E: TwoEnds<u8, A>, M: TwoEnds<Mark, A>, A: Allocator + Copy> Core<E, M, A> 
         self.next_step_into(journal, tape, made)
     }
 
-    // The step itself. A `)` performs the innermost function, or is deleted if none is begun. All else with which the
-    // active text may begin has a rule of scanning.
+    // The step itself. If the active text begins with a `)`, `close` performs the innermost function, or deletes the
+    // `)` if none is begun. Else, and also if the active text is empty, `move_step` carries out a rule of scanning.
     fn next_step(&mut self, tape: Tape<'_>) -> Result<Record<A>, Refusal>
         requires { self.old.state.position ≤ length tape.bytes.now }
         ensures { IsTaken (environment_of self.old.width tape.entry) result self.old self.new }
@@ -115,7 +124,8 @@ impl<E: TwoEnds<u8, A>, M: TwoEnds<Mark, A>, A: Allocator + Copy> Core<E, M, A> 
         self.move_step(front)
     }
 
-    // The same, with its record added to the journal. Of all limits, scanning can pass only that on marks.
+    // The same, with its record added to the journal. Scanning can pass one limit alone, that on marks: each argument of
+    // a begun function has one. `move_fits` checks this limit, here and in `move_step`.
     #[inline(always)]
     fn next_step_into(
         &mut self,
@@ -137,7 +147,8 @@ impl<E: TwoEnds<u8, A>, M: TwoEnds<Mark, A>, A: Allocator + Copy> Core<E, M, A> 
         self.carry_out(journal, front)
     }
 
-    // Does nothing. It reminds the prover that a machine shows a state within all limits, for which it has room.
+    // Does nothing when it runs. Its two calls tell the prover what holds of every machine: its state is within all
+    // limits, and it has room for that.
     pub(crate) fn recall_room(&self)
         ensures proper { IsProper self.now.state }
         ensures room { HasRoom self.now self.now.state }

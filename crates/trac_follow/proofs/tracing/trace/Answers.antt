@@ -26,13 +26,13 @@ loop-leg-init g c = (
 pub loop-leg-preserved-in-Some : goal.loop-leg-preserved-in-Some
 loop-leg-preserved-in-Some g c =
     let s = c.machine-in-loop-leg.result.now.state in
-    let leads = subst (λ p. LeadsTo s c.in-Ok.from p) (sym c.go_to.ensures) (c.in-Some.ensures.1 s) in (
+    let leads = subst (λ p. LeadsTo s c.in-Ok.onward p) (sym c.go_to.ensures) (c.in-Some.ensures.1 s) in (
       omega (arith, c.follow_leg-leg.ensures.most, c.loop-leg.invariant.0),
       way_goes_on _ _ _ _ _ _ _ c.loop-leg.invariant.1 _ _ _ c.follow_leg-leg.ensures.back c.follow_leg-leg.ensures.followed
-          s c.in-Ok.from c.go_to.new.self c.machine-in-loop-leg.ensures.last c.in-Ok.ensures.on leads,
+          s c.in-Ok.onward c.go_to.new.self c.machine-in-loop-leg.ensures.last c.in-Ok.ensures.on leads,
       λ known.
           told_of_call _ _ _ _ _ _ _ c.loop-leg.invariant.1 _ _ _ c.follow_leg-leg.ensures.back c.follow_leg-leg.ensures.followed
-          c.machine-in-loop-leg.result.now.state c.in-Ok.from c.machine-in-loop-leg.ensures.last c.in-Ok.ensures.on known
+          c.machine-in-loop-leg.result.now.state c.in-Ok.onward c.machine-in-loop-leg.ensures.last c.in-Ok.ensures.on known
           g.W.Witness.passes c.args.witness.now c.loop-leg.witness c.passed.new.self (c.loop-leg.invariant.2 known) (place_of c.place.result) c.place.ensures c.in-Ok-passed.ensures.ok,
     )
 
@@ -40,10 +40,10 @@ pub loop-leg-preserved : goal.loop-leg-preserved
 loop-leg-preserved g c = (
   omega (arith, c.follow_leg-leg.ensures.most, c.loop-leg.invariant.0),
   way_goes_on _ _ _ _ _ _ _ c.loop-leg.invariant.1 _ _ _ c.follow_leg-leg.ensures.back c.follow_leg-leg.ensures.followed
-      c.machine-in-loop-leg-2.result.now.state c.in-Ok.from c.in-Some-kept_place.there c.machine-in-loop-leg-2.ensures.last c.in-Ok.ensures.on c.in-Some-kept_place.ensures.leads,
+      c.machine-in-loop-leg-2.result.now.state c.in-Ok.onward c.in-Some-kept_place.there c.machine-in-loop-leg-2.ensures.last c.in-Ok.ensures.on c.in-Some-kept_place.ensures.leads,
   λ known.
       told_of_call _ _ _ _ _ _ _ c.loop-leg.invariant.1 _ _ _ c.follow_leg-leg.ensures.back c.follow_leg-leg.ensures.followed
-      c.machine-in-loop-leg.result.now.state c.in-Ok.from c.machine-in-loop-leg.ensures.last c.in-Ok.ensures.on known
+      c.machine-in-loop-leg.result.now.state c.in-Ok.onward c.machine-in-loop-leg.ensures.last c.in-Ok.ensures.on known
       g.W.Witness.passes c.args.witness.now c.loop-leg.witness c.passed.new.self (c.loop-leg.invariant.2 known) (place_of c.place.result) c.place.ensures c.in-Ok-passed.ensures.ok,
 )
 
@@ -72,14 +72,14 @@ returns-in_default-clause-traced g c =
     let known = trail_known g (goal.at.returns-in_default-clause-traced g c).After-lent-here in
     traced_so _ _ _ _ _ _ ends.TheVariants.Untold _ c.ended-in_default.ensures.steps c.ended-in_default.ensures.end known
     (ends_untold _ _ _ _ _ _ _ c.loop-leg.invariant.1 _ _ _ c.follow_leg-leg.ensures.back c.follow_leg-leg.ensures.followed
-    c.machine-in-loop-leg.result.now.state c.in-Ok.from c.machine-in-loop-leg.ensures.last c.in-Ok.ensures.on known)
+    c.machine-in-loop-leg.result.now.state c.in-Ok.onward c.machine-in-loop-leg.ensures.last c.in-Ok.ensures.on known)
 
 pub returns-in_default-kept_place-clause-traced : goal.returns-in_default-kept_place-clause-traced
 returns-in_default-kept_place-clause-traced g c =
     let known = trail_known g (goal.at.returns-in_default-kept_place-clause-traced g c).After-lent-here in
     traced_so _ _ _ _ _ _ ends.TheVariants.Unkept _ c.ended-in_default-kept_place.ensures.steps c.ended-in_default-kept_place.ensures.end known
     (ends_unkept _ _ _ _ _ _ _ c.loop-leg.invariant.1 _ _ _ c.follow_leg-leg.ensures.back c.follow_leg-leg.ensures.followed
-    c.machine-in-loop-leg-2.result.now.state c.in-Ok.from c.machine-in-loop-leg-2.ensures.last c.in-Ok.ensures.on known c.args.most c.in_default-kept_place.ensures.long)
+    c.machine-in-loop-leg-2.result.now.state c.in-Ok.onward c.machine-in-loop-leg-2.ensures.last c.in-Ok.ensures.on known c.args.most c.in_default-kept_place.ensures.long)
 
 pub returns-clause-traced : goal.returns-clause-traced
 returns-clause-traced g c =
@@ -103,7 +103,7 @@ returns-in_default-clause-told g c =
     let known = trail_known g (goal.at.returns-in_default-clause-told g c).After-lent-here in
     told_so g.W.Witness.passes g.W.Witness.refuses c.args.session.now _ _ ends.TheVariants.Untold _ _ _ c.ended-in_default.ensures.steps c.ended-in_default.ensures.end
     (told_before_call _ _ _ _ _ _ _ c.loop-leg.invariant.1 _ _ _ c.follow_leg-leg.ensures.back c.follow_leg-leg.ensures.followed
-    c.machine-in-loop-leg.result.now.state c.in-Ok.from c.machine-in-loop-leg.ensures.last c.in-Ok.ensures.on known
+    c.machine-in-loop-leg.result.now.state c.in-Ok.onward c.machine-in-loop-leg.ensures.last c.in-Ok.ensures.on known
     g.W.Witness.passes c.args.witness.now c.loop-leg.witness c.passed.new.self (c.loop-leg.invariant.2 known) (place_of c.place.result) c.place.ensures g.W.Witness.refuses c.in_default.ensures.err)
 
 pub returns-in_default-kept_place-clause-told : goal.returns-in_default-kept_place-clause-told
@@ -111,5 +111,5 @@ returns-in_default-kept_place-clause-told g c =
     let known = trail_known g (goal.at.returns-in_default-kept_place-clause-told g c).After-lent-here in
     told_so g.W.Witness.passes g.W.Witness.refuses c.args.session.now _ _ ends.TheVariants.Unkept _ _ _ c.ended-in_default-kept_place.ensures.steps c.ended-in_default-kept_place.ensures.end
     (told_of_call _ _ _ _ _ _ _ c.loop-leg.invariant.1 _ _ _ c.follow_leg-leg.ensures.back c.follow_leg-leg.ensures.followed
-    c.machine-in-loop-leg.result.now.state c.in-Ok.from c.machine-in-loop-leg.ensures.last c.in-Ok.ensures.on known
+    c.machine-in-loop-leg.result.now.state c.in-Ok.onward c.machine-in-loop-leg.ensures.last c.in-Ok.ensures.on known
     g.W.Witness.passes c.args.witness.now c.loop-leg.witness c.passed.new.self (c.loop-leg.invariant.2 known) (place_of c.place.result) c.place.ensures c.in-Ok-passed.ensures.ok)
