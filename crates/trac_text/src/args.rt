@@ -1,7 +1,7 @@
 //! The arguments of a function, borrowed from the neutral text.
 ghost use Rattle.std.specs.Prelude.{◌≡◌, ℕ, ◌≤◌, ◌+◌, ◌-◌, ◌<◌, ◌^◌, ◌++◌, List, [], length, map, get_or, take, drop};
 ghost use Rattle.std.specs.List.{concat};
-ghost use Rattle.trac_text.specs.Cuts.{AreCuts, cut, lengths_between, start_of, end_of};
+ghost use Rattle.trac_text.specs.Cuts.{AreCuts, cut, end_of};
 
 use crate::mark::Mark;
 use std::alloc::Allocator;
@@ -55,9 +55,13 @@ impl<'a> Args<'a> {
         if i > self.marks.len() {
             return &[];
         }
-        let start = start_at(self.from, self.marks, i);
+        let start = if i == 0 {
+            self.from
+        } else {
+            self.marks[i - 1].place
+        };
         let end = end_at(self.text.len(), self.marks, i);
-        part(self.text, start, end)
+        self.text.split_at(end).0.split_at(start).1
     }
 
     /// Puts the lengths of all arguments but the last at the end of a list that has room for them, in one pass over the
@@ -67,7 +71,11 @@ impl<'a> Args<'a> {
         requires room { length commas.old.items + (length self.now - 1) ≤ commas.old.capacity }
         ensures { commas.new.items ≡ commas.old.items ++ map length (take (length self.now - 1) self.now) }
     {
-        put_lengths_between(self.from, self.marks, commas);
+        let mut start = self.from;
+        for mark in self.marks {
+            commas.push((mark.place - start) as u32);
+            start = mark.place;
+        }
     }
 
     /// The bytes of all arguments, one after another. Nothing is copied.
@@ -78,40 +86,9 @@ impl<'a> Args<'a> {
     }
 }
 
-// Puts the lengths between these marks, of which the first is that from a place on, at the end of a
-// list that has room for them.
-fn put_lengths_between<A: Allocator>(from: usize, marks: &[Mark], commas: &mut SlidingBuf<u32, A>)
-    requires short { AreCuts from marks.now (from + (2 ^ 32 - 1)) }
-    requires room { length commas.old.items + length marks.now ≤ commas.old.capacity }
-    ensures { commas.new.items ≡ commas.old.items ++ lengths_between from marks.now }
-{
-    let mut start = from;
-    for mark in marks {
-        commas.push((mark.place - start) as u32);
-        start = mark.place;
-    }
-}
-
-// Where the argument of this number starts.
-fn start_at(from: usize, marks: &[Mark], i: usize) -> usize
-    requires { i ≤ length marks.now }
-    ensures { result ≡ start_of from marks.now i }
-{
-    if i == 0 { from } else { marks[i - 1].place }
-}
-
 // Where the argument of this number ends, in a text of this length.
 pub(crate) fn end_at(end: usize, marks: &[Mark], i: usize) -> usize
     ensures { result ≡ end_of end marks.now i }
 {
     if i < marks.len() { marks[i].place } else { end }
-}
-
-// The text from one place up to another.
-fn part(text: &[u8], start: usize, end: usize) -> &[u8]
-    requires rising { start ≤ end }
-    requires within { end ≤ length text.now }
-    ensures { result.now ≡ take (end - start) (drop start text.now) }
-{
-    &text[start..end]
 }
