@@ -20,38 +20,19 @@ use trac_rules::refusal::Refusal;
 /// A begun function: its kind, and its arguments, of which the last is being gathered.
 type Function<A> = (Kind, Vec<Vec<u8, A>, A>);
 
-// How many bytes texts hold together; `usize::MAX` if there are more.
-fn total_len<A: Allocator + Copy>(texts: &[Vec<u8, A>]) -> usize
-    ensures { result ≡ min (total_length (texts_of texts.now)) (2 ^ 64 - 1) }
-{
-    let mut total: usize = 0;
-    for text in texts {
-        total = total.saturating_add(text.len());
-    }
-    total
-}
-
-// The same of the arguments of begun functions.
-fn argument_len<A: Allocator + Copy>(functions: &[Function<A>]) -> usize
-    ensures { result ≡ min (function_bytes (functions_of functions.now)) (2 ^ 64 - 1) }
-{
-    let mut total: usize = 0;
-    for (_, arguments) in functions {
-        total = total.saturating_add(total_len(arguments.as_slice()));
-    }
-    total
-}
-
 /// How many bytes active text, base text and the arguments of begun functions hold together; `usize::MAX` if there are
 /// more.
 pub fn text_len<A: Allocator + Copy>(active: &[u8], base: &[u8], functions: &[Function<A>]) -> usize
     ensures { result
         ≡ min (length active.now + length base.now + function_bytes (functions_of functions.now)) (2 ^ 64 - 1) }
 {
-    active
-        .len()
-        .saturating_add(base.len())
-        .saturating_add(argument_len(functions))
+    let mut total = active.len().saturating_add(base.len());
+    for (_, arguments) in functions {
+        for argument in arguments {
+            total = total.saturating_add(argument.len());
+        }
+    }
+    total
 }
 
 /// How many marks begun functions have, as many as arguments; `usize::MAX` if there are more.
@@ -90,73 +71,6 @@ fn put_function<A: Allocator + Copy, E: TwoEnds<u8, A>, M: TwoEnds<Mark, A>>(
     }
 }
 
-// Begins functions within the text on the left, which has no marks, from the outermost on.
-fn put_functions<A: Allocator + Copy, E: TwoEnds<u8, A>, M: TwoEnds<Mark, A>>(
-    text: &mut E,
-    marks: &mut M,
-    functions: &[Function<A>],
-)
-    requires some { EachGathers functions.now }
-    requires none { (M.ends marks.old).left ≡ [] }
-    requires text { item_count (E.ends text.old) + function_bytes (functions_of functions.now)
-        ≤ (E.ends text.old).capacity }
-    requires marks { item_count (M.ends marks.old) + argument_count (functions_of functions.now)
-        ≤ (M.ends marks.old).capacity }
-    ensures neutral { neutral_of (marked_in (E.ends text.new) (M.ends marks.new))
-        ≡ record { base = (E.ends text.old).left; frames = frames_of (functions_of functions.now) } }
-    ensures ordered { IsOrdered (marked_in (E.ends text.new) (M.ends marks.new)) }
-    ensures text { E.ends text.new ≡ record (E.ends text.old) { left = (E.ends text.new).left } }
-    ensures marks { M.ends marks.new ≡ record (M.ends marks.old) { left = (M.ends marks.new).left } }
-    ensures holds { item_count (E.ends text.new) ≤ (E.ends text.new).capacity }
-    ensures mark_holds { item_count (M.ends marks.new) ≤ (M.ends marks.new).capacity }
-{
-    for (kind, arguments) in functions {
-        put_function(text, marks, *kind, arguments.as_slice());
-    }
-}
-
-// Lists with the active text on the right, the base text on the left, and room for these and the arguments of the
-// functions, and for no less than is wanted.
-fn text_of<A: Allocator + Copy, E: TwoEnds<u8, A>>(
-    alloc: A,
-    active: &[u8],
-    base: &[u8],
-    functions: &[Function<A>],
-    room: usize,
-) -> Result<E, Refusal>
-    requires { length active.now + length base.now + function_bytes (functions_of functions.now) ≤ TEXT_LIMIT }
-    ensures left { IfOk result (λ text. (E.ends text).left ≡ base.now) }
-    ensures right { IfOk result (λ text. (E.ends text).right ≡ active.now) }
-    ensures holds { IfOk result
-        (λ text. item_count (E.ends text) + function_bytes (functions_of functions.now) ≤ (E.ends text).capacity) }
-    ensures room { IfOk result (λ text. room ≤ (E.ends text).capacity) }
-    ensures err { IsOkUnless result Refusal.Memory }
-{
-    let mut text = E::new(alloc);
-    ends::reserve(&mut text, text_len(active, base, functions).max(room))?;
-    text.put_right(active);
-    text.put_left(base);
-    Ok(text)
-}
-
-// Lists with room for all marks of the functions, and for no less than is wanted.
-fn marks_of<A: Allocator + Copy, M: TwoEnds<Mark, A>>(
-    alloc: A,
-    functions: &[Function<A>],
-    room: usize,
-) -> Result<M, Refusal>
-    requires { argument_count (functions_of functions.now) ≤ MARK_LIMIT }
-    ensures left { IfOk result (λ marks. (M.ends marks).left ≡ []) }
-    ensures right { IfOk result (λ marks. (M.ends marks).right ≡ []) }
-    ensures holds { IfOk result (λ marks. argument_count (functions_of functions.now) ≤ (M.ends marks).capacity) }
-    ensures room { IfOk result (λ marks. room ≤ (M.ends marks).capacity) }
-    ensures err { IsOkUnless result Refusal.Memory }
-{
-    let mut marks = M::new(alloc);
-    ends::reserve(&mut marks, mark_count(functions).max(room))?;
-    Ok(marks)
-}
-
 /// Lists that hold these texts and begun functions, from the outermost on: active text, base text and arguments, and
 /// the marks. They have room for at least so many bytes and marks. Each function has to have an argument, the one that
 /// is being gathered, and texts and marks may not pass the limits. Refused with `Memory` if the allocator refuses.
@@ -181,9 +95,15 @@ pub fn texts_and_marks<A: Allocator + Copy, E: TwoEnds<u8, A>, M: TwoEnds<Mark, 
     ensures mark_room { IfOk result (λ r. mark_room ≤ (M.ends r.1).capacity) }
     ensures err { IsOkUnless result Refusal.Memory }
 {
-    let mut text = text_of(alloc, active, base, functions, text_room)?;
-    let mut marks = marks_of(alloc, functions, mark_room)?;
-    put_functions(&mut text, &mut marks, functions);
+    let mut text = E::new(alloc);
+    ends::reserve(&mut text, text_len(active, base, functions).max(text_room))?;
+    text.put_right(active);
+    text.put_left(base);
+    let mut marks = M::new(alloc);
+    ends::reserve(&mut marks, mark_count(functions).max(mark_room))?;
+    for (kind, arguments) in functions {
+        put_function(&mut text, &mut marks, *kind, arguments.as_slice());
+    }
     Ok((text, marks))
 }
 

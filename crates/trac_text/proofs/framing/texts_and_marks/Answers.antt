@@ -1,26 +1,49 @@
--- The functions are begun after the base text.
-use Rattle.std.proofs.Common.{ℕ, List, ap, arith, ◌∙◌}
-use Rattle.std.specs.Prelude.{length}
+-- Each function is begun within the one before.
+use Rattle.std.proofs.Common.{ℕ, refl, ap, arith, rules}
+use Rattle.std.proofs.lemmas.List.{append-nil}
 use Rattle.trac_gap.specs.Ends.{Ends}
-use Rattle.trac_text.specs.declared.mark.Mark.{Mark}
-use Rattle.trac_text.specs.Framing.{frames_of, functions_of}
-use Rattle.trac_text.specs.Neutral.{Neutral}
+use Rattle.trac_text.proofs.Framed.{begun_all, begun_next, begun_room}
+use Rattle.trac_text.proofs.NeutralAgain.{shows_base}
 use Rattle.trac_text.proofs.framing.texts_and_marks.Goals as goal
 
-pub put_functions-requires-clause-marks : goal.put_functions-requires-clause-marks
-put_functions-requires-clause-marks g c =
-    omega (arith, c.in_ok-marks.ensures.holds, ap length c.in_ok-marks.ensures.left, ap length c.in_ok-marks.ensures.right)
+pub loop-kind-init : goal.loop-kind-init
+loop-kind-init g c =
+    rw (c.put_left.ensures, c.put_right.ensures, c.reserve.ensures.left, c.reserve.ensures.right, c.new-text.ensures, c.reserve-2.ensures.left, c.reserve-2.ensures.right, c.new-marks.ensures, append-nil) (record {
+      begun = record { shows = shows_base c.args.base.now; text_is = refl; marks_are = refl };
+      holds = omega (arith, c.requires.text, c.text_len.ensures, c.max.ensures, c.in_ok-reserve.ensures.ok);
+      mark_holds = omega (arith, c.requires.marks, c.mark_count.ensures, c.max-2.ensures, c.in_ok-reserve-2.ensures.ok);
+      room = omega (arith, c.max.ensures, c.in_ok-reserve.ensures.ok);
+      mark_room = omega (arith, c.max-2.ensures, c.in_ok-reserve-2.ensures.ok);
+    })
 
-pub returns-clause-active : goal.returns-clause-active
-returns-clause-active g c = ap (λ (e : Ends ℕ). e.right) c.put_functions.ensures.text ∙ c.in_ok-text.ensures.right
+pub put_function-requires : goal.put_function-requires
+put_function-requires g c =
+    let so_far = c.loop-kind.invariant in
+    let room = begun_room so_far.begun c.loop-kind-item.result (omega arith) c.loop-kind-item.is c.requires.some refl (omega (arith, so_far.holds)) (omega (arith, so_far.mark_holds)) in
+    rw c.as_slice.ensures.value (record { text = room.0; marks = room.1 })
 
-pub returns-clause-room : goal.returns-clause-room
-returns-clause-room g c = omega (arith, c.in_ok-text.ensures.room, ap (λ (e : Ends ℕ). e.capacity) c.put_functions.ensures.text)
+pub loop-kind-preserved : goal.loop-kind-preserved
+loop-kind-preserved g c =
+    let so_far = c.loop-kind.invariant in
+    rw (c.put_function.ensures.text, c.put_function.ensures.marks, c.as_slice.ensures.value) (record {
+      begun = begun_next so_far.begun c.loop-kind-item.result (omega arith) c.loop-kind-item.is c.requires.some refl refl;
+      holds = so_far.holds;
+      mark_holds = so_far.mark_holds;
+      room = so_far.room;
+      mark_room = so_far.mark_room;
+    })
 
-pub returns-clause-mark_room : goal.returns-clause-mark_room
-returns-clause-mark_room g c = omega (arith, c.in_ok-marks.ensures.room, ap (λ (e : Ends Mark). e.capacity) c.put_functions.ensures.marks)
-
-pub returns-clause-neutral : goal.returns-clause-neutral
-returns-clause-neutral g c =
-    c.put_functions.ensures.neutral
-    ∙ ap (λ (base : List ℕ). let n : Neutral = record { base = base; frames = frames_of (functions_of c.args.functions.now) } in n) c.in_ok-text.ensures.left
+pub returns : goal.returns
+returns g c =
+    let so_far = c.loop-kind.invariant in
+    let all = begun_all so_far.begun c.requires.some (omega arith) refl (omega (arith, so_far.holds)) (omega (arith, so_far.mark_holds)) in
+    record {
+      neutral = all.0.same;
+      active = ap (λ (e : Ends ℕ). e.right) so_far.begun.text_is;
+      ordered = all.0.ordered;
+      holds = all.1;
+      mark_holds = omega (arith, all.2);
+      room = so_far.room;
+      mark_room = so_far.mark_room;
+      err = search rules;
+    }

@@ -1,8 +1,0 @@
--- What was added up so far.
-use Rattle.std.proofs.Common.{◌≡◌, ◌-◌, ◌^◌, take}
-use Rattle.std.specs.Prelude.{min}
-use Rattle.trac_text.specs.Framing.{function_bytes, functions_of}
-use Rattle.trac_text.proofs.framing.argument_len.Given as goal
-
-abbrev pub invariant-loop-arguments : goal.invariant-loop-arguments
-invariant-loop-arguments g l = l.total ≡ min (function_bytes (functions_of (take l.arguments-index l.functions))) (2 ^ 64 - 1)
