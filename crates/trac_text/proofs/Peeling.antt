@@ -26,20 +26,13 @@ module _ (m : MarkedText) (number place : ℕ) (kind : Kind) (texts : List (List
   abbrev outer : List Frame
   outer = (neutral_of (cut_back number place m)).frames
 
-  all_numbered : slice_get (reverse (neutral_of m).frames) ≡ slice_get (reverse outer ++ inner.frame ∷ [])
-  all_numbered = ap (λ (fs : List Frame). slice_get (reverse fs)) inner.frames_are ∙ ap slice_get (reverse_first inner.frame outer)
-
   pub outer_count : length (neutral_of m).frames ≡ length outer + 1
   outer_count = let whole : length (neutral_of m).frames ≡ suc (length outer) = ap length inner.frames_are in omega arith
-
-  -- the outer functions keep their numbers
-  pub outer_same : (i : ℕ) → i < length outer → slice_get (reverse (neutral_of m).frames) i ≡ slice_get (reverse outer) i
-  outer_same i h = ap (λ (at : ℕ → Option Frame). at i) all_numbered ∙ slice_get-front (reverse outer) (inner.frame ∷ []) i (rw length-reverse h)
 
   pub is_last_frame : (i : ℕ) → i ≡ length outer → IsFrame (slice_get (reverse (neutral_of m).frames) i) kind texts
   is_last_frame i e =
       let found : slice_get (reverse (neutral_of m).frames) i ≡ Some inner.frame =
-      ap (λ (at : ℕ → Option Frame). at i) all_numbered ∙ slice_get-push (reverse outer) inner.frame i (e ∙ sym (length-reverse outer)) in
+      ap (λ (fs : List Frame). slice_get (reverse fs) i) inner.frames_are ∙ ap (λ (fs : List Frame). slice_get fs i) (reverse_first inner.frame outer) ∙ slice_get-push (reverse outer) inner.frame i (e ∙ sym (length-reverse outer)) in
       subst (λ o. IsFrame o kind texts) (sym found) (inner.kind_is, inner.arguments_are)
 
 -- ---- the base text

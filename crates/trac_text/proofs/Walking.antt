@@ -8,7 +8,7 @@ use Rattle.std.proofs.lemmas.List.{drop-drop, drop_all, length-append, length-dr
 use Rattle.trac_rules.specs.declared.kind.Kind.{Kind}
 use Rattle.trac_rules.specs.State.{Frame}
 use Rattle.trac_text.specs.declared.mark.Mark.{Mark}
-use Rattle.trac_text.specs.Begun.{IsFront, IsNextFunction, frames_from}
+use Rattle.trac_text.specs.Begun.{IsNextFunction, frames_from}
 use Rattle.trac_text.specs.Cuts.{end_of, function_count, no_mark}
 use Rattle.trac_text.specs.Frames.{IsFrame, IsInnermost}
 use Rattle.trac_text.specs.Neutral.{Neutral, marked, neutral, AreMarks, MarkedText, IsOrdered, cut_back, neutral_of}
@@ -18,6 +18,12 @@ use Rattle.trac_text.proofs.Neutral.{frames_counted}
 use Rattle.trac_text.proofs.Peeling.{is_last_frame, outer_count, slice_get-front}
 
 -- ---- the functions before a mark that begins one are the outermost ones
+
+-- a text with its marks up to a place: its functions are the outermost ones of the whole text
+pub record IsFront (m : MarkedText) (number : ℕ) (front : MarkedText) : Type 0 where
+  pub count : length (neutral_of front).frames ≡ function_count (take number m.marks)
+  pub inner : List Frame
+  pub frames_are : (neutral_of m).frames ≡ inner ++ (neutral_of front).frames
 
 -- there are frames before these, the first of which gets further arguments
 record HasInner (all front : List Frame) : Type 0 where

@@ -1,5 +1,5 @@
 -- What the walk over begun functions gives.
-use Rattle.std.specs.Prelude.{◌≡◌, ℕ, ◌<◌, ◌≤◌, true, List, [], ◌++◌, length, take, drop, get_or, reverse, Option}
+use Rattle.std.specs.Prelude.{◌≡◌, ℕ, ◌<◌, ◌≤◌, true, List, [], length, take, drop, get_or, reverse, Option}
 use Rattle.std.specs.Prelude.{is_some, slice_get, MatchOption}
 use Rattle.trac_rules.specs.declared.kind.Kind.{Kind}
 use Rattle.trac_rules.specs.State.{Frame}
@@ -16,12 +16,6 @@ pub record IsNextFunction (marks : List Mark) (number : ℕ) : Type 0 where
 -- the begun functions from that place on, the outermost of them first
 abbrev pub frames_from : ℕ → MarkedText → List Frame
 frames_from number m = drop (function_count (take number m.marks)) (reverse (neutral_of m).frames)
-
--- a text with its marks up to that place: its functions are the outermost ones of the whole text
-pub record IsFront (m : MarkedText) (number : ℕ) (front : MarkedText) : Type 0 where
-  pub count : length (neutral_of front).frames ≡ function_count (take number m.marks)
-  pub inner : List Frame
-  pub frames_are : (neutral_of m).frames ≡ inner ++ (neutral_of front).frames
 
 -- the first frame is given, its kind and all its arguments; none if none is left now or later
 abbrev pub GivesFrame : List Frame → Option (Kind × List (List ℕ)) → List Frame → Type 0

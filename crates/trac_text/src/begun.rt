@@ -1,8 +1,8 @@
 //! The begun functions of a neutral text, one after another from the outermost on.
 ghost use Rattle.std.specs.Prelude.{◌≡◌, ◌+◌, ◌<◌, length, take, reverse};
-ghost use Rattle.trac_text.specs.Begun.{IsFront, IsNextFunction};
+ghost use Rattle.trac_text.specs.Begun.{IsNextFunction};
 ghost use Rattle.trac_text.specs.Cuts.{function_count};
-ghost use Rattle.trac_text.specs.Neutral.{AreMarks, IsOrdered, neutral_of};
+ghost use Rattle.trac_text.specs.Neutral.{AreMarks, neutral_of};
 
 use crate::args::{Args, end_at};
 use crate::frames::innermost_in;
@@ -67,8 +67,12 @@ impl<'a> Iterator for BegunFunctions<'a> {
             return None;
         }
         self.next = next_function(self.marks, self.next);
-        let (text, marks) = front_of(self.text, self.marks, self.next);
-        let innermost = innermost_in(text, marks)?;
+        // The next one is the innermost of the text before the mark at which the one after it begins.
+        let place = end_at(self.text.len(), self.marks, self.next);
+        let innermost = innermost_in(
+            self.text.split_at(place).0,
+            self.marks.split_at(self.next).0,
+        )?;
         Some((innermost.kind, innermost.arguments))
     }
 }
@@ -88,16 +92,4 @@ fn next_function(marks: &[Mark], from: usize) -> usize
         place += 1;
     }
     place
-}
-
-// The text before the mark of this number, which begins a function, and its marks; all of it if there is no such mark.
-fn front_of<'a>(text: &'a [u8], marks: &'a [Mark], number: usize) -> (&'a [u8], &'a [Mark])
-    requires ordered { IsOrdered (record { text = text.now; marks = marks.now }) }
-    requires next { IsNextFunction marks.now number }
-    ensures ordered { IsOrdered (record { text = result.0.now; marks = result.1.now }) }
-    ensures front { IsFront (record { text = text.now; marks = marks.now }) number
-        (record { text = result.0.now; marks = result.1.now }) }
-{
-    let place = end_at(text.len(), marks, number);
-    (text.split_at(place).0, marks.split_at(number).0)
 }

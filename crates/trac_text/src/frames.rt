@@ -1,6 +1,5 @@
 //! The neutral text with its marks, read as the text outside all functions and the begun functions.
 ghost use Rattle.std.specs.Prelude.{◌≡◌, ◌==◌, ◌≤◌, [], length, reverse, slice_get, MatchOption};
-ghost use Rattle.trac_text.specs.Cuts.{AreArguments, BeginsFunction};
 ghost use Rattle.trac_text.specs.Frames.{IsFrame, IsInnermost};
 ghost use Rattle.trac_text.specs.Neutral.{AreMarks, IsDepth, IsOrdered, MarkedText};
 ghost use Rattle.trac_text.specs.Neutral.{cut_back, marked_text_code, neutral_of};
@@ -139,31 +138,24 @@ impl<'a> NeutralText<'a> {
     }
 }
 
-// The innermost function of a text with these marks; none if no function is begun.
+// The innermost function of a text with these marks, which begins at the last mark that begins one; none if no function
+// is begun.
 pub(crate) fn innermost_in<'a>(text: &'a [u8], marks: &'a [Mark]) -> Option<Innermost<'a>>
     requires { IsOrdered (record { text = text.now; marks = marks.now }) }
     ensures { MatchOption result ((neutral_of (record { text = text.now; marks = marks.now })).frames ≡ [])
         (λ f. IsInnermost (record { text = text.now; marks = marks.now }) f.number f.place f.kind f.arguments) }
 {
-    let (number, kind) = last_function(marks)?;
-    let place = marks[number].place;
-    Some(Innermost {
-        number,
-        place,
-        kind,
-        arguments: Args::new(text, marks.split_at(number + 1).1, place),
-    })
-}
-
-// The last of the marks that begins a function, and its kind: after it only arguments begin.
-fn last_function(marks: &[Mark]) -> Option<(usize, Kind)>
-    ensures { MatchOption result (AreArguments marks.now) (λ r. BeginsFunction marks.now r.0 r.1) }
-{
-    let mut i = marks.len();
-    while i > 0 {
-        i -= 1;
-        if let Some(kind) = marks[i].frame {
-            return Some((i, kind));
+    let mut number = marks.len();
+    while number > 0 {
+        number -= 1;
+        if let Some(kind) = marks[number].frame {
+            let place = marks[number].place;
+            return Some(Innermost {
+                number,
+                place,
+                kind,
+                arguments: Args::new(text, marks.split_at(number + 1).1, place),
+            });
         }
     }
     None
