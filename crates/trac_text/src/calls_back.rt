@@ -14,19 +14,6 @@ use trac_gap::TwoEnds;
 use trac_rules::byte::CLOSING;
 use trac_rules::kind::Kind;
 
-// Takes a value of n bytes off again, from where it went. That is the front of the text on the right if it was to be
-// scanned, or else the end of the one on the left.
-fn take_value<E: TwoEnds<u8, A>, A: Allocator + Copy>(text: &mut E, scanned: bool, n: usize)
-    requires { HasValue scanned n (E.ends text.old) }
-    ensures { E.ends text.new ≡ without_value scanned n (E.ends text.old) }
-{
-    if scanned {
-        text.cut_right(n);
-        return;
-    }
-    text.cut_left(n);
-}
-
 /// Takes a value of n bytes off again, from where it went. Puts a `)` before the text on the right. Puts the function
 /// that this `)` ends, with its arguments, at the end of the text on the left. There has to be room for these. It takes
 /// no memory.
@@ -48,7 +35,12 @@ pub fn put_call<E: TwoEnds<u8, A>, M: TwoEnds<Mark, A>, A: Allocator + Copy>(
         (length (without_value scanned n (E.ends text.old)).left) kind (map length arguments.now.finished) }
     ensures mark_room { (M.ends marks.new).capacity ≡ (M.ends marks.old).capacity }
 {
-    take_value(text, scanned, n);
+    // A value that was to be scanned went before the text on the right, any other after the one on the left.
+    if scanned {
+        text.cut_right(n);
+    } else {
+        text.cut_left(n);
+    }
     text.push_right(CLOSING);
 
     // Marks stand on the left alone, so all of the room is theirs.

@@ -28,19 +28,6 @@ pub fn kept_of<A: Allocator + Copy>(
     ensures err { IsOkUnless result Refusal.Memory }
 {
     let base = Vec::from_slice(alloc, text.base())?;
-    let functions = functions_of(alloc, text)?;
-    Ok((base, functions))
-}
-
-// Copies of all begun functions of a neutral text.
-fn functions_of<A: Allocator + Copy>(
-    alloc: A,
-    text: NeutralText<'_>,
-) -> Result<Functions<A>, Refusal>
-    requires short { argument_bytes (neutral_of text).frames < 2 ^ 32 }
-    ensures same { IfOk result (λ functions. frames_in functions.items ≡ (neutral_of text.entry).frames) }
-    ensures err { IsOkUnless result Refusal.Memory }
-{
     let mut functions = Vec::with_capacity(alloc, text.depth())?;
     let mut rest = text;
     while let Some(innermost) = rest.innermost() {
@@ -48,7 +35,7 @@ fn functions_of<A: Allocator + Copy>(
         functions.push_reserved((innermost.kind, arguments));
         rest = rest.before(&innermost);
     }
-    Ok(functions)
+    Ok((base, functions))
 }
 
 /// Puts a base text and begun functions in the place of all that the lists hold. There has to be room

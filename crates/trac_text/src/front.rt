@@ -2,25 +2,12 @@
 ghost use Rattle.std.specs.Prelude.{◌≡◌, ◌+◌, ◌<◌, ◌≤◌, false, get_or, length, true, ℕ};
 ghost use Rattle.trac_rules.specs.PlainRuns.{is_plain as is_plain_byte};
 ghost use Rattle.trac_rules.specs.Performing.{beginning_of};
-ghost use Rattle.trac_rules.specs.Scanning.{front_of, sharp_before};
+ghost use Rattle.trac_rules.specs.Scanning.{front_of};
 ghost use Rattle.trac_text.specs.Moving.{adds_mark};
 
 use trac_rules::byte;
 use trac_rules::kind::Kind;
 use trac_rules::scan::Front;
-
-// What a `#` before this text means.
-fn sharp_at(rest: &[u8]) -> Front
-    ensures { result ≡ sharp_before rest.now }
-{
-    if rest.starts_with(b"(") {
-        Front::ActiveCall
-    } else if rest.starts_with(b"#(") {
-        Front::NeutralCall
-    } else {
-        Front::Sharp
-    }
-}
 
 /// What the active text begins with, which decides the rule of scanning, as T-64 has it.
 pub fn front_at(active: &[u8]) -> Front
@@ -29,18 +16,15 @@ pub fn front_at(active: &[u8]) -> Front
     let Some((&first, rest)) = active.split_first() else {
         return Front::Nothing;
     };
-    if first == byte::OPENING {
-        Front::Opening
-    } else if first == byte::CLOSING {
-        Front::Closing
-    } else if first == byte::COMMA {
-        Front::Comma
-    } else if first == byte::SHARP {
-        sharp_at(rest)
-    } else if first == byte::CARRIAGE_RETURN || first == byte::LINE_FEED || first == byte::TAB {
-        Front::Layout
-    } else {
-        Front::Plain
+    match first {
+        byte::OPENING => Front::Opening,
+        byte::CLOSING => Front::Closing,
+        byte::COMMA => Front::Comma,
+        byte::SHARP if rest.starts_with(b"(") => Front::ActiveCall,
+        byte::SHARP if rest.starts_with(b"#(") => Front::NeutralCall,
+        byte::SHARP => Front::Sharp,
+        byte::CARRIAGE_RETURN | byte::LINE_FEED | byte::TAB => Front::Layout,
+        _ => Front::Plain,
     }
 }
 
@@ -125,7 +109,8 @@ fn far_plain_end(text: &[u8], from: usize, end: usize) -> usize
     place
 }
 
-// Whether one of the group of bytes that begins at this place is low. If none is, all of them are plain.
+// Whether one of the group of bytes that begins at this place is low: below `-`, and no space. All bytes that are not
+// plain are low, and few others in most texts.
 fn group_has_low(text: &[u8], at: usize) -> bool
     requires { at + GROUP ≤ length text.now }
     ensures { result ≡ false → ((k : ℕ) → k < at → is_plain_byte (get_or text.now k 0) ≡ true)
@@ -133,16 +118,10 @@ fn group_has_low(text: &[u8], at: usize) -> bool
 {
     let mut low = false;
     for i in 0..GROUP {
-        low |= is_low(text[at + i]);
+        let b = text[at + i];
+        low |= (b < b'-') & (b != b' ');
     }
     low
-}
-
-// Whether a byte is below `-` and no space: so are all bytes that are not plain, and few others in most texts.
-fn is_low(b: u8) -> bool
-    ensures { result ≡ false → is_plain_byte b ≡ true }
-{
-    (b < b'-') & (b != b' ')
 }
 
 /// Whether the rule for this front makes a mark, if there are so many marks: a function is begun, or, inside of one, a

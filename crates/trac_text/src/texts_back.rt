@@ -9,7 +9,6 @@ use crate::mark::Mark;
 use std::alloc::Allocator;
 use trac_gap::TwoEnds;
 use trac_rules::byte::{CLOSING, OPENING};
-use trac_rules::kind::Kind;
 
 /// Moves a protected text of this length, which is at the end of the left, back to the right. Puts its `(` before it
 /// and, if it was closed, a `)` after it. It takes no memory.
@@ -45,13 +44,6 @@ pub fn pop_mark<A: Allocator + Copy, E: TwoEnds<u8, A>, M: TwoEnds<Mark, A>>(
     text.put_right(bytes);
 }
 
-// The kind of the function that the last mark begins; none if it ends an argument, or if there is no mark.
-fn kind_of_last(marks: &[Mark]) -> Option<Kind>
-    ensures { result ≡ last_begun (reverse marks.now) }
-{
-    marks.last()?.frame
-}
-
 /// Takes the last mark away, which begins a function, and puts that beginning before the text on
 /// the right. It takes no memory.
 pub fn pop_beginning<A: Allocator + Copy, E: TwoEnds<u8, A>, M: TwoEnds<Mark, A>>(
@@ -67,7 +59,10 @@ pub fn pop_beginning<A: Allocator + Copy, E: TwoEnds<u8, A>, M: TwoEnds<Mark, A>
     ensures marks { M.ends marks.new
         ≡ record (M.ends marks.old) { left = take (length (M.ends marks.old).left - 1) (M.ends marks.old).left } }
 {
-    let Some(kind) = kind_of_last(marks.left()) else {
+    let Some(last) = marks.left().last() else {
+        unreachable!()
+    };
+    let Some(kind) = last.frame else {
         unreachable!()
     };
     pop_mark(text, marks, beginning_of(kind));

@@ -4,7 +4,7 @@ use Rattle.std.specs.Vec.{vec_capacity}
 use Rattle.trac_rules.specs.Limits.{argument_bytes}
 use Rattle.trac_text.specs.Neutral.{neutral_of}
 use Rattle.trac_text.specs.Pieces.{frames_in}
-use Rattle.trac_text.proofs.emptying.functions_of.Given as goal
+use Rattle.trac_text.proofs.emptying.kept_of.Given as goal
 
 abbrev pub invariant-loop-innermost : goal.invariant-loop-innermost
 invariant-loop-innermost g l = record {
