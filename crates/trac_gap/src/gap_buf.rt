@@ -1,5 +1,5 @@
 //! Lists with two ends in one block, with the gap between them.
-ghost use Rattle.std.specs.Prelude.{◌≡◌, ◌+◌, ◌<◌, ◌≤◌, [], IfOk, OnErr, OnOk};
+ghost use Rattle.std.specs.Prelude.{◌≡◌, ◌+◌, ◌<◌, ◌≤◌, IfOk, OnErr, OnOk};
 ghost use Rattle.trac_gap.specs.Ends.{item_count};
 
 use crate::error::GapError;
@@ -54,44 +54,27 @@ impl<T: Copy, A: Allocator + Copy> Drop for GapBuf<T, A> {
     }
 }
 
-// The capacity to grow to: double, if that is enough.
-fn grown(capacity: usize, wanted: usize) -> usize
-    ensures { wanted ≤ result }
-{
-    match capacity.checked_mul(2) {
-        Some(double) if wanted < double => double,
-        _ => wanted,
-    }
-}
-
 impl<T: Copy, A: Allocator + Copy> GapBuf<T, A> {
-    // A block of `capacity` places and two empty lists. Refused if there is no memory.
-    fn with_places(alloc: A, capacity: usize) -> Result<Self, AllocError>
-        ensures { IfOk result (λ b. b ≡ record { left = []; right = []; capacity = capacity }) }
-    {
-        if !may_hold::<T>(capacity) {
-            return Err(AllocError);
-        }
-        let (start, places, lease) = allocate(&alloc, capacity)?;
-        Ok(GapBuf {
-            start,
-            places,
-            alloc,
-            gap_start: 0,
-            capacity,
-            gap_end: capacity,
-            lease: Some(lease),
-        })
-    }
-
-    // A block of `capacity` places with a copy of both lists.
+    // A block of `capacity` places with a copy of both lists. Refused if there is no memory.
     #[cold]
     #[inline(never)]
     fn copied(&self, capacity: usize) -> Result<Self, AllocError>
         requires { item_count self.now ≤ capacity }
         ensures { IfOk result (λ b. b ≡ record self.now { capacity = capacity }) }
     {
-        let mut copy = GapBuf::with_places(self.alloc, capacity)?;
+        if !may_hold::<T>(capacity) {
+            return Err(AllocError);
+        }
+        let (start, places, lease) = allocate(&self.alloc, capacity)?;
+        let mut copy = GapBuf {
+            start,
+            places,
+            alloc: self.alloc,
+            gap_start: 0,
+            capacity,
+            gap_end: capacity,
+            lease: Some(lease),
+        };
         copy.put_left(self.left());
         copy.put_right(self.right());
         Ok(copy)
@@ -112,7 +95,9 @@ impl<T: Copy, A: Allocator + Copy> GapBuf<T, A> {
         let Some(wanted) = used.checked_add(n) else {
             return Err(GapError::Memory);
         };
-        *self = self.copied(grown(self.capacity, wanted))?;
+        // Twice the places, if that is enough.
+        let grown = wanted.max(self.capacity.checked_mul(2).unwrap_or(wanted));
+        *self = self.copied(grown)?;
         Ok(())
     }
 }

@@ -1,8 +1,9 @@
 //! Lists with two ends over two vectors: the plain program that tests compare with.
-ghost use Rattle.std.specs.Prelude.{◌≡◌, ◌+◌, ◌-◌, ◌<◌, ◌≤◌, ◌++◌, length, drop, vec_len, vec_capacity};
+ghost use Rattle.std.specs.Prelude.{◌≡◌, ◌+◌, ◌-◌, ◌<◌, ◌≤◌, ◌++◌, length, vec_len, vec_capacity};
 ghost use Rattle.trac_gap.specs.Ends.{Ends};
 
 use crate::error::GapError;
+use crate::sliding::cut_front;
 use crate::two_ends::TwoEnds;
 use std::alloc::{Allocator, Global};
 use std::marker::Model;
@@ -133,14 +134,4 @@ fn append<T: Copy, A: Allocator + Copy>(list: &mut Vec<T, A>, items: &[T])
     let Ok(()) = list.extend_from_slice(items) else {
         unreachable!()
     };
-}
-
-// Drops the first `n` items of `list`.
-fn cut_front<T: Copy, A: Allocator + Copy>(list: &mut Vec<T, A>, n: usize)
-    requires { n ≤ vec_len list.old }
-    ensures items { list.new.items ≡ drop n list.old.items }
-    ensures capacity { vec_capacity list.new ≡ vec_capacity list.old }
-{
-    list.rotate_left(n);
-    list.truncate(list.len() - n);
 }

@@ -184,7 +184,7 @@ impl<T: Copy, A: Allocator> SlidingBuf<T, A> {
 }
 
 // Drops the first `n` items of `list`, and moves the others to the front of its block.
-fn cut_front<T: Copy, A: Allocator>(list: &mut Vec<T, A>, n: usize)
+pub(crate) fn cut_front<T: Copy, A: Allocator>(list: &mut Vec<T, A>, n: usize)
     requires { n ≤ vec_len list.old }
     ensures items { list.new.items ≡ drop n list.old.items }
     ensures capacity { vec_capacity list.new ≡ vec_capacity list.old }
