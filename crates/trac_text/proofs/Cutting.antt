@@ -3,7 +3,13 @@ use Rattle.std.proofs.Common.{◌≡◌, ℕ, zero, suc, ◌+◌, ◌-◌, ◌<�
 use Rattle.std.proofs.lemmas.List.{append-nil, take-append-drop, take_rest, drop-drop}
 use Rattle.std.specs.List.{concat}
 use Rattle.trac_text.specs.declared.mark.Mark.{Mark}
-use Rattle.trac_text.specs.Cuts.{AreCuts, cut, start_of, end_of}
+use Rattle.trac_text.specs.Cuts.{AreCuts, cut, end_of}
+
+-- where the argument of this number starts
+abbrev pub start_of : ℕ → List Mark → ℕ → ℕ
+start_of from marks zero = from
+start_of from [] (suc i) = from
+start_of from (m ∷ marks) (suc i) = start_of m.place marks i
 
 -- one argument more than there are marks
 pub length-cut : (from : ℕ) (marks : List Mark) (text : List ℕ) → length (cut from marks text) ≡ length marks + 1

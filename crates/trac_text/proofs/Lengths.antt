@@ -3,8 +3,13 @@ use Rattle.std.proofs.Common.{◌≡◌, ℕ, ◌+◌, ◌-◌, ◌<◌, ◌≤�
 use Rattle.std.proofs.lemmas.List.{length-drop, length-take-le, drop_more}
 use Rattle.std.specs.List.{concat}
 use Rattle.trac_text.specs.declared.mark.Mark.{Mark}
-use Rattle.trac_text.specs.Cuts.{AreCuts, cut, lengths_between, no_mark}
+use Rattle.trac_text.specs.Cuts.{AreCuts, cut, no_mark}
 use Rattle.trac_text.proofs.Cutting.{concat-cut, length-cut, start_within}
+
+-- how many bytes lie from a place up to the first mark, and from each mark up to the next
+abbrev pub lengths_between : ℕ → List Mark → List ℕ
+lengths_between from [] = []
+lengths_between from (m ∷ marks) = (m.place - from) ∷ lengths_between m.place marks
 
 -- the next of the marks that are left is within the end
 pub next_within : (start : ℕ) (marks : List Mark) (i end : ℕ) → i < length marks → AreCuts start (drop i marks) end → (get_or marks i no_mark).place ≤ end

@@ -14,22 +14,11 @@ abbrev pub AreCuts : ℕ → List Mark → ℕ → Type 0
 AreCuts from [] end = from ≤ end
 AreCuts from (m ∷ marks) end = (from ≤ m.place) × AreCuts m.place marks end
 
--- where the argument of this number starts
-abbrev pub start_of : ℕ → List Mark → ℕ → ℕ
-start_of from marks zero = from
-start_of from [] (suc i) = from
-start_of from (m ∷ marks) (suc i) = start_of m.place marks i
-
--- where it ends, in a text of this length
+-- where the argument of this number ends, in a text of this length
 abbrev pub end_of : ℕ → List Mark → ℕ → ℕ
 end_of end [] i = end
 end_of end (m ∷ marks) zero = m.place
 end_of end (m ∷ marks) (suc i) = end_of end marks i
-
--- how many bytes lie from a place up to the first mark, and from each mark up to the next
-abbrev pub lengths_between : ℕ → List Mark → List ℕ
-lengths_between from [] = []
-lengths_between from (m ∷ marks) = (m.place - from) ∷ lengths_between m.place marks
 
 -- what stands for a mark if there is none
 abbrev pub no_mark : Mark

@@ -66,24 +66,8 @@ pub fn plain_front(text: &[u8], most: usize) -> usize
     n
 }
 
-// Where the plain bytes end that go on from one place, up to another: one by one.
-fn plain_end(text: &[u8], from: usize, end: usize) -> usize
-    requires from { from ≤ end }
-    requires within { end ≤ length text.now }
-    requires plain { (k : ℕ) → k < from → is_plain_byte (get_or text.now k 0) ≡ true }
-    ensures from { from ≤ result }
-    ensures within { result ≤ end }
-    ensures plain { (k : ℕ) → k < result → is_plain_byte (get_or text.now k 0) ≡ true }
-    ensures end { result < end → is_plain_byte (get_or text.now result 0) ≡ false }
-{
-    let mut place = from;
-    while place < end && is_plain(text[place]) {
-        place += 1;
-    }
-    place
-}
-
-// The same, many at a time. It is called once for a long run, and kept out of the way of the short ones.
+// Where the plain bytes end that go on from one place, up to another: many at a time, and one by one where one of them
+// is low. It is called once for a long run, and kept out of the way of the short ones.
 #[inline(never)]
 fn far_plain_end(text: &[u8], from: usize, end: usize) -> usize
     requires from { from ≤ end }
@@ -100,11 +84,12 @@ fn far_plain_end(text: &[u8], from: usize, end: usize) -> usize
             continue;
         }
         let stop = end.min(place + GROUP);
-        let reached = plain_end(text, place, stop);
-        if reached < stop {
-            return reached;
+        while place < stop && is_plain(text[place]) {
+            place += 1;
         }
-        place = stop;
+        if place < stop {
+            return place;
+        }
     }
     place
 }

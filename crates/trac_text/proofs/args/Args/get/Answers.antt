@@ -1,8 +1,8 @@
 use Rattle.std.proofs.Common.{◌≡◌, ◌≤◌, [], length, drop, get_or, sym, ap, ◌∙◌, arith}
 use Rattle.std.proofs.lemmas.List.{get_or_past}
 use Rattle.std.proofs.lemmas.Slice.{between_is}
-use Rattle.trac_text.specs.Cuts.{cut, start_of}
-use Rattle.trac_text.proofs.Cutting.{length-cut, get-cut, start_before_end, start_of-before}
+use Rattle.trac_text.specs.Cuts.{cut}
+use Rattle.trac_text.proofs.Cutting.{length-cut, get-cut, start_before_end, start_of, start_of-before}
 use Rattle.trac_text.proofs.args.Args.get.Goals as goal
 use Rattle.trac_text.proofs.args.Args.get.Goals.{then-i-eq0, else-i-eq0}
 

@@ -2,9 +2,8 @@ use Rattle.std.proofs.Common.{◌≡◌, ℕ, List, [], ◌+◌, ◌-◌, ◌^�
 use Rattle.std.specs.List.{concat}
 use Rattle.std.proofs.lemmas.List.{append-nil, drop_all}
 use Rattle.trac_text.specs.declared.mark.Mark.{Mark}
-use Rattle.trac_text.specs.Cuts.{lengths_between}
 use Rattle.trac_text.proofs.Cutting.{length-cut}
-use Rattle.trac_text.proofs.Lengths.{lengths_told, marks_near, next_within}
+use Rattle.trac_text.proofs.Lengths.{lengths_between, lengths_told, marks_near, next_within}
 use Rattle.trac_text.proofs.args.Args.put_lengths.Goals as goal
 
 pub loop-mark-init : goal.loop-mark-init

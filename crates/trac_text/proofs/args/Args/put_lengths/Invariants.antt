@@ -1,6 +1,7 @@
 -- The lengths so far, then those between the marks that are left, and a place for each.
 use Rattle.std.proofs.Common.{◌≡◌, ◌+◌, ◌-◌, ◌^◌, ◌≤◌, ◌++◌, drop, length}
-use Rattle.trac_text.specs.Cuts.{AreCuts, lengths_between}
+use Rattle.trac_text.specs.Cuts.{AreCuts}
+use Rattle.trac_text.proofs.Lengths.{lengths_between}
 use Rattle.trac_text.proofs.args.Args.put_lengths.Given as goal
 
 abbrev pub invariant-loop-mark : goal.invariant-loop-mark
