@@ -179,57 +179,49 @@ marks_of_frames {A} (f ∷ functions) each =
 
 -- ---- the loop over functions
 
--- what has been begun so far, of these functions: they stand within the base text, and nothing else has changed
-pub record HasBegun {A : Type 0} (functions : List (Kind × Vec (Vec ℕ A) A)) (text : Ends ℕ) (ms : Ends Mark) (i : ℕ) (text_now : Ends ℕ) (ms_now : Ends Mark) : Type 0 where
-  pub shows : Shows text_now.left ms_now.left (record { base = text.left; frames = frames_of (functions_of (take i functions)) })
-  pub text_is : text_now ≡ record text { left = text_now.left }
-  pub marks_are : ms_now ≡ record ms { left = ms_now.left }
+-- what has been begun so far, of these functions: they stand within the base text, and nothing else is in the lists but the active text
+pub record HasBegun {A : Type 0} (functions : List (Kind × Vec (Vec ℕ A) A)) (base active : List ℕ) (i : ℕ) (text : Ends ℕ) (ms : Ends Mark) : Type 0 where
+  pub shows : Shows text.left ms.left (record { base = base; frames = frames_of (functions_of (take i functions)) })
+  pub right_is : text.right ≡ active
+  pub no_others : ms.right ≡ []
 
-module _ {A : Type 0} {functions : List (Kind × Vec (Vec ℕ A) A)} {text text_now : Ends ℕ} {ms ms_now : Ends Mark} {i : ℕ} (begun : HasBegun functions text ms i text_now ms_now) where
-  -- how large texts and marks are now
-  begun_sizes : EachGathers functions → ms.left ≡ [] → (item_count text_now ≡ item_count text + function_bytes (functions_of (take i functions))) × (text_now.capacity ≡ text.capacity)
-      × (item_count ms_now ≡ item_count ms + argument_count (functions_of (take i functions))) × (ms_now.capacity ≡ ms.capacity)
-  begun_sizes each none =
+module _ {A : Type 0} {functions : List (Kind × Vec (Vec ℕ A) A)} {base active : List ℕ} {text : Ends ℕ} {ms : Ends Mark} {i : ℕ} (begun : HasBegun functions base active i text ms) (each : EachGathers functions) where
+  -- how much texts and marks hold now
+  begun_sizes : (item_count text ≡ length base + length active + function_bytes (functions_of (take i functions))) × (item_count ms ≡ argument_count (functions_of (take i functions)))
+  begun_sizes =
       let part = All-take (λ (g : Kind × Vec (Vec ℕ A) A). 1 ≤ length g.1.items) i functions each in (
-        omega (arith, text_size text_now.left ms_now.left _ begun.shows, bytes_of_frames (functions_of (take i functions)), ap (λ (e : Ends ℕ). length e.right) begun.text_is),
-        ap (λ (e : Ends ℕ). e.capacity) begun.text_is,
-        omega (arith, mark_size text_now.left ms_now.left _ begun.shows, marks_of_frames (take i functions) part, ap length none, ap (λ (e : Ends Mark). length e.right) begun.marks_are),
-        ap (λ (e : Ends Mark). e.capacity) begun.marks_are,
+        omega (arith, text_size text.left ms.left _ begun.shows, bytes_of_frames (functions_of (take i functions)), ap length begun.right_is),
+        omega (arith, mark_size text.left ms.left _ begun.shows, marks_of_frames (take i functions) part, ap length begun.no_others),
       )
 
   -- there is room for the next one
-  pub begun_room : (f : Kind × Vec (Vec ℕ A) A) → i < length functions → f ≡ get_or functions i f → EachGathers functions → ms.left ≡ [] →
-      item_count text + function_bytes (functions_of functions) ≤ text.capacity → item_count ms + argument_count (functions_of functions) ≤ ms.capacity →
-      (item_count text_now + total_length (texts_of f.1.items) ≤ text_now.capacity) × (item_count ms_now + length f.1.items ≤ ms_now.capacity)
-  begun_room f within is each none text_room mark_room =
-      let sizes = begun_sizes each none in
+  pub begun_room : (f : Kind × Vec (Vec ℕ A) A) → i < length functions → f ≡ get_or functions i f → length base + length active + function_bytes (functions_of functions) ≤ text.capacity →
+      argument_count (functions_of functions) ≤ ms.capacity → (item_count text + total_length (texts_of f.1.items) ≤ text.capacity) × (item_count ms + length f.1.items ≤ ms.capacity)
+  begun_room f within is text_room mark_room =
       let part : functions_of (take (i + 1) functions) ≡ take (i + 1) (functions_of functions) = sym (take-map (λ (g : Kind × Vec (Vec ℕ A) A). (g.0, texts_of g.1.items)) (i + 1) functions) in (
-        omega (arith, sizes.0, sizes.1, text_room, bytes_more functions i f within is, bytes_within (functions_of functions) (i + 1), ap function_bytes part),
-        omega (arith, sizes.2, sizes.3, mark_room, count_more functions i f within is, count_within (functions_of functions) (i + 1), ap argument_count part),
+        omega (arith, begun_sizes.0, text_room, bytes_more functions i f within is, bytes_within (functions_of functions) (i + 1), ap function_bytes part),
+        omega (arith, begun_sizes.1, mark_room, count_more functions i f within is, count_within (functions_of functions) (i + 1), ap argument_count part),
       )
 
   -- all of them fit
-  pub begun_all : EachGathers functions → length functions ≤ i → ms.left ≡ [] → item_count text + function_bytes (functions_of functions) ≤ text.capacity →
-      item_count ms + argument_count (functions_of functions) ≤ ms.capacity →
-      Shows text_now.left ms_now.left (record { base = text.left; frames = frames_of (functions_of functions) }) × (item_count text_now ≤ text_now.capacity) × (item_count ms_now ≤ ms_now.capacity)
-  begun_all each past none text_room mark_room =
+  pub begun_all : length functions ≤ i → length base + length active + function_bytes (functions_of functions) ≤ text.capacity → argument_count (functions_of functions) ≤ ms.capacity →
+      Shows text.left ms.left (record { base = base; frames = frames_of (functions_of functions) }) × (item_count text ≤ text.capacity) × (item_count ms ≤ ms.capacity)
+  begun_all past text_room mark_room =
       let all = take_all i functions past in
-      let sizes = rw all at begun_sizes each none in
-      (rw all at begun.shows, omega (arith, sizes.0, sizes.1, text_room), omega (arith, sizes.2, sizes.3, mark_room))
+      let sizes = rw all at begun_sizes in
+      (rw all at begun.shows, omega (arith, sizes.0, text_room), omega (arith, sizes.1, mark_room))
 
   -- and then it is begun
-  pub begun_next : (f : Kind × Vec (Vec ℕ A) A) → i < length functions → f ≡ get_or functions i f → EachGathers functions → {text_next : Ends ℕ} {ms_next : Ends Mark} →
-      text_next ≡ record text_now { left = text_now.left ++ concat (texts_of f.1.items) } →
-      ms_next ≡ record ms_now { left = ms_now.left ++ argument_marks (length text_now.left) (Some f.0) (texts_of f.1.items) } → HasBegun functions text ms (i + 1) text_next ms_next
-  begun_next f within is each {text_next} {ms_next} text_is ms_is = record {
-    shows = rw (text_is, ms_is, functions_of-next functions i f within is)
+  pub begun_next : (f : Kind × Vec (Vec ℕ A) A) → i < length functions → f ≡ get_or functions i f → {text_next : Ends ℕ} {ms_next : Ends Mark} →
+      text_next ≡ record text { left = text.left ++ concat (texts_of f.1.items) } →
+      ms_next ≡ record ms { left = ms.left ++ argument_marks (length text.left) (Some f.0) (texts_of f.1.items) } → HasBegun functions base active (i + 1) text_next ms_next
+  begun_next f within is text_is ms_is = rw (text_is, ms_is) (record {
+    shows = rw (functions_of-next functions i f within is)
         (rw (map-append (λ g. frame_of g.0 g.1) (functions_of (take i functions)) ((f.0, texts_of f.1.items) ∷ []), reverse_push)
-        (shows_texts text_now.left ms_now.left _ f.0 (texts_of f.1.items) some begun.shows));
-    text_is = text_is ∙ ap (λ (e : Ends ℕ). let all : Ends ℕ = record e { left = text_now.left ++ concat (texts_of f.1.items) } in all) begun.text_is
-        ∙ ap (λ (e : Ends ℕ). let all : Ends ℕ = record text { left = e.left } in all) (sym text_is);
-    marks_are = ms_is ∙ ap (λ (e : Ends Mark). let all : Ends Mark = record e { left = ms_now.left ++ argument_marks (length text_now.left) (Some f.0) (texts_of f.1.items) } in all) begun.marks_are
-        ∙ ap (λ (e : Ends Mark). let all : Ends Mark = record ms { left = e.left } in all) (sym ms_is);
-  }
+        (shows_texts text.left ms.left _ f.0 (texts_of f.1.items) some begun.shows));
+    right_is = begun.right_is;
+    no_others = begun.no_others;
+  })
     where
       some : 1 ≤ length (texts_of f.1.items)
       some =

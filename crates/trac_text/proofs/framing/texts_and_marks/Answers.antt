@@ -1,7 +1,6 @@
 -- Each function is begun within the one before.
-use Rattle.std.proofs.Common.{ℕ, refl, ap, arith, rules}
+use Rattle.std.proofs.Common.{refl, arith, rules}
 use Rattle.std.proofs.lemmas.List.{append-nil}
-use Rattle.trac_gap.specs.Ends.{Ends}
 use Rattle.trac_text.proofs.Framed.{begun_all, begun_next, begun_room}
 use Rattle.trac_text.proofs.NeutralAgain.{shows_base}
 use Rattle.trac_text.proofs.framing.texts_and_marks.Goals as goal
@@ -9,7 +8,7 @@ use Rattle.trac_text.proofs.framing.texts_and_marks.Goals as goal
 pub loop-kind-init : goal.loop-kind-init
 loop-kind-init g c =
     rw (c.put_left.ensures, c.put_right.ensures, c.reserve.ensures.left, c.reserve.ensures.right, c.new-text.ensures, c.reserve-2.ensures.left, c.reserve-2.ensures.right, c.new-marks.ensures, append-nil) (record {
-      begun = record { shows = shows_base c.args.base.now; text_is = refl; marks_are = refl };
+      begun = record { shows = shows_base c.args.base.now; right_is = refl; no_others = refl };
       holds = omega (arith, c.requires.text, c.text_len.ensures, c.max.ensures, c.in_ok-reserve.ensures.ok);
       mark_holds = omega (arith, c.requires.marks, c.mark_count.ensures, c.max-2.ensures, c.in_ok-reserve-2.ensures.ok);
       room = omega (arith, c.max.ensures, c.in_ok-reserve.ensures.ok);
@@ -19,14 +18,14 @@ loop-kind-init g c =
 pub put_function-requires : goal.put_function-requires
 put_function-requires g c =
     let so_far = c.loop-kind.invariant in
-    let room = begun_room so_far.begun c.loop-kind-item.result (omega arith) c.loop-kind-item.is c.requires.some refl (omega (arith, so_far.holds)) (omega (arith, so_far.mark_holds)) in
+    let room = begun_room so_far.begun c.requires.some c.loop-kind-item.result (omega arith) c.loop-kind-item.is so_far.holds so_far.mark_holds in
     rw c.as_slice.ensures.value (record { text = room.0; marks = room.1 })
 
 pub loop-kind-preserved : goal.loop-kind-preserved
 loop-kind-preserved g c =
     let so_far = c.loop-kind.invariant in
     rw (c.put_function.ensures.text, c.put_function.ensures.marks, c.as_slice.ensures.value) (record {
-      begun = begun_next so_far.begun c.loop-kind-item.result (omega arith) c.loop-kind-item.is c.requires.some refl refl;
+      begun = begun_next so_far.begun c.requires.some c.loop-kind-item.result (omega arith) c.loop-kind-item.is refl refl;
       holds = so_far.holds;
       mark_holds = so_far.mark_holds;
       room = so_far.room;
@@ -36,10 +35,10 @@ loop-kind-preserved g c =
 pub returns : goal.returns
 returns g c =
     let so_far = c.loop-kind.invariant in
-    let all = begun_all so_far.begun c.requires.some (omega arith) refl (omega (arith, so_far.holds)) (omega (arith, so_far.mark_holds)) in
+    let all = begun_all so_far.begun c.requires.some (omega arith) so_far.holds so_far.mark_holds in
     record {
       neutral = all.0.same;
-      active = ap (λ (e : Ends ℕ). e.right) so_far.begun.text_is;
+      active = so_far.begun.right_is;
       ordered = all.0.ordered;
       holds = all.1;
       mark_holds = omega (arith, all.2);
