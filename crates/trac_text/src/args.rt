@@ -1,5 +1,5 @@
 //! The arguments of a function, borrowed from the neutral text.
-ghost use Rattle.std.specs.Prelude.{◌≡◌, ℕ, ◌≤◌, ◌+◌, ◌-◌, ◌<◌, ◌^◌, ◌++◌, List, [], length, map, get_or, take, drop};
+ghost use Rattle.std.specs.Prelude.{◌≡◌, ℕ, ◌≤◌, ◌+◌, ◌-◌, ◌<◌, ◌^◌, ◌++◌, List, [], length, map, get_or, take};
 ghost use Rattle.std.specs.List.{concat};
 ghost use Rattle.trac_text.specs.Cuts.{AreCuts, cut, end_of};
 

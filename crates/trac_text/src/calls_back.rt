@@ -1,6 +1,5 @@
 //! The way back over a call, on the lists alone: the texts, and the marks.
 ghost use Rattle.std.specs.Prelude.{◌≡◌, ◌+◌, ◌≤◌, ◌++◌, length, map};
-ghost use Rattle.std.specs.List.{concat};
 ghost use Rattle.trac_gap.specs.Ends.{item_count};
 ghost use Rattle.trac_text.specs.Pieces.{all_texts};
 ghost use Rattle.trac_text.specs.Marks.{function_marks};

@@ -1,5 +1,5 @@
 //! Texts and marks from active text, base text and begun functions.
-ghost use Rattle.std.specs.Prelude.{◌≡◌, ◌+◌, ◌-◌, ◌≤◌, ◌<◌, ◌^◌, ◌++◌, [], length, min};
+ghost use Rattle.std.specs.Prelude.{◌≡◌, ◌+◌, ◌-◌, ◌≤◌, ◌<◌, ◌^◌, ◌++◌, length, min};
 ghost use Rattle.std.specs.Prelude.{IfOk, IsOkUnless, IsTrue, Some};
 ghost use Rattle.std.specs.List.{concat};
 ghost use Rattle.trac_gap.specs.Ends.{item_count};

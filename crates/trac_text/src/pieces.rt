@@ -1,5 +1,5 @@
 //! The arguments of begun functions, kept apart from the neutral text.
-ghost use Rattle.std.specs.Prelude.{◌≡◌, ◌+◌, ◌≤◌, ◌<◌, ◌^◌, ◌++◌, [], length, map, IfOk, IsOkUnless};
+ghost use Rattle.std.specs.Prelude.{◌≡◌, ◌+◌, ◌≤◌, ◌<◌, ◌^◌, length, map, IfOk, IsOkUnless};
 ghost use Rattle.std.specs.List.{concat, sum};
 ghost use Rattle.trac_text.specs.Pieces.{Arguments, all_texts, arguments_code, cut_at};
 

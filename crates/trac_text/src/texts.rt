@@ -1,7 +1,6 @@
 //! The rules of scanning on the lists alone: the texts, and the marks.
 ghost use Rattle.std.specs.Prelude.{◌≡◌, ◌+◌, ◌<◌, ◌≤◌, [], ◌∷◌, ◌++◌, get_or, is_some, length, drop, IsOkUnless};
 ghost use Rattle.std.specs.Prelude.{OnErr, OnOk};
-ghost use Rattle.trac_gap.specs.Ends.{item_count};
 ghost use Rattle.trac_rules.specs.Bytes.{idle_program};
 ghost use Rattle.trac_rules.specs.Matching.{match_of, protected};
 ghost use Rattle.trac_text.specs.Marks.{mark_at};
