@@ -1,8 +1,7 @@
 //! What the next step is judged by.
-ghost use Rattle.std.specs.Prelude.{◌≡◌, ◌++◌, ◌<◌, drop, length, nat_lt, OnOk, IsOkUnless};
-ghost use Rattle.std.specs.Option.{is_none, option_to_list};
+ghost use Rattle.std.specs.Prelude.{◌≡◌, ◌++◌, ◌<◌, length, nat_lt, OnOk, IsOkUnless};
+ghost use Rattle.std.specs.Option.{option_to_list};
 ghost use Rattle.trac_rules.specs.Doubts.{doubts_of_scanning};
-ghost use Rattle.trac_rules.specs.Matching.{match_of};
 ghost use Rattle.trac_rules.specs.Scanning.{front_of};
 ghost use Rattle.trac_doubts.specs.Ahead.{doubts_ahead};
 
@@ -63,7 +62,10 @@ fn scanning_doubt(active: &[u8], depth: usize) -> Option<Doubt>
 {
     match front_at(active) {
         Front::Nothing => (depth > 0).then_some(Doubt::Unended(depth)),
-        Front::Opening => is_unclosed(active).then_some(Doubt::Unclosed),
+        Front::Opening => {
+            let rest = active.split_at(active.len().min(1)).1;
+            match_in(rest).is_none().then_some(Doubt::Unclosed)
+        }
         Front::Closing => (depth == 0).then_some(Doubt::EndsNothing),
         Front::Layout
         | Front::Comma
@@ -72,11 +74,4 @@ fn scanning_doubt(active: &[u8], depth: usize) -> Option<Doubt>
         | Front::Sharp
         | Front::Plain => None,
     }
-}
-
-// Whether nothing closes the `(` with which this text begins.
-fn is_unclosed(active: &[u8]) -> bool
-    ensures { result ≡ is_none (match_of (drop 1 active.now)) }
-{
-    match_in(active.split_at(active.len().min(1)).1).is_none()
 }

@@ -5,9 +5,8 @@ ghost use Rattle.std.specs.Option.{option_and_then, option_to_list};
 ghost use Rattle.trac_forms.specs.Stored.{storage_in};
 ghost use Rattle.trac_rules.specs.Blocks.{number_addressed};
 ghost use Rattle.trac_rules.specs.Doubts.{block_doubts, doubts_of_call, form_doubts, name_doubts, needs_block};
-ghost use Rattle.trac_rules.specs.Doubts.{needs_form, unknown_name};
+ghost use Rattle.trac_rules.specs.Doubts.{needs_form};
 ghost use Rattle.trac_rules.specs.Effect.{argument};
-ghost use Rattle.trac_doubts.specs.Calls.{use_doubts};
 
 use crate::addresses::is_address;
 use crate::counts::unused_doubt;
@@ -34,19 +33,7 @@ pub(crate) fn is_doubtful_call<A: Allocator + Copy>(
     let form = store.get(args.get(1));
     name_doubt(primitive, args, store).is_some()
         || form_doubt(primitive, form, store).is_some()
-        || is_doubtful_use(primitive, args, form, width)
-}
-
-// Whether what such a call gives its primitive has a doubt.
-fn is_doubtful_use<A: Allocator + Copy>(
-    primitive: Primitive,
-    args: &Args<'_>,
-    form: Option<&Form<A>>,
-    width: Width,
-) -> bool
-    ensures { result ≡ nat_lt 0 (length (use_doubts primitive width args.now (option_copied form.entry))) }
-{
-    unused_doubt(primitive, form, args.count()).is_some()
+        || unused_doubt(primitive, form, args.count()).is_some()
         || has_no_numbers(primitive, args)
         || result_doubt(primitive, args, width).is_some()
         || has_missing_text(primitive, args, form)
@@ -67,21 +54,6 @@ pub(crate) fn call_doubts_into<A: Allocator + Copy, B: Allocator>(
     let form = store.get(args.get(1));
     add(name_doubt(primitive, args, store), out)?;
     add(form_doubt(primitive, form, store), out)?;
-    use_doubts_into(primitive, args, form, width, out)
-}
-
-// Puts the doubts of what such a call gives its primitive at the end of `out`.
-fn use_doubts_into<A: Allocator + Copy, B: Allocator>(
-    primitive: Primitive,
-    args: &Args<'_>,
-    form: Option<&Form<A>>,
-    width: Width,
-    out: &mut Vec<Doubt, B>,
-) -> Result<(), Refusal>
-    ensures ok { OnOk result
-        (out.new.items ≡ out.old.items ++ use_doubts primitive width args.now (option_copied form.entry)) }
-    ensures err { IsOkUnless result Refusal.Memory }
-{
     add(unused_doubt(primitive, form, args.count()), out)?;
     number_doubts_into(primitive, args, out)?;
     add(result_doubt(primitive, args, width), out)?;
@@ -110,20 +82,13 @@ fn name_doubt<A: Allocator + Copy>(
 ) -> Option<Doubt>
     ensures { option_to_list result ≡ name_doubts primitive (finite.get store.now.forms (argument 0 args.now)) }
 {
-    match primitive {
-        Primitive::Unknown => Some(unknown_name(store.get(args.get(0)))),
-        _ => None,
+    if primitive != Primitive::Unknown {
+        return None;
     }
-}
-
-// The doubt of a name that is no primitive's, by the form of that name.
-fn unknown_name<A: Allocator + Copy>(form: Option<&Form<A>>) -> Doubt
-    ensures { result ≡ unknown_name (option_copied form.entry) }
-{
-    match form {
+    Some(match store.get(args.get(0)) {
         Some(_) => Doubt::FormUncalled,
         None => Doubt::NoPrimitive,
-    }
+    })
 }
 
 // The doubt of a primitive that needs a form or its block, by the form that argument 1 names: there is at most one.

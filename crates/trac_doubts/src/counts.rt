@@ -2,8 +2,7 @@
 ghost use Rattle.std.specs.Prelude.{◌≡◌, ◌+◌, ◌<◌, ◌^◌, ◌≤◌, option_copied, IfSome, None, Some};
 ghost use Rattle.std.specs.Option.{option_to_list};
 ghost use Rattle.trac_rules.specs.Doubts.{arguments_used, unused_doubts};
-ghost use Rattle.trac_rules.specs.declared.primitive.FormAction.TheVariants.{Read};
-ghost use Rattle.trac_rules.specs.declared.primitive.Primitive.TheVariants.{Compute, Handle, HandleBlock};
+ghost use Rattle.trac_rules.specs.declared.primitive.Primitive.TheVariants.{Compute, Handle};
 
 use crate::gaps::highest_ordinal;
 use std::alloc::Allocator;
@@ -36,11 +35,12 @@ fn used<A: Allocator + Copy>(primitive: Primitive, form: Option<&Form<A>>) -> Op
     match primitive {
         Primitive::ReadString | Primitive::ReadByte | Primitive::Halt | Primitive::SetTrace(_) =>
             Some(0),
-        Primitive::PrintString | Primitive::SetMeta => Some(1),
+        Primitive::PrintString
+        | Primitive::SetMeta
+        | Primitive::HandleBlock(BlockAction::FetchBlock | BlockAction::EraseBlock) => Some(1),
         Primitive::Compute(computation) => Some(used_to_compute(computation)),
         Primitive::Handle(action) => used_on_form(action, form),
-        Primitive::HandleBlock(action) => used_on_block(action),
-        Primitive::Unknown => None,
+        Primitive::HandleBlock(BlockAction::StoreBlock) | Primitive::Unknown => None,
     }
 }
 
@@ -63,30 +63,11 @@ fn used_on_form<A: Allocator + Copy>(action: FormAction, form: Option<&Form<A>>)
     match action {
         FormAction::DeleteAll => Some(0),
         FormAction::Restore | FormAction::ListNames | FormAction::PrintForm => Some(1),
-        FormAction::Define => Some(2),
-        FormAction::Read(reading) => Some(used_to_read(reading)),
+        FormAction::Define | FormAction::Read(FormReading::ReadSegment | FormReading::ReadChar) =>
+            Some(2),
+        FormAction::Read(FormReading::ReadCount | FormReading::ReadUntil) => Some(3),
         // Its name, and a text for each of its gaps.
         FormAction::Call => Some(1 + highest_ordinal(form?) as usize),
         FormAction::Delete | FormAction::Segment => None,
-    }
-}
-
-fn used_to_read(reading: FormReading) -> usize
-    ensures used { Some result ≡ arguments_used (Handle (Read reading)) None }
-    ensures few { result ≤ 4 }
-{
-    match reading {
-        FormReading::ReadSegment | FormReading::ReadChar => 2,
-        FormReading::ReadCount | FormReading::ReadUntil => 3,
-    }
-}
-
-fn used_on_block(action: BlockAction) -> Option<usize>
-    ensures used { result ≡ arguments_used (HandleBlock action) None }
-    ensures few { IfSome result (λ n. n < 2 ^ 33) }
-{
-    match action {
-        BlockAction::StoreBlock => None,
-        BlockAction::FetchBlock | BlockAction::EraseBlock => Some(1),
     }
 }

@@ -1,16 +1,13 @@
 //! Arguments that count as numbers, and results.
-ghost use Rattle.std.specs.Prelude.{◌≡◌, ◌++◌, ◌&&◌, length, nat_le, nat_lt, OnOk, IsOkUnless};
-ghost use Rattle.std.specs.Option.{is_none, option_to_list};
-ghost use Rattle.trac_rules.specs.Computing.{result_of};
-ghost use Rattle.trac_rules.specs.Effect.{argument};
-ghost use Rattle.trac_rules.specs.Number.{calculated};
-ghost use Rattle.trac_rules.specs.Doubts.{has_no_number, lacks_result, number_doubts, numbers_read, result_doubts};
+ghost use Rattle.std.specs.Prelude.{◌≡◌, ◌++◌, length, nat_lt, OnOk, IsOkUnless};
+ghost use Rattle.std.specs.Option.{option_to_list};
+ghost use Rattle.trac_rules.specs.Doubts.{has_no_number, number_doubts, numbers_read, result_doubts};
 
 use std::alloc::Allocator;
 use trac_num::read_tail;
 use trac_prims::result_on;
 use trac_rules::doubt::Doubt;
-use trac_rules::primitive::{Computation, FormAction, FormReading, Operation, Primitive};
+use trac_rules::primitive::{Computation, FormAction, FormReading, Primitive};
 use trac_rules::refusal::Refusal;
 use trac_rules::width::Width;
 use trac_text::Args;
@@ -67,23 +64,11 @@ fn has_no_number(text: &[u8]) -> bool
 pub(crate) fn result_doubt(primitive: Primitive, args: &Args<'_>, width: Width) -> Option<Doubt>
     ensures { option_to_list result ≡ result_doubts primitive width args.now }
 {
-    lacks_result(primitive, args, width).then_some(Doubt::NoResult)
-}
-
-fn lacks_result(primitive: Primitive, args: &Args<'_>, width: Width) -> bool
-    ensures { result ≡ lacks_result primitive width args.now }
-{
-    match primitive {
-        Primitive::Compute(Computation::Calculate(operation)) => is_silent(operation, args, width),
-        _ => false,
+    let Primitive::Compute(Computation::Calculate(operation)) = primitive else {
+        return None;
+    };
+    if result_on(operation, args, width).is_some() {
+        return None;
     }
-}
-
-// Whether these arguments of an operation give no result, and none in its place.
-fn is_silent(operation: Operation, args: &Args<'_>, width: Width) -> bool
-    ensures { result ≡ (is_none (calculated (result_of operation) width (argument 1 args.now) (argument 2 args.now))
-        && nat_le (length args.now) 3) }
-{
-    let is_missing = result_on(operation, args, width).is_none();
-    is_missing && args.count() <= 3
+    (args.count() <= 3).then_some(Doubt::NoResult)
 }

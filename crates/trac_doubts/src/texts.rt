@@ -3,7 +3,7 @@ ghost use Rattle.std.specs.Prelude.{◌≡◌, ◌++◌, ◌*◌, ◌<◌, ◌�
 ghost use Rattle.std.specs.Prelude.{option_to_list, slice_get, sum, take, false, [], ◌∷◌};
 ghost use Rattle.std.specs.Prelude.{MatchOption, OnOk, IsOkUnless};
 ghost use Rattle.std.specs.Option.{option_map_or};
-ghost use Rattle.trac_rules.specs.Doubts.{is_null, nowhere_doubts, nowhere_from, stands_in};
+ghost use Rattle.trac_rules.specs.Doubts.{is_null, nowhere_doubts, stands_in};
 ghost use Rattle.trac_rules.specs.Form.{all_items};
 ghost use Rattle.trac_rules.specs.Pieces.{begin_with};
 ghost use Rattle.trac_rules.specs.Segmenting.{runs_of};
@@ -26,13 +26,16 @@ pub(crate) fn has_missing_text<A: Allocator + Copy>(
 ) -> bool
     ensures { result ≡ nat_lt 0 (length (nowhere_doubts primitive args.now (option_copied form.entry))) }
 {
-    match primitive {
-        Primitive::Handle(FormAction::Segment) => match form {
-            Some(form) => misses_text(args, form),
-            None => false,
-        },
-        _ => false,
+    let (Primitive::Handle(FormAction::Segment), Some(form)) = (primitive, form) else {
+        return false;
+    };
+    // The texts begin after argument 1.
+    for k in 2..args.count() {
+        if is_nowhere(args.get(k), form) {
+            return true;
+        }
     }
+    false
 }
 
 // Puts the doubt of each such text at the end of `out`.
@@ -46,37 +49,9 @@ pub(crate) fn nowhere_into<A: Allocator + Copy, B: Allocator>(
         (out.new.items ≡ out.old.items ++ nowhere_doubts primitive args.now (option_copied form.entry)) }
     ensures err { IsOkUnless result Refusal.Memory }
 {
-    match primitive {
-        Primitive::Handle(FormAction::Segment) => match form {
-            Some(form) => missing_into(args, form, out),
-            None => Ok(()),
-        },
-        _ => Ok(()),
-    }
-}
-
-// Whether one of the texts of these arguments, which begin after argument 1, stands nowhere in a form.
-fn misses_text<A: Allocator + Copy>(args: &Args<'_>, form: &Form<A>) -> bool
-    ensures { result ≡ nat_lt 0 (length (nowhere_from 2 (drop 2 args.now) (runs_of (all_items form.now)))) }
-{
-    for k in 2..args.count() {
-        if is_nowhere(args.get(k), form) {
-            return true;
-        }
-    }
-    false
-}
-
-// Puts the doubt of each such text at the end of `out`.
-fn missing_into<A: Allocator + Copy, B: Allocator>(
-    args: &Args<'_>,
-    form: &Form<A>,
-    out: &mut Vec<Doubt, B>,
-) -> Result<(), Refusal>
-    ensures ok { OnOk result
-        (out.new.items ≡ out.old.items ++ nowhere_from 2 (drop 2 args.now) (runs_of (all_items form.now))) }
-    ensures err { IsOkUnless result Refusal.Memory }
-{
+    let (Primitive::Handle(FormAction::Segment), Some(form)) = (primitive, form) else {
+        return Ok(());
+    };
     for k in 2..args.count() {
         let doubt = is_nowhere(args.get(k), form).then_some(Doubt::Nowhere(k));
         add(doubt, out)?;
@@ -104,11 +79,13 @@ fn stands_in<A: Allocator + Copy>(text: &[u8], form: &Form<A>) -> bool
     let wanted = sum_of(text);
     let mut sum = first_sum(form, size);
     for place in 0..last {
-        let is_there = begins_with_sum(text, form, place, sum, wanted);
-        if is_there {
+        if sum == wanted && begins_at(text, form, place) {
             return true;
         }
-        sum = next_sum(form, place, size, sum);
+        // One item comes in, and one goes out.
+        let coming = code_at(form, place + size);
+        let going = code_at(form, place);
+        sum = sum + coming - going;
     }
     begins_at(text, form, last)
 }
@@ -120,27 +97,6 @@ fn last_place<A: Allocator + Copy>(form: &Form<A>, size: usize) -> Option<usize>
     ensures fits { length (all_items form.now) ≤ FORM_LIMIT }
 {
     form.len().checked_sub(size)
-}
-
-// Whether a text stands at this place of a form. As many bytes from there on have one sum, and the text has the other.
-fn begins_with_sum<A: Allocator + Copy>(
-    text: &[u8],
-    form: &Form<A>,
-    place: usize,
-    here: usize,
-    wanted: usize,
-) -> bool
-    requires within { place + length text.now ≤ length (all_items form.now) }
-    requires fits { place + length text.now ≤ FORM_LIMIT }
-    requires here { here ≡ sum_among (take (length text.now) (drop place (all_items form.now))) }
-    requires wanted { wanted ≡ sum text.now }
-    ensures { result ≡ begin_with text.now (drop place (all_items form.now)) }
-{
-    if here == wanted {
-        begins_at(text, form, place)
-    } else {
-        false
-    }
 }
 
 // Whether a text stands at this place of a form.
@@ -193,20 +149,6 @@ fn first_sum<A: Allocator + Copy>(form: &Form<A>, count: usize) -> usize
         sum += code_at(form, place);
     }
     sum
-}
-
-// The sum of the bytes among as many items one place on, where one item comes in and one goes out.
-fn next_sum<A: Allocator + Copy>(form: &Form<A>, place: usize, size: usize, sum: usize) -> usize
-    requires within { place + size < length (all_items form.now) }
-    requires fits { length (all_items form.now) ≤ FORM_LIMIT }
-    requires here { sum ≡ sum_among (take size (drop place (all_items form.now))) }
-    requires small { sum ≤ 255 * (size + place) }
-    ensures next { result ≡ sum_among (take size (drop (place + 1) (all_items form.now))) }
-    ensures still_small { result ≤ 255 * (size + (place + 1)) }
-{
-    let coming = code_at(form, place + size);
-    let going = code_at(form, place);
-    sum + coming - going
 }
 
 // The byte at this place of a form; 0 of a gap, and past the end.

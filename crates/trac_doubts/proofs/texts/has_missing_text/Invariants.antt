@@ -3,7 +3,7 @@ use Rattle.trac_rules.specs.Form.{all_items}
 use Rattle.trac_rules.specs.Segmenting.{runs_of}
 use Rattle.trac_rules.specs.Doubts.{nowhere_from}
 use Rattle.trac_doubts.proofs.Rows.{is_any}
-use Rattle.trac_doubts.proofs.texts.misses_text.Given as goal
+use Rattle.trac_doubts.proofs.texts.has_missing_text.Given as goal
 
 abbrev pub invariant-loop-k : goal.invariant-loop-k
 invariant-loop-k g l = is_any (nowhere_from 2 (drop 2 l.args) (runs_of (all_items l.form))) ≡ is_any (nowhere_from l.k (drop l.k l.args) (runs_of (all_items l.form)))

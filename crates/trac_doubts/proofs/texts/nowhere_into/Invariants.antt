@@ -2,7 +2,7 @@ use Rattle.std.proofs.Common.{◌≡◌, ◌++◌, drop}
 use Rattle.trac_rules.specs.Form.{all_items}
 use Rattle.trac_rules.specs.Segmenting.{runs_of}
 use Rattle.trac_rules.specs.Doubts.{nowhere_from}
-use Rattle.trac_doubts.proofs.texts.missing_into.Given as goal
+use Rattle.trac_doubts.proofs.texts.nowhere_into.Given as goal
 
 abbrev pub invariant-loop-k : goal.invariant-loop-k
 invariant-loop-k g l =
