@@ -1,8 +1,7 @@
 -- Whether there is a doubt among some, and whether an operation gives no result.
-use Rattle.std.proofs.Common.{◌≡◌, ℕ, Bool, true, false, not, List, length, refl, sym, ap, ◌∙◌}
+use Rattle.std.proofs.Common.{◌≡◌, ℕ, Bool, not, List, length, refl, sym, ap, ◌∙◌}
 use Rattle.std.specs.Prelude.{Option, None, Some, ℤ, is_some, nat_lt}
 use Rattle.std.specs.Option.{is_none}
-use Rattle.std.proofs.lemmas.Bool.{false≢true}
 use Rattle.trac_rules.specs.declared.primitive.Operation.{Operation}
 use Rattle.trac_rules.specs.declared.width.Width.{Width}
 use Rattle.trac_rules.specs.Computing.{number_argument, result_of}
@@ -20,15 +19,10 @@ none_after : (prefix : List ℕ) (o : Option ℤ) → is_none (after_prefix pref
 none_after prefix None = refl
 none_after prefix (Some n) = refl
 
--- whether there is none, as its code says it
-pub silent : (operation : Operation) (width : Width) (arguments : List (List ℕ)) (o : Option ℤ) (missing : Bool) →
-    o ≡ on_both (result_of operation width) (number_argument width 1 arguments) (number_argument width 2 arguments) → is_some o ≡ not missing →
-    missing ≡ is_none (calculated (result_of operation) width (argument 1 arguments) (argument 2 arguments))
+-- whether there is none, as its code tests it
+pub silent : (operation : Operation) (width : Width) (arguments : List (List ℕ)) (o : Option ℤ) (there : Bool) →
+    o ≡ on_both (result_of operation width) (number_argument width 1 arguments) (number_argument width 2 arguments) → is_some o ≡ there →
+    not there ≡ is_none (calculated (result_of operation) width (argument 1 arguments) (argument 2 arguments))
 unfolding calculated
-silent operation width arguments o missing e is = told o missing is ∙ ap is_none e ∙ sym (none_after (prefix_of (argument 1 arguments)) (on_both (result_of operation width) (number_argument width 1 arguments) (number_argument width 2 arguments)))
-  where
-    told : (o : Option ℤ) (missing : Bool) → is_some o ≡ not missing → missing ≡ is_none o
-    told None true e = refl
-    told None false e = absurd (false≢true e)
-    told (Some n) true e = absurd (false≢true (sym e))
-    told (Some n) false e = refl
+silent operation width arguments o there e is =
+    ap not (sym is) ∙ ap is_none e ∙ sym (none_after (prefix_of (argument 1 arguments)) (on_both (result_of operation width) (number_argument width 1 arguments) (number_argument width 2 arguments)))

@@ -4,6 +4,7 @@ use Rattle.std.specs.Prelude.{Option, None, Some, is_some, slice_get, sum, ◌==
 use Rattle.std.specs.List.{list_any}
 use Rattle.std.specs.Option.{option_map_or, option_to_list}
 use Rattle.std.specs.Str.{bytes_eq}
+use Rattle.std.proofs.Math.Bool.{or-false, or_assoc}
 use Rattle.std.proofs.lemmas.Bool.{and_parts, cases_eq, cases_lt, eq-eqb, eqb-true, false≢true, false_from_ne_true}
 use Rattle.std.proofs.lemmas.List.{drop_more, get_or-drop, take_more, length-drop}
 use Rattle.std.proofs.lemmas.List.Sums.{sum_by-cons, sum_by_push}
@@ -22,14 +23,6 @@ chosen : (b : Bool) (n : ℕ) → is_some (cond b (Some n) None) ≡ b
 chosen true n = refl
 chosen false n = refl
 
-or_false : (b : Bool) → (b || false) ≡ b
-or_false true = refl
-or_false false = refl
-
-or_assoc : (a b c : Bool) → ((a || b) || c) ≡ (a || (b || c))
-or_assoc true b c = refl
-or_assoc false b c = refl
-
 -- one place more, after the others
 some_more : (passes : ℕ → Bool) (n : ℕ) → is_some (first_place passes (suc n)) ≡ (is_some (first_place passes n) || passes n)
 some_more passes n = go (first_place passes n) refl
@@ -40,7 +33,7 @@ some_more passes n = go (first_place passes n) refl
 
 -- one place more, before the others
 some_before : (passes : ℕ → Bool) (n : ℕ) → is_some (first_place passes (suc n)) ≡ (passes 0 || is_some (first_place (λ k. passes (suc k)) n))
-some_before passes zero = chosen (passes 0) 0 ∙ sym (or_false (passes 0))
+some_before passes zero = chosen (passes 0) 0 ∙ sym (or-false (passes 0))
 some_before passes (suc n) =
     some_more passes (suc n)
     ∙ ap (λ b. b || passes (suc n)) (some_before passes n)
