@@ -8,7 +8,7 @@ use Rattle.trac_rules.specs.declared.kind.Kind.{Kind}
 use Rattle.trac_rules.specs.declared.kind.Kind.TheVariants.{Active, Neutral}
 use Rattle.trac_rules.specs.Form.{Form}
 use Rattle.trac_rules.specs.Session.{PlainSession}
-use Rattle.trac_rules.specs.State.{Block, Forms, Frame, State}
+use Rattle.trac_rules.specs.State.{Block, Frame, State}
 use Rattle.trac_streams.specs.Escapes.{bracketed, escaped_byte, feed, number_line, text_line}
 
 -- ---- forms
@@ -60,27 +60,19 @@ abbrev pub trace_line : Bool → List ℕ
 trace_line true = codes "trace on" ++ feed
 trace_line false = codes "trace off" ++ feed
 
--- active text, base text, and the begun functions from the outermost on
-abbrev pub texts_text : State → List ℕ
-texts_text s =
-    text_line (codes "active") s.active ++ text_line (codes "base") s.base ++ flat_map frame_line (reverse s.frames)
-
--- the forms by their names, which rise by their bytes, and the blocks by their numbers
-abbrev pub storage_text : Forms → List Block → List ℕ
-storage_text forms blocks =
-    flat_map (form_line (codes "form")) (map.entries forms) ++ flat_map block_lines (enumerate_from 0 blocks)
-
--- meta character, trace, position and output
-abbrev pub settings_text : State → List ℕ
-settings_text s =
-    text_line (codes "meta") (s.meta ∷ [])
+-- all parts of a state: the begun functions from the outermost on, the forms by their names, which rise by their
+-- bytes, and the blocks by their numbers
+abbrev pub machine_text : State → List ℕ
+machine_text s =
+    text_line (codes "active") s.active
+    ++ text_line (codes "base") s.base
+    ++ flat_map frame_line (reverse s.frames)
+    ++ flat_map (form_line (codes "form")) (map.entries s.forms)
+    ++ flat_map block_lines (enumerate_from 0 s.blocks)
+    ++ text_line (codes "meta") (s.meta ∷ [])
     ++ trace_line s.trace
     ++ number_line (codes "position") s.position
     ++ text_line (codes "output") s.output
-
--- all parts of a state
-abbrev pub machine_text : State → List ℕ
-machine_text s = texts_text s ++ storage_text s.forms s.blocks ++ settings_text s
 
 -- the last state of a session, and how many records there are
 abbrev pub state_text : PlainSession → List ℕ

@@ -1,10 +1,10 @@
 //! The state of a machine, as lines.
-ghost use Rattle.std.specs.Prelude.{◌≡◌, ◌++◌, ◌∷◌, reverse, IfOk, OnOk, None, Some, codes, option_map};
+ghost use Rattle.std.specs.Prelude.{◌≡◌, ◌++◌, reverse, IfOk, OnOk, None, Some, codes, option_map};
 ghost use Rattle.std.specs.FinMap as finite;
 ghost use Rattle.std.specs.List.{enumerate_from, flat_map};
 ghost use Rattle.trac_show.specs.StateLines.{arguments_line, block_lines, form_line, frame_line, lines_of_block};
-ghost use Rattle.trac_show.specs.StateLines.{machine_text, settings_text, sharps, storage_text, texts_text, trace_line};
-ghost use Rattle.trac_streams.specs.Escapes.{bracketed, number_line};
+ghost use Rattle.trac_show.specs.StateLines.{machine_text, sharps, trace_line};
+ghost use Rattle.trac_streams.specs.Escapes.{number_line};
 
 use crate::form_lines::form_line_into;
 use std::alloc::{AllocError, Allocator};
@@ -36,34 +36,15 @@ fn machine_into<E: TwoEnds<u8, A>, M: TwoEnds<Mark, A>, A: Allocator + Copy, B: 
 ) -> Result<(), AllocError>
     ensures { OnOk result (out.new.items ≡ out.old.items ++ machine_text machine.now.state) }
 {
-    texts_into(machine, out)?;
-    storage_into(machine.store(), out)?;
-    settings_into(machine, out)
-}
-
-// Meta character, trace, position and output, as lines.
-fn settings_into<E: TwoEnds<u8, A>, M: TwoEnds<Mark, A>, A: Allocator + Copy, B: Allocator>(
-    machine: &Core<E, M, A>,
-    out: &mut Vec<u8, B>,
-) -> Result<(), AllocError>
-    ensures { OnOk result (out.new.items ≡ out.old.items ++ settings_text machine.now.state) }
-{
+    text_line_into(b"active", machine.active(), out)?;
+    text_line_into(b"base", machine.base(), out)?;
+    frames_into(machine, out)?;
+    forms_into(machine.store(), out)?;
+    blocks_into(machine.store(), out)?;
     text_line_into(b"meta", &[machine.meta()], out)?;
     trace_into(machine.trace(), out)?;
     number_line_into(b"position", machine.position() as u64, out)?;
     text_line_into(b"output", machine.output(), out)
-}
-
-// Active text, base text and begun functions, as lines.
-fn texts_into<E: TwoEnds<u8, A>, M: TwoEnds<Mark, A>, A: Allocator + Copy, B: Allocator>(
-    machine: &Core<E, M, A>,
-    out: &mut Vec<u8, B>,
-) -> Result<(), AllocError>
-    ensures { OnOk result (out.new.items ≡ out.old.items ++ texts_text machine.now.state) }
-{
-    text_line_into(b"active", machine.active(), out)?;
-    text_line_into(b"base", machine.base(), out)?;
-    frames_into(machine, out)
 }
 
 // The begun functions from the outermost on, each a line.
@@ -90,7 +71,9 @@ fn frame_into<B: Allocator>(
     out.extend_from_slice(b"call ")?;
     sharps_into(kind, out)?;
     out.extend_from_slice(b" ")?;
-    arguments_into(arguments, out)?;
+    for i in 0..arguments.count() {
+        text_into(arguments.get(i), out)?;
+    }
     out.extend_from_slice(b"\n")
 }
 
@@ -104,19 +87,6 @@ fn sharps_into<B: Allocator>(kind: Kind, out: &mut Vec<u8, B>) -> Result<(), All
     }
 }
 
-// Arguments, each in brackets.
-fn arguments_into<B: Allocator>(
-    arguments: &Args<'_>,
-    out: &mut Vec<u8, B>,
-) -> Result<(), AllocError>
-    ensures { OnOk result (out.new.items ≡ out.old.items ++ flat_map bracketed arguments.now) }
-{
-    for i in 0..arguments.count() {
-        text_into(arguments.get(i), out)?;
-    }
-    Ok(())
-}
-
 // Whether each call is printed, as a line.
 fn trace_into<B: Allocator>(trace: bool, out: &mut Vec<u8, B>) -> Result<(), AllocError>
     ensures { OnOk result (out.new.items ≡ out.old.items ++ trace_line trace) }
@@ -126,17 +96,6 @@ fn trace_into<B: Allocator>(trace: bool, out: &mut Vec<u8, B>) -> Result<(), All
     } else {
         out.extend_from_slice(b"trace off\n")
     }
-}
-
-// The forms by their names, and the blocks, as lines.
-fn storage_into<A: Allocator + Copy, B: Allocator>(
-    store: &Store<A>,
-    out: &mut Vec<u8, B>,
-) -> Result<(), AllocError>
-    ensures { OnOk result (out.new.items ≡ out.old.items ++ storage_text store.now.forms store.now.blocks) }
-{
-    forms_into(store, out)?;
-    blocks_into(store, out)
 }
 
 // The forms by their names, each a line.
