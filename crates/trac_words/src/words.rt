@@ -42,19 +42,15 @@ pub fn read_line(alloc: Global, words: &[&str]) -> Result<Line, AllocError>
     }
 }
 
-fn run_options(found: &ArgMatches<'_>) -> Options
-    ensures { AreWithin result }
-{
-    let budget = number_in(found, "budget", DEFAULT_BUDGET, BUDGET_LIMIT);
-    options_in(found, budget)
-}
-
 // What a command line that `clap` has taken asks for. It takes none without a subcommand; one would not be understood.
 fn line_of(alloc: Global, matches: &ArgMatches<'_>) -> Result<Line, AllocError>
     ensures { IfOk result IsLine }
 {
     match matches.subcommand() {
-        Some(("run", found)) => Ok(Line::Run(run_options(found))),
+        Some(("run", found)) => {
+            let budget = number_in(found, "budget", DEFAULT_BUDGET, BUDGET_LIMIT);
+            Ok(Line::Run(options_in(found, budget)))
+        }
         Some(("debug", found)) => {
             let path = path_in(alloc, found)?;
             Ok(Line::Debug(path, options_in(found, DEFAULT_BUDGET)))
@@ -75,9 +71,15 @@ pub(crate) fn options_in(found: &ArgMatches<'_>, budget: u64) -> Options
     requires most { budget ≤ BUDGET_LIMIT }
     ensures { AreWithin result }
 {
+    let journal = number_in(
+        found,
+        "journal",
+        DEFAULT_JOURNAL as u64,
+        JOURNAL_LIMIT as u64,
+    );
     Options {
         budget,
-        journal: journal_in(found),
+        journal: journal as usize,
         decimals: width_in(found),
     }
 }
@@ -90,19 +92,6 @@ pub(crate) fn width_in(found: &ArgMatches<'_>) -> Width {
 /// The path of the file that is named. The error is that memory was refused.
 pub(crate) fn path_in(alloc: Global, found: &ArgMatches<'_>) -> Result<String, AllocError> {
     String::from_str(alloc, found.get_str("FILE").unwrap_or(""))
-}
-
-// How many records are wanted, or the default number.
-fn journal_in(found: &ArgMatches<'_>) -> usize
-    ensures some { 1 ≤ result }
-    ensures most { result ≤ JOURNAL_LIMIT }
-{
-    number_in(
-        found,
-        "journal",
-        DEFAULT_JOURNAL as u64,
-        JOURNAL_LIMIT as u64,
-    ) as usize
 }
 
 /// The number that this option has, or the default one. `clap` takes no other than one from 1 to the most.
