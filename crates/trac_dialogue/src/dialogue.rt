@@ -89,7 +89,12 @@ fn take_line<R: Read, W: Write, A: Allocator + Copy, T: Replier<A>>(
         Ok(NextLine::End) => Err(Ending::Ended),
         Ok(NextLine::TooLong) => {
             lines.pass_all();
-            pass_part(alloc, taking, output)
+            // It is said once of a line that is too long that it is not understood.
+            if taking.passing {
+                return Ok(());
+            }
+            taking.passing = true;
+            write_text(output, Vec::from_slice(alloc, NOT_UNDERSTOOD))
         }
         Ok(NextLine::Line { len, whole }) => {
             let replied = answer(alloc, replier, taking, lines.front(len), output);
@@ -114,22 +119,6 @@ fn ask<W: Write, A: Allocator + Copy>(
         return write_text(output, prompt(alloc, number));
     }
     Ok(())
-}
-
-// Passes over a part of a line that is too long, and says once that it is not understood.
-fn pass_part<W: Write, A: Allocator + Copy>(
-    alloc: A,
-    taking: &mut Taking,
-    output: &mut W,
-) -> Result<(), Ending>
-    ensures gave { Gives (W.contents output.old) (W.contents output.new) }
-    ensures fault { IfErr result IsFault }
-{
-    if taking.passing {
-        return Ok(());
-    }
-    taking.passing = true;
-    write_text(output, Vec::from_slice(alloc, NOT_UNDERSTOOD))
 }
 
 // Writes and flushes a text, if there was memory for it.
