@@ -1,5 +1,5 @@
 -- Items in two lists, and how some go from one to the other.
-use Rattle.std.proofs.Common.{◌≡◌, ℕ, ◌+◌, ◌-◌, ◌≤◌, List, [], ◌++◌, length, take, drop, refl, sym, ap, subst, ◌∙◌, ◌⊎◌, ⊎_elim, inl, inr, append_assoc, arith}
+use Rattle.std.proofs.Common.{◌≡◌, ℕ, ◌+◌, ◌-◌, ◌≤◌, List, [], ◌++◌, length, take, drop, refl, sym, ap, subst, ◌∙◌, inl, append_assoc, arith}
 use Rattle.std.specs.List.{All}
 use Rattle.std.proofs.lemmas.List.{append-nil, take-append-drop, take-append-le, drop-append-le, length-append, length-map}
 use Rattle.std.proofs.Math.Seq.{take-append-add, take-append_seam, drop-append-add, drop-append_seam}
@@ -8,7 +8,7 @@ use Rattle.trac_rules.specs.declared.item.Item.{Item}
 use Rattle.trac_rules.specs.declared.item.Item.TheVariants.{Byte}
 use Rattle.trac_rules.specs.declared.limit.TheConstants.{FORM_LIMIT}
 use Rattle.trac_rules.specs.Form.{Form, IsWide, all_items, as_items, defined, extent, pointed_at}
-use Rattle.trac_forms.specs.Layout.{IsHeld, IsKept, divided, with_text}
+use Rattle.trac_forms.specs.Layout.{IsEither, IsHeld, IsKept, divided, with_text}
 use Rattle.trac_rules.proofs.Cutting.{count_within_extent, extent-append, extent-as_items, wide-as_items}
 
 -- items that are no more than a form may have, in places for all bytes that they stand for
@@ -64,32 +64,13 @@ module _ (old new : Ends Item) (place n : ℕ) (count : place ≡ length old.lef
       let back : new.right ≡ drop place both = right_on ∙ sym (drop-append-add old.left old.right n) ∙ ap (λ k. drop k both) (sym count) in
       λ i. record { before = front i; after = back i }
 
--- a text that is kept as one, or as items
-module _ (text kept packed : List ℕ) (items : Ends Item) (parted : ((kept ≡ text) × (packed ≡ [])) ⊎ ((kept ≡ []) × (packed ≡ text))) (bytes : divided items ≡ defined packed) where
-  back : items.right ≡ as_items packed
-  back = ap (λ (form : Form). form.after) bytes
-
-  after : as_items kept ++ items.right ≡ as_items text
-  after =
-      ⊎_elim
-      (λ (one : (kept ≡ text) × (packed ≡ [])).
-      ap (λ (xs : List Item). as_items kept ++ xs) (back ∙ ap as_items one.1) ∙ append-nil (as_items kept) ∙ ap as_items one.0)
-      (λ (each : (kept ≡ []) × (packed ≡ text)). ap (λ (bytes : List ℕ). as_items bytes ++ items.right) each.0 ∙ back ∙ ap as_items each.1)
-      parted
-
-  pub defined_held : divided (with_text kept items) ≡ defined text
-  defined_held =
-      let front : items.left ≡ [] = ap (λ (form : Form). form.before) bytes in
-      λ i. record { before = front i; after = after i }
-
-  pub held_new : length text ≤ FORM_LIMIT → length text ≤ items.capacity → IsHeld kept items
-  held_new short roomy = record {
-    kept = kept_there (with_text kept items) (as_items text) (ap all_items defined_held) (omega (arith, short, extent-as_items text)) (wide-as_items text) (omega (arith, roomy, extent-as_items text));
-    either = ⊎_elim
-        (λ (one : (kept ≡ text) × (packed ≡ [])). inr (back ∙ ap as_items one.1))
-        (λ (each : (kept ≡ []) × (packed ≡ text)). inl each.0)
-        parted;
-  }
+-- a new form, which keeps its text as one, or as items
+pub held_new : (text kept : List ℕ) (items : Ends Item) → divided (with_text kept items) ≡ defined text → IsEither kept items.right → length text ≤ FORM_LIMIT →
+    length text ≤ items.capacity → IsHeld kept items
+held_new text kept items whole either short roomy = record {
+  kept = kept_there (with_text kept items) (as_items text) (ap all_items whole) (omega (arith, short, extent-as_items text)) (wide-as_items text) (omega (arith, roomy, extent-as_items text));
+  either = either;
+}
 
 -- all items go after the pointer
 module _ (old new : Ends Item) (n : ℕ) (count : n ≡ length old.left)

@@ -4,6 +4,7 @@ use Rattle.std.specs.Prelude.{None, Some, ◌==◌}
 use Rattle.memchr.specs.Find.{FindsNeedle}
 use Rattle.std.specs.List.{flat_map, position}
 use Rattle.std.proofs.lemmas.Bool.{eq-eqb, eqb-true, true≢false}
+use Rattle.std.proofs.lemmas.Grind.{flat_map-append}
 use Rattle.std.proofs.lemmas.List.{append-nil, length-map, length-take-le, nil_from_length, take-map}
 use Rattle.trac_rules.specs.declared.item.Item.{Item}
 use Rattle.trac_rules.specs.declared.item.Item.TheVariants.{Byte}
@@ -34,6 +35,12 @@ module _ (text : List ℕ) (items after : List Item) (view : as_items text ++ it
   -- what gives each byte as it is gives the text
   pub given_alone : IsEither text items → false ≡ (length text == 0) → (given : Item → List ℕ) → ((b : ℕ) → given (Byte b) ≡ b ∷ []) → text ≡ flat_map given after
   given_alone either some given same = sym (each_byte text given same) ∙ ap (flat_map given) (sym (text_alone either some))
+
+  -- and then what the items give, where there may be both
+  pub given_both : (given : Item → List ℕ) → ((b : ℕ) → given (Byte b) ≡ b ∷ []) → flat_map given after ≡ text ++ flat_map given items
+  given_both given same =
+      ap (flat_map given) (sym view) ∙ flat_map-append given (as_items text) items
+      ∙ ap (λ (bytes : List ℕ). bytes ++ flat_map given items) (each_byte text given same)
 
 plain_at : (text : List ℕ) (k : ℕ) → is_gap (get_or (as_items text) k (Byte 0)) ≡ false
 plain_at [] k = refl
@@ -67,6 +74,3 @@ found_in_text text bytes place finds =
 pub not_in_text : (text bytes : List ℕ) → FindsNeedle bytes text 0 None → None ≡ place_of_text text (as_items bytes)
 not_in_text text bytes finds =
     in_last_run text (as_items bytes) 0 bytes [] (omega arith) (sym (append-nil (as_items bytes))) (λ k less. absurd (omega (arith, less))) None finds tt refl
-
-pub text_before : (text bytes : List ℕ) (place : ℕ) → FindsNeedle bytes text 0 (Some place) → count (take place (as_items bytes)) ≡ place
-text_before text bytes place finds = text_passed bytes (as_items bytes) refl place (omega (arith, finds.1.fits))

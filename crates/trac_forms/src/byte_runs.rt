@@ -89,15 +89,7 @@ pub(crate) fn put_text<A: Allocator + Copy>(text: &[u8], items: &mut Items<A>)
         items.put_left(&packed(chunk));
         rest = after;
     }
-    put_bytes(rest, items);
-}
-
-// The same byte by byte.
-fn put_bytes<A: Allocator + Copy>(bytes: &[u8], items: &mut Items<A>)
-    requires { item_count items.old + length bytes.now ≤ items.old.capacity }
-    ensures { items.new ≡ record items.old { left = items.old.left ++ as_items bytes.now } }
-{
-    for b in bytes {
+    for b in rest {
         items.push_left(PackedItem::from_byte(*b));
     }
 }
@@ -131,7 +123,9 @@ pub(crate) fn run_into<B: Allocator>(run: &[PackedItem], out: &mut Vec<u8, B>)
         chunk_into::<GROUP, B>(group, out);
         rest = after;
     }
-    bytes_into(rest, out);
+    for item in rest {
+        out.push_reserved(item.byte());
+    }
 }
 
 // The same for so many items.
@@ -143,31 +137,11 @@ fn chunk_into<const N: usize, B: Allocator>(chunk: &[PackedItem], out: &mut Vec<
     ensures len { vec_len out.new ≡ vec_len out.old + length chunk.now }
     ensures capacity { vec_capacity out.old ≤ vec_capacity out.new }
 {
-    let Ok(()) = out.extend_from_slice(&unpacked::<N>(chunk)) else {
-        unreachable!()
-    };
-}
-
-// The same byte by byte.
-fn bytes_into<B: Allocator>(run: &[PackedItem], out: &mut Vec<u8, B>)
-    requires bytes { gap_count run.now ≡ 0 }
-    requires room { vec_len out.old + length run.now ≤ vec_capacity out.old }
-    ensures { out.new.items ≡ out.old.items ++ bytes_in run.now }
-{
-    for item in run {
-        out.push_reserved(item.byte());
-    }
-}
-
-// So many items, which are all bytes, as these bytes.
-fn unpacked<const N: usize>(items: &[PackedItem]) -> [u8; N]
-    requires len { length items.now ≡ N }
-    requires bytes { gap_count items.now ≡ 0 }
-    ensures { result ≡ bytes_in items.now }
-{
     let mut bytes = [0; N];
     for i in 0..N {
-        bytes[i] = items[i].byte();
+        bytes[i] = chunk[i].byte();
     }
-    bytes
+    let Ok(()) = out.extend_from_slice(&bytes) else {
+        unreachable!()
+    };
 }

@@ -15,7 +15,7 @@ use crate::error::FormError;
 use crate::filling::text;
 use crate::form::{Form, Items, pack};
 use crate::packed::PackedItem;
-use crate::run_gaps::{RunGap, cut_run, push_item};
+use crate::run_gaps::{RunGap, cut_run};
 use crate::text_lists::Texts;
 use std::alloc::{Allocator, Global};
 use std::marker::Model;
@@ -59,10 +59,15 @@ impl<A: Allocator + Copy> Form<A> {
         ensures cut { IfOk result (λ c. c ≡ cut_of (T.texts texts.now) self.now) }
         ensures err { IsOkUnless result FormError.Memory }
     {
-        let Some(run) = self.whole_text() else {
-            return self.cut_apart(texts);
-        };
-        let gaps = cut_run(self.alloc, texts, run, Vec::new(self.alloc))?;
+        let mut gaps = Vec::new(self.alloc);
+        // A text that is kept as one is cut where it stands.
+        if self.items.left().is_empty() && self.items.right().is_empty() {
+            let gaps = cut_run(self.alloc, texts, self.text.as_slice(), gaps)?;
+            return Ok(Cut { gaps });
+        }
+        let mut run = Vec::with_capacity(self.alloc, self.len())?;
+        self.take_apart(&mut run, &mut gaps)?;
+        let gaps = cut_run(self.alloc, texts, run.as_slice(), gaps)?;
         Ok(Cut { gaps })
     }
 
@@ -90,30 +95,6 @@ impl<A: Allocator + Copy> Form<A> {
         fill_gaps(&mut self.items, cut.gaps(), texts);
     }
 
-    // The text of the whole form, if it is kept as one. None is always allowed: then its bytes are copied.
-    fn whole_text(&self) -> Option<&[u8]>
-        ensures whole { IfSome result (λ run. self.now ≡ defined run.now) }
-        ensures fits { IfSome result (λ run. length run.now ≤ FORM_LIMIT) }
-    {
-        if self.items.left().is_empty() && self.items.right().is_empty() {
-            return Some(self.text.as_slice());
-        }
-        None
-    }
-
-    // What segmenting with these texts would cut, by a copy of the bytes and the gaps between them.
-    fn cut_apart<T: Texts>(&self, texts: &T) -> Result<Cut<A>, FormError>
-        requires { length (T.texts texts.now) ≤ MARK_LIMIT }
-        ensures cut { IfOk result (λ c. c ≡ cut_of (T.texts texts.now) self.now) }
-        ensures err { IsOkUnless result FormError.Memory }
-    {
-        let mut run = Vec::with_capacity(self.alloc, self.len())?;
-        let mut gaps = Vec::new(self.alloc);
-        self.take_apart(&mut run, &mut gaps)?;
-        let gaps = cut_run(self.alloc, texts, run.as_slice(), gaps)?;
-        Ok(Cut { gaps })
-    }
-
     // Puts the bytes of the form into `run` and its gaps into `gaps`; both are empty before.
     fn take_apart(&self, run: &mut Vec<u8, A>, gaps: &mut Vec<RunGap, A>) -> Result<(), FormError>
         requires run { run.old.items ≡ [] }
@@ -132,7 +113,7 @@ impl<A: Allocator + Copy> Form<A> {
             };
             match item {
                 Item::Byte(b) => {
-                    push_item(b, run)?;
+                    run.push(b)?;
                     continue;
                 }
                 Item::Gap { ordinal, width } => {
@@ -142,7 +123,7 @@ impl<A: Allocator + Copy> Form<A> {
                         width,
                         ordinal,
                     };
-                    push_item(gap, gaps)?;
+                    gaps.push(gap)?;
                 }
             }
             before = run.len();

@@ -66,9 +66,15 @@ impl<A: Allocator + Copy> Form<A> {
         if text.len() > FORM_LIMIT {
             return Err(FormError::TooLong);
         }
-        let (kept, packed) = kept_and_packed(text);
-        let items = bytes_of(alloc, packed, text.len())?;
-        let text = Vec::from_slice(alloc, kept)?;
+        let mut items = Items::new(alloc);
+        items.reserve(text.len())?;
+        if text.len() < LONG {
+            put_text(text, &mut items);
+            items.shift_right(text.len());
+            let text = Vec::new(alloc);
+            return Ok(Form { alloc, text, items });
+        }
+        let text = Vec::from_slice(alloc, text)?;
         Ok(Form { alloc, text, items })
     }
 
@@ -89,7 +95,11 @@ impl<A: Allocator + Copy> Form<A> {
         let Some(back) = extent_within(after, FORM_LIMIT - front) else {
             return Err(FormError::TooLong);
         };
-        let items = items_of(alloc, before, after, front + back)?;
+        let mut items = Items::new(alloc);
+        items.reserve(front + back)?;
+        put_items(before, &mut items);
+        put_items(after, &mut items);
+        items.shift_right(after.len());
         let text = Vec::new(alloc);
         Ok(Form { alloc, text, items })
     }
@@ -114,8 +124,12 @@ impl<A: Allocator + Copy> Form<A> {
     pub fn item(&self, i: usize) -> Option<Item>
         ensures { result ≡ slice_get (all_items self.now) i }
     {
-        let packed = self.packed(i)?;
-        Some(packed.item())
+        let before = self.before();
+        if i < before.len() {
+            return Some(before[i].item());
+        }
+        let item = self.after().get(i - before.len())?;
+        Some(item.item())
     }
 
     /// A second form of the same items and with the same pointer, with memory and room of its own. Refused with
@@ -169,17 +183,6 @@ impl<A: Allocator + Copy> Form<A> {
         run + self.after().run_len(0, to.saturating_sub(before.len()))
     }
 
-    // The item at this place, as it is kept.
-    pub(crate) fn packed(&self, i: usize) -> Option<PackedItem>
-        ensures { result ≡ slice_get (all_items self.now) i }
-    {
-        let before = self.before();
-        if i < before.len() {
-            return Some(before[i]);
-        }
-        self.after().get(i - before.len())
-    }
-
     // The items before the pointer.
     pub(crate) fn before(&self) -> &[PackedItem]
         ensures { result.now ≡ self.now.before }
@@ -198,16 +201,6 @@ impl<A: Allocator + Copy> Form<A> {
     }
 }
 
-// What of a text a form keeps as a text, and what as items: all of it goes to one side.
-fn kept_and_packed(text: &[u8]) -> (&[u8], &[u8])
-    ensures { ((result.0.now ≡ text.now) × (result.1.now ≡ [])) ⊎ ((result.0.now ≡ []) × (result.1.now ≡ text.now)) }
-{
-    if text.len() < LONG {
-        return (&[], text);
-    }
-    (text, &[])
-}
-
 // Keeps the bytes of a text as items, before those on the right, if there is room for them.
 pub(crate) fn pack<A: Allocator + Copy>(text: &mut Vec<u8, A>, items: &mut Items<A>)
     requires { item_count items.old + length text.old.items ≤ items.old.capacity }
@@ -220,43 +213,6 @@ pub(crate) fn pack<A: Allocator + Copy>(text: &mut Vec<u8, A>, items: &mut Items
     put_text(text.as_slice(), items);
     items.shift_right(text.len());
     text.clear();
-}
-
-// The bytes of a text as items, none of them before the pointer, with room for so many.
-fn bytes_of<A: Allocator + Copy>(alloc: A, text: &[u8], room: usize) -> Result<Items<A>, FormError>
-    requires fits { length text.now ≤ room }
-    requires within { room ≤ FORM_LIMIT }
-    ensures bytes { IfOk result (λ items. divided items ≡ defined text.now) }
-    ensures room { IfOk result (λ items. room ≤ items.capacity) }
-    ensures err { IsOkUnless result FormError.Memory }
-{
-    let mut items = Items::new(alloc);
-    items.reserve(room)?;
-    put_text(text, &mut items);
-    items.shift_right(text.len());
-    Ok(items)
-}
-
-// These items, the pointer between the two lists, with room for as many as they stand for bytes.
-fn items_of<A: Allocator + Copy>(
-    alloc: A,
-    before: &[Item],
-    after: &[Item],
-    bytes: usize,
-) -> Result<Items<A>, FormError>
-    requires bytes { bytes ≡ extent (before.now ++ after.now) }
-    requires within { bytes ≤ FORM_LIMIT }
-    requires wide { All IsWide (before.now ++ after.now) }
-    ensures items { IfOk result (λ items. divided items ≡ record { before = before.now; after = after.now }) }
-    ensures kept { IfOk result IsKept }
-    ensures err { IsOkUnless result FormError.Memory }
-{
-    let mut items = Items::new(alloc);
-    items.reserve(bytes)?;
-    put_items(before, &mut items);
-    put_items(after, &mut items);
-    items.shift_right(after.len());
-    Ok(items)
 }
 
 // Puts these items at the end of those on the left, if there is room for them.

@@ -68,13 +68,6 @@ impl<A: Allocator + Copy> Name<A> {
         }
     }
 
-    /// How many bytes it has.
-    pub(crate) fn len(&self) -> usize
-        ensures { result ≡ length self.now }
-    {
-        self.as_slice().len()
-    }
-
     /// Its bytes, to be owned together, if it has more than 256.
     pub(crate) fn shared(&self) -> Option<&ArcSlice<u8, A>>
         ensures own { IfNone result (length self.now ≤ 256) }

@@ -72,8 +72,10 @@ impl<A: Allocator + Copy> Form<A> {
                 pointer: self.pointer(),
             });
         }
+        // `len` is called for its clause that no form has more items than a length can say.
+        let _items = self.len();
         // The least number has no negative: it is as many bytes as its absolute value says.
-        let count = self.bytes_up_to(n.unsigned_abs());
+        let count = n.unsigned_abs().min(usize::MAX as u128) as usize;
         if n < 0 {
             return self.read_last(count);
         }
@@ -116,7 +118,14 @@ impl<A: Allocator + Copy> Form<A> {
         let before = self.before();
         let rest = before.split_at(piece.pointer.min(before.len())).1;
         let put = first_bytes_into(rest, piece.len, out)?;
-        next_bytes_into(&self.after(), piece.len - put, out)
+        let most = piece.len - put;
+        let after = self.after();
+        if after.text.is_empty() {
+            first_bytes_into(after.items, most, out)?;
+            return Ok(());
+        }
+        let len = most.min(after.text.len());
+        Ok(out.extend_from_slice(after.text.split_at(len).0)?)
     }
 
     // The place that is so many items after the pointer.
@@ -125,17 +134,6 @@ impl<A: Allocator + Copy> Form<A> {
         ensures { result ≡ length self.now.before + count }
     {
         self.items.left().len() + count
-    }
-
-    // So many bytes; all there are, if a length cannot hold the number.
-    fn bytes_up_to(&self, n: u128) -> usize
-        ensures some { 0 < n → 0 < result }
-        ensures next { next_bytes result self.now ≡ next_bytes n self.now }
-        ensures last { last_bytes result self.now ≡ last_bytes n self.now }
-    {
-        // For the last two clauses: no form has more items than a length can say.
-        let _items = self.len();
-        n.min(usize::MAX as u128) as usize
     }
 
     // The next `n` bytes, or as many as there are.
@@ -195,20 +193,11 @@ fn segment(after: &After<'_>) -> Reached
     ensures bytes { result.bytes ≡ length (bytes_in (take result.items after.now)) }
     ensures within { result.items ≤ length after.now }
 {
-    if after.text.is_empty() {
-        return segment_among(after.items);
+    if !after.text.is_empty() {
+        return after_bytes(after.text.len());
     }
-    after_bytes(after.text.len())
-}
-
-// The same among items.
-fn segment_among(items: &[PackedItem]) -> Reached
-    ensures items { result.items ≡ segment_items (position is_gap items.now) items.now }
-    ensures bytes { result.bytes ≡ length (bytes_in (take result.items items.now)) }
-    ensures within { result.items ≤ length items.now }
-{
-    let bytes = run_len(items);
-    let items = if bytes < items.len() {
+    let bytes = run_len(after.items);
+    let items = if bytes < after.items.len() {
         bytes + 1
     } else {
         bytes
@@ -296,42 +285,17 @@ fn place_of<A: Allocator>(
         return Ok(Some(after_bytes(0)));
     }
     if after.text.is_empty() {
-        return first_place_of(alloc, text, after.items);
+        let mut run = Vec::new(alloc);
+        return search(&Finder::new(text), after.items, &mut run);
     }
-    Ok(place_in_text(text, after.text))
-}
-
-// The first place of a text that is not empty in a text, if it occurs.
-fn place_in_text(text: &[u8], bytes: &[u8]) -> Option<Reached>
-    requires { 0 < length text.now }
-    ensures place { option_map (λ at. at.items) result ≡ place_of_text text.now (as_items bytes.now) }
-    ensures bytes { IfSome result (λ at. at.bytes ≡ length (bytes_in (take at.items (as_items bytes.now)))) }
-    ensures within { IfSome result (λ at. at.items + length text.now ≤ length (as_items bytes.now)) }
-{
-    let Some(place) = find(bytes, text) else {
-        return None;
+    let Some(place) = find(after.text, text) else {
+        return Ok(None);
     };
-    Some(after_bytes(place))
+    Ok(Some(after_bytes(place)))
 }
 
 // How many bytes are read at least before they are searched for the first time.
 const FIRST_ROOM: usize = 16;
-
-// The first place of a text that is not empty among these items, if it occurs.
-fn first_place_of<A: Allocator>(
-    alloc: A,
-    text: &[u8],
-    items: &[PackedItem],
-) -> Result<Option<Reached>, FormError>
-    requires { 0 < length text.now }
-    ensures place { IfOk result (λ r. option_map (λ at. at.items) r ≡ place_of_text text.now items.now) }
-    ensures bytes { IfOk result (λ r. IfSome r (λ at. at.bytes ≡ length (bytes_in (take at.items items.now)))) }
-    ensures within { IfOk result (λ r. IfSome r (λ at. at.items + length text.now ≤ length items.now)) }
-    ensures err { IsOkUnless result FormError.Memory }
-{
-    let mut run = Vec::new(alloc);
-    search(&Finder::new(text), items, &mut run)
-}
 
 // The first place of the finder's text, which is not empty, among these items, if it occurs. `run` is an empty text,
 // for the run of bytes that is read; it is lent, so that no end of the search has to drop it.
@@ -369,16 +333,9 @@ fn search<A: Allocator>(
             items: start.items + run.len() + 1,
             bytes: start.bytes + run.len(),
         };
-        end_run(run);
+        run.clear();
     }
     Ok(place_in_run(finder, run.as_slice(), start))
-}
-
-// Ends a run of bytes at a gap: what comes after it is searched by itself.
-fn end_run<A: Allocator>(run: &mut Vec<u8, A>)
-    ensures { run.new.items ≡ [] }
-{
-    run.clear();
 }
 
 // The first place of a text in a run of bytes that begins at `start`, if it occurs there.
@@ -394,24 +351,6 @@ fn place_in_run(finder: &Finder<'_>, run: &[u8], start: Reached) -> Option<Reach
         items: start.items + place,
         bytes: start.bytes + place,
     })
-}
-
-// Puts the first `most` bytes after the pointer, or as many as there are, at the end of `out`.
-fn next_bytes_into<B: Allocator>(
-    after: &After<'_>,
-    most: usize,
-    out: &mut Vec<u8, B>,
-) -> Result<(), FormError>
-    ensures ok { OnOk result (out.new.items ≡ out.old.items ++ take most (bytes_in after.now)) }
-    ensures left { OnErr result (IsFrontOf out.old.items out.new.items) }
-    ensures err { IsOkUnless result FormError.Memory }
-{
-    if after.text.is_empty() {
-        first_bytes_into(after.items, most, out)?;
-        return Ok(());
-    }
-    let len = most.min(after.text.len());
-    Ok(out.extend_from_slice(after.text.split_at(len).0)?)
 }
 
 // Puts the first `most` bytes of these items, or as many as there are, at the end of `out`, and returns how many.

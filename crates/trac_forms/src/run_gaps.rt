@@ -65,27 +65,8 @@ fn with_text<A: Allocator + Copy>(
     if text.is_empty() {
         return Ok(gaps);
     }
-    with_more(alloc, number, text, run, gaps.as_slice())
-}
-
-// The same for a text that is not empty.
-fn with_more<A: Allocator + Copy>(
-    alloc: A,
-    number: u32,
-    text: &[u8],
-    run: &[u8],
-    gaps: &[RunGap],
-) -> Result<Vec<RunGap, A>, FormError>
-    requires some { 0 < length text.now }
-    requires fits { length run.now ≤ FORM_LIMIT }
-    requires within { AreWithin (length run.now) gaps.now }
-    ensures cut { IfOk result (λ out. gapped run.now out.items ≡ cut_out number text.now (gapped run.now gaps.now)) }
-    ensures old { IfOk result (λ out. earlier 0 out.items ≡ earlier 0 gaps.now) }
-    ensures within { IfOk result (λ out. AreWithin (length run.now) out.items) }
-    ensures err { IsOkUnless result FormError.Memory }
-{
     let mut out = Vec::with_capacity(alloc, gaps.len())?;
-    gaps_into(number, text, run, gaps, &mut out)?;
+    gaps_into(number, text, run, gaps.as_slice(), &mut out)?;
     Ok(out)
 }
 
@@ -115,7 +96,7 @@ fn gaps_into<A: Allocator>(
             passed: passed as u32,
             ..*gap
         };
-        push_item(moved, out)?;
+        out.push(moved)?;
         rest = after.split_at(gap.taken as usize).1;
     }
     new_gaps_into(number, text, &finder, rest, out)?;
@@ -145,7 +126,7 @@ fn new_gaps_into<A: Allocator>(
             width: text.len() as u32,
             ordinal: number,
         };
-        push_item(gap, gaps)?;
+        gaps.push(gap)?;
         rest = rest.split_at(passed + text.len()).1;
     }
     Ok(rest.len())
@@ -161,38 +142,13 @@ fn places_of<A: Allocator + Copy>(alloc: A, gaps: &[RunGap]) -> Result<Vec<CutGa
     let mut place = 0;
     for gap in gaps {
         place += gap.passed as usize;
-        push_place(place, *gap, &mut places)?;
+        if gap.taken != 0 {
+            places.push(CutGap {
+                place,
+                ordinal: gap.ordinal,
+            })?;
+        }
         place += 1;
     }
     Ok(places)
-}
-
-// Puts a gap with its place at the end of `places`, if it is made.
-fn push_place<A: Allocator>(
-    place: usize,
-    gap: RunGap,
-    places: &mut Vec<CutGap, A>,
-) -> Result<(), FormError>
-    ensures ok { OnOk result (places.new.items ≡ places.old.items ++ placed place gap) }
-    ensures err { IsOkUnless result FormError.Memory }
-{
-    if gap.taken == 0 {
-        return Ok(());
-    }
-    let made = CutGap {
-        place,
-        ordinal: gap.ordinal,
-    };
-    push_item(made, places)
-}
-
-// Puts an item at the end of `out`.
-pub(crate) fn push_item<T: Copy, A: Allocator>(
-    item: T,
-    out: &mut Vec<T, A>,
-) -> Result<(), FormError>
-    ensures ok { OnOk result (out.new.items ≡ out.old.items ++ item ∷ []) }
-    ensures err { IsOkUnless result FormError.Memory }
-{
-    out.push(item).map_err(|_| FormError::Memory)
 }

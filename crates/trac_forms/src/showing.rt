@@ -1,9 +1,9 @@
 //! How a form is printed.
-ghost use Rattle.std.specs.Prelude.{◌≡◌, ◌++◌, ◌≤◌, length, OnOk, OnErr, IsOkUnless, SomeIff, codes, decimal};
+ghost use Rattle.std.specs.Prelude.{◌≡◌, ◌++◌, ◌≤◌, length, OnOk, OnErr, IsOkUnless, SomeIff};
 ghost use Rattle.trac_rules.specs.Fronts.{IsFrontOf};
 ghost use Rattle.trac_rules.specs.Showing.{shown, shown_item, shown_items};
 
-use crate::after::{After, text_within};
+use crate::after::text_within;
 use crate::error::FormError;
 use crate::form::Form;
 use crate::packed::PackedItem;
@@ -20,8 +20,10 @@ impl<A: Allocator + Copy> Form<A> {
     {
         let mark = b"<^>".len();
         let before = items_len(self.before(), OUTPUT_LIMIT - mark)?;
-        let after = after_len(&self.after(), OUTPUT_LIMIT - mark - before)?;
-        Some(before + mark + after)
+        let after = self.after();
+        let text = text_within(after.text, OUTPUT_LIMIT - mark - before)?;
+        let items = items_len(after.items, OUTPUT_LIMIT - mark - before - text)?;
+        Some(before + mark + text + items)
     }
 
     /// Puts the form as it is printed at the end of `out`. It is printed as its bytes, each gap of ordinal k as `<k>`,
@@ -35,30 +37,10 @@ impl<A: Allocator + Copy> Form<A> {
     {
         items_into(self.before(), out)?;
         out.extend_from_slice(b"<^>")?;
-        after_into(&self.after(), out)
+        let after = self.after();
+        out.extend_from_slice(after.text)?;
+        items_into(after.items, out)
     }
-}
-
-// How many bytes the items after the pointer are printed as, if that is no more than `most`.
-fn after_len(after: &After<'_>, most: usize) -> Option<usize>
-    ensures { SomeIff result (length (shown_items after.now) ≤ most) (length (shown_items after.now)) }
-{
-    if after.text.is_empty() {
-        return items_len(after.items, most);
-    }
-    text_within(after.text, most)
-}
-
-// Puts the items after the pointer as they are printed at the end of `out`.
-fn after_into<B: Allocator>(after: &After<'_>, out: &mut Vec<u8, B>) -> Result<(), FormError>
-    ensures ok { OnOk result (out.new.items ≡ out.old.items ++ shown_items after.now) }
-    ensures left { OnErr result (IsFrontOf out.old.items out.new.items) }
-    ensures err { IsOkUnless result FormError.Memory }
-{
-    if after.text.is_empty() {
-        return items_into(after.items, out);
-    }
-    Ok(out.extend_from_slice(after.text)?)
 }
 
 // How many bytes these items are printed as, if that is no more than `most`.
@@ -82,16 +64,11 @@ fn item_len(item: PackedItem) -> usize
 {
     match item.item() {
         Item::Byte(_) => 1,
-        Item::Gap { ordinal, width: _ } => gap_len(ordinal),
+        Item::Gap { ordinal, width: _ } => {
+            let mut buffer = Buffer::new();
+            b"<".len() + buffer.format(ordinal).len() + b">".len()
+        }
     }
-}
-
-// How many bytes a gap of this ordinal is printed as.
-fn gap_len(ordinal: u32) -> usize
-    ensures { result ≡ length (codes "<" ++ (decimal ordinal ++ codes ">")) }
-{
-    let mut buffer = Buffer::new();
-    b"<".len() + buffer.format(ordinal).len() + b">".len()
 }
 
 // Puts items as they are printed at the end of `out`.
@@ -114,19 +91,12 @@ fn item_into<B: Allocator>(item: PackedItem, out: &mut Vec<u8, B>) -> Result<(),
 {
     match item.item() {
         Item::Byte(b) => Ok(out.push(b)?),
-        Item::Gap { ordinal, width: _ } => gap_into(ordinal, out),
+        Item::Gap { ordinal, width: _ } => {
+            let mut buffer = Buffer::new();
+            out.extend_from_slice(b"<")?;
+            out.extend_from_slice(buffer.format(ordinal).as_bytes())?;
+            out.extend_from_slice(b">")?;
+            Ok(())
+        }
     }
-}
-
-// Puts a gap of this ordinal as it is printed at the end of `out`.
-fn gap_into<B: Allocator>(ordinal: u32, out: &mut Vec<u8, B>) -> Result<(), FormError>
-    ensures ok { OnOk result (out.new.items ≡ out.old.items ++ (codes "<" ++ (decimal ordinal ++ codes ">"))) }
-    ensures left { OnErr result (IsFrontOf out.old.items out.new.items) }
-    ensures err { IsOkUnless result FormError.Memory }
-{
-    let mut buffer = Buffer::new();
-    out.extend_from_slice(b"<")?;
-    out.extend_from_slice(buffer.format(ordinal).as_bytes())?;
-    out.extend_from_slice(b">")?;
-    Ok(())
 }

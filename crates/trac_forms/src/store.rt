@@ -254,7 +254,9 @@ impl<A: Allocator + Copy> Store<A> {
     pub fn sweep(&mut self)
         ensures { self.new ≡ swept self.old }
     {
-        drop_empty(&mut self.table, self.live);
+        // `len` is called for its clause that no key stands twice.
+        let _len = self.table.len();
+        self.table.truncate(self.live);
     }
 }
 
@@ -463,21 +465,6 @@ fn take_values<K: Eq + Hash + Drop, V: Drop, S: BuildHasher, A: Allocator>(
     *live = 0;
 }
 
-// Drops the entries without a value.
-fn drop_empty<K: Eq + Hash + Drop, V: Drop, S: BuildHasher, A: Allocator>(
-    table: &mut IndexMap<K, Option<V>, S, A>,
-    live: usize,
-)
-    requires { IsParted table.old.entries live }
-    ensures kept { table.new.entries ≡ filter (λ e. is_some e.1) table.old.entries }
-    ensures unique { IsUnique K.eq table.old }
-    ensures parted { IsParted table.new.entries live }
-{
-    // `len` is called for its clause that no key stands twice.
-    let _len = table.len();
-    table.truncate(live);
-}
-
 // The names of the entries that have a form, in the order of the table.
 fn full_names<A: Allocator + Copy>(table: &Table<A>) -> Result<Vec<&[u8], A>, FormError>
     ensures names { IfOk result
@@ -520,10 +507,11 @@ fn byte_in_list<A: Allocator + Copy>(table: &Table<A>, text: usize, i: usize) ->
         if held.is_none() {
             continue;
         }
-        let Some(byte) = past_lesser(table, name.as_slice(), text, i) else {
+        let bytes = name.as_slice();
+        let Some(byte) = past_lesser(table, bytes, text, i) else {
             continue;
         };
-        if is_within(byte, text, name.len()) {
+        if is_within(byte, text, bytes.len()) {
             return Some(byte);
         }
     }
@@ -545,13 +533,14 @@ fn past_lesser<A: Allocator + Copy>(
         if held.is_none() {
             continue;
         }
-        if !is_less(other.as_slice(), name) {
+        let bytes = other.as_slice();
+        if !is_less(bytes, name) {
             continue;
         }
-        if is_within(left, text, other.len()) {
+        if is_within(left, text, bytes.len()) {
             return None;
         }
-        left = left - text - other.len();
+        left = left - text - bytes.len();
     }
     Some(left)
 }

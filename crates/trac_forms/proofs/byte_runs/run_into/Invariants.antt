@@ -1,4 +1,4 @@
-use Rattle.std.proofs.Common.{length}
+use Rattle.std.proofs.Common.{drop, length}
 use Rattle.std.specs.Prelude.{vec_len, vec_capacity}
 use Rattle.trac_forms.proofs.ByteRuns.{IsLeft}
 use Rattle.trac_forms.proofs.byte_runs.run_into.Given as goal
@@ -14,3 +14,6 @@ invariant-groups g l = IsLeft l.run l.rest l.fn.out.items l.out.items (vec_len l
 
 abbrev pub decreases-groups : goal.decreases-groups
 decreases-groups g l = length l.rest
+
+abbrev pub invariant-loop-item : goal.invariant-loop-item
+invariant-loop-item g l = IsLeft l.run (drop l.item-index l.item-items) l.fn.out.items l.out.items (vec_len l.out) (vec_capacity l.out)

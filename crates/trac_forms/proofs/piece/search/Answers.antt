@@ -42,8 +42,8 @@ loop-item-preserved g c =
     let length_is : c.len-in-loop-item.result ≡ length run = omega arith in
     let at : start + c.len-in-loop-item.result + 1 ≡ i + 1 = omega arith in
     record {
-      passed = omega (arith, ap length c.end_run.ensures);
-      rest = ap (λ k. drop k items) at ∙ ap (λ (r : List ℕ). as_items r ++ drop (i + 1) items) (sym c.end_run.ensures);
+      passed = omega (arith, ap length c.clear.ensures.items);
+      rest = ap (λ k. drop k items) at ∙ ap (λ (r : List ℕ). as_items r ++ drop (i + 1) items) (sym c.clear.ensures.items);
       counted =
           omega (
             arith,

@@ -16,7 +16,7 @@ loop-gap-preserved g c =
     subst (λ (r : List ℕ). IsCutOut c.args.number c.args.text.now r c.loop-gap.out.items c.new_gaps_into.new.gaps.items c.in_ok-passed.passed) c.split_at.ensures.front c.in_ok-passed.ensures.cut in
     mixed_goes_on c.args.number c.args.text.now c.args.run.now gaps c.loop-gap.out.items rest (drop i gaps) c.loop-gap.invariant
     gap.passed (first_within rest (drop i gaps) gap (drop (i + 1) gaps) is c.loop-gap.invariant.ahead) c.new_gaps_into.new.gaps.items c.in_ok-passed.passed cut
-    gap (drop (i + 1) gaps) c.push_item.new.out.items c.split_at-in-loop-gap.result.1.now is refl c.in_ok-push_item.ensures.ok
+    gap (drop (i + 1) gaps) c.push.new.self.items c.split_at-in-loop-gap.result.1.now is refl c.in_ok-push.ensures.items
     (c.split_at-in-loop-gap.ensures.back ∙ ap (drop gap.taken) c.split_at.ensures.back ∙ drop-drop gap.taken gap.passed rest)
 
 pub returns-clause-cut : goal.returns-clause-cut

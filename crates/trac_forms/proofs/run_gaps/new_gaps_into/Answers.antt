@@ -8,9 +8,9 @@ use Rattle.trac_forms.proofs.run_gaps.new_gaps_into.Goals as goal
 pub occurrences-preserved : goal.occurrences-preserved
 occurrences-preserved g c =
     cut_goes_on c.args.number c.args.text.now c.args.run.now c.args.gaps.now.items c.occurrences.gaps.items c.occurrences.rest.now c.occurrences.invariant
-    (record { passed = c.in-Some.passed; taken = length c.args.text.now; width = length c.args.text.now; ordinal = c.args.number }) c.push_item.new.out.items c.split_at.result.1.now c.requires.some
+    (record { passed = c.in-Some.passed; taken = length c.args.text.now; width = length c.args.text.now; ordinal = c.args.number }) c.push.new.self.items c.split_at.result.1.now c.requires.some
     (subst (λ (t : List ℕ). FindsNeedle c.occurrences.rest.now t 0 (Some c.in-Some.passed)) c.requires.finds c.in-Some.ensures) refl refl refl
-    c.in_ok-push_item.ensures.ok c.split_at.ensures.back
+    c.in_ok-push.ensures.items c.split_at.ensures.back
 
 pub returns-clause-cut : goal.returns-clause-cut
 returns-clause-cut g c =

@@ -20,7 +20,7 @@ loop-name-preserved-in_default g c =
     ∙ full-some (c.in-Some.name.now, c.in-Some.held.now) c.next.new.self c.is_none.result c.is_none.ensures c.if-is_none.false) c.loop-name.invariant in
     tried_one c.args.text c.args.i names left c.in-Some.name.now tried
     (λ byte place within.
-    let before = ap (λ q. lesser_len c.args.text q names) c.as_slice.ensures in
+    let before = ap (λ q. lesser_len c.args.text q names) c.as_slice-bytes.ensures in
     absurd (omega (arith, c.in_default.ensures, before, place)))
 
 pub loop-name-preserved : goal.loop-name-preserved
@@ -30,11 +30,11 @@ loop-name-preserved g c =
     let tried = subst (λ ns. AreTried c.args.text c.args.i names ns)
     (ap (λ es. full_keys es) c.in-Some.ensures.steps
     ∙ full-some (c.in-Some.name.now, c.in-Some.held.now) c.next.new.self c.is_none.result c.is_none.ensures c.if-is_none.false) c.loop-name.invariant in
-    let len : c.len.result ≡ length c.in-Some.name.now = c.len.ensures in
-    let past = ltb-false c.in-Some-past_lesser.byte (c.args.text + c.len.result) (sym c.is_within.ensures ∙ c.if-is_within.false) in
+    let len = ap length c.as_slice-bytes.ensures in
+    let past = ltb-false c.in-Some-past_lesser.byte (c.args.text + length c.as_slice-bytes.result.now) (sym c.is_within.ensures ∙ c.if-is_within.false) in
     tried_one c.args.text c.args.i names left c.in-Some.name.now tried
     (λ byte place within.
-    let before = ap (λ q. lesser_len c.args.text q names) c.as_slice.ensures in
+    let before = ap (λ q. lesser_len c.args.text q names) c.as_slice-bytes.ensures in
     absurd (omega (arith, c.in-Some-past_lesser.ensures, before, place, within, past, len)))
 
 pub returns : goal.returns

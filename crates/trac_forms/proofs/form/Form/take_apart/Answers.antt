@@ -23,8 +23,8 @@ pub loop-i-preserved-in-Byte : goal.loop-i-preserved-in-Byte
 loop-i-preserved-in-Byte g c =
     let items = all_items c.args.self.now in
     let more = next items c.loop-i.i c.in-Some.item (omega (arith, c.len-i-end.ensures.len)) c.in-Some.ensures ∙ ap (λ (x : Item). take c.loop-i.i items ++ x ∷ []) c.in-Byte.is in
-    subst (λ (xs : List Item). IsRead xs c.push_item.new.out.items c.loop-i.gaps.items c.loop-i.before) (sym more)
-    (byte_read (take c.loop-i.i items) c.loop-i.run.items c.loop-i.gaps.items c.loop-i.before c.loop-i.invariant c.in-Byte.b c.push_item.new.out.items c.in_ok-push_item-in-Byte.ensures.ok)
+    subst (λ (xs : List Item). IsRead xs c.push.new.self.items c.loop-i.gaps.items c.loop-i.before) (sym more)
+    (byte_read (take c.loop-i.i items) c.loop-i.run.items c.loop-i.gaps.items c.loop-i.before c.loop-i.invariant c.in-Byte.b c.push.new.self.items c.in_ok-push-in-Byte.ensures.items)
 
 pub overflow_cast-gap : goal.overflow_cast-gap
 overflow_cast-gap g c =
@@ -40,10 +40,10 @@ loop-i-preserved g c =
     let wide : 1 ≤ c.in-Gap.width =
     omega (arith, c.len-i-end.ensures.wide c.loop-i.i (Byte 0) l, ap width_of (get_or_from_slice_get items c.loop-i.i c.in-Some.item (Byte 0) (sym c.in-Some.ensures) ∙ c.in-Gap.is)) in
     let count : length c.loop-i.run.items ≡ c.len-before.result = omega (arith, c.len-before.ensures, c.loop-i.run.ok.0) in
-    let at = gap_read (take c.loop-i.i items) c.loop-i.run.items c.loop-i.gaps.items c.loop-i.before c.loop-i.invariant gap c.push_item-in-Gap.new.out.items (wide, refl)
-    (omega (arith, c.len.ensures, c.loop-i.run.ok.0, c.loop-i.invariant.within)) c.in_ok-push_item-in-Gap.ensures.ok in
-    subst (λ n. IsRead (take (c.loop-i.i + 1) items) c.loop-i.run.items c.push_item-in-Gap.new.out.items n) count
-    (subst (λ (xs : List Item). IsRead xs c.loop-i.run.items c.push_item-in-Gap.new.out.items (length c.loop-i.run.items)) (sym more) at)
+    let at = gap_read (take c.loop-i.i items) c.loop-i.run.items c.loop-i.gaps.items c.loop-i.before c.loop-i.invariant gap c.push-in-Gap.new.self.items (wide, refl)
+    (omega (arith, c.len.ensures, c.loop-i.run.ok.0, c.loop-i.invariant.within)) c.in_ok-push-in-Gap.ensures.items in
+    subst (λ n. IsRead (take (c.loop-i.i + 1) items) c.loop-i.run.items c.push-in-Gap.new.self.items n) count
+    (subst (λ (xs : List Item). IsRead xs c.loop-i.run.items c.push-in-Gap.new.self.items (length c.loop-i.run.items)) (sym more) at)
 
 pub returns-clause-fits : goal.returns-clause-fits
 returns-clause-fits g c = fits (all_items c.args.self.now) c.loop-i.i (length c.loop-i.run.items) c.loop-i.invariant.short c.len-i-end.ensures.within c.len-i-end.ensures.wide
