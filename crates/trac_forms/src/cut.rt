@@ -1,10 +1,10 @@
 //! What segmenting cuts: the gaps that it makes, kept so that they can be filled again.
 ghost use Rattle.std.specs.Prelude.{◌≡◌, ◌+◌, ◌++◌, ◌<◌, ◌≤◌, ◌∷◌, [], length, take, drop, is_some, option_map, Some};
-ghost use Rattle.std.specs.Prelude.{IfOk, IfSome, IsOkUnless, IsTrue, OnOk};
+ghost use Rattle.std.specs.Prelude.{IfOk, IsOkUnless, IsTrue, OnOk};
 ghost use Rattle.std.specs.List.{All};
 ghost use Rattle.trac_gap.specs.Ends.{item_count};
 ghost use Rattle.trac_rules.specs.Cuts.{cut_of, joined};
-ghost use Rattle.trac_rules.specs.Form.{all_items, as_items, at_start, defined};
+ghost use Rattle.trac_rules.specs.Form.{all_items, as_items, at_start};
 ghost use Rattle.trac_rules.specs.Segmenting.{segmented};
 ghost use Rattle.trac_rules.specs.declared.item.Item.TheVariants.{Gap};
 ghost use Rattle.trac_forms.specs.Layout.{IsKept, divided};

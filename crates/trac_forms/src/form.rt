@@ -1,11 +1,11 @@
 //! A form: a text with gaps and a pointer.
-ghost use Rattle.std.specs.Prelude.{◌≡◌, ◌⊎◌, ◌+◌, ◌-◌, ◌++◌, ◌≤◌, [], drop, length, slice_get, take, IfOk, IfErr};
+ghost use Rattle.std.specs.Prelude.{◌≡◌, ◌+◌, ◌-◌, ◌++◌, ◌≤◌, [], drop, length, slice_get, take, IfOk, IfErr};
 ghost use Rattle.std.specs.Prelude.{OnOk, IsOkUnless, SomeIff};
 ghost use Rattle.std.specs.List.{All, position_or_len};
 ghost use Rattle.trac_gap.specs.Ends.{item_count};
-ghost use Rattle.trac_rules.specs.Form.{IsWide, all_items, as_items, at_start, defined, extent, pointed_at, width_of};
+ghost use Rattle.trac_rules.specs.Form.{IsWide, all_items, defined, extent, pointed_at, width_of};
 ghost use Rattle.trac_rules.specs.Pieces.{is_gap};
-ghost use Rattle.trac_forms.specs.Layout.{IsKept, IsSound, divided, with_text};
+ghost use Rattle.trac_forms.specs.Layout.{IsSound, divided, with_text};
 ghost use Rattle.trac_forms.specs.Outcomes.{MayRefuseForm};
 
 use crate::after::After;

@@ -3,7 +3,6 @@
 ghost use Rattle.std.specs.Prelude.{◌≡◌, ◌+◌, ◌-◌, ◌^◌, ◌++◌, ◌∷◌, [], ◌≤◌, ◌<◌, length, take, drop, position};
 ghost use Rattle.std.specs.Prelude.{option_map, IfOk, IfSome, OnOk, OnErr, IsOkUnless};
 ghost use Rattle.memchr.specs.Find.{FindsNeedle};
-ghost use Rattle.trac_rules.specs.Form.{as_items};
 ghost use Rattle.trac_rules.specs.Fronts.{IsFrontOf};
 ghost use Rattle.trac_rules.specs.Pieces.{at_most_all, bytes_in, char_read, count_read, is_gap, last_bytes, next_bytes};
 ghost use Rattle.trac_rules.specs.Pieces.{place_before, place_after, place_of_text, segment_items, segment_read};

@@ -1,9 +1,9 @@
 //! Segmenting a form, as the run of its bytes and gaps in it: gaps are found in the run itself, and no byte is moved.
-ghost use Rattle.std.specs.Prelude.{◌≡◌, ◌++◌, ◌<◌, ◌≤◌, ◌∷◌, [], length, IfOk, IsOkUnless, OnOk};
+ghost use Rattle.std.specs.Prelude.{◌≡◌, ◌<◌, ◌≤◌, [], length, IfOk, IsOkUnless, OnOk};
 ghost use Rattle.std.specs.List.{All};
 ghost use Rattle.trac_rules.specs.Cuts.{cut_between};
 ghost use Rattle.trac_rules.specs.Segmenting.{cut_out, segmented_from};
-ghost use Rattle.trac_forms.specs.RunGaps.{AreWithin, IsCutOut, IsOld, earlier, gapped, gaps_from, placed};
+ghost use Rattle.trac_forms.specs.RunGaps.{AreWithin, IsCutOut, IsOld, earlier, gapped, gaps_from};
 
 use crate::error::FormError;
 use crate::text_lists::Texts;

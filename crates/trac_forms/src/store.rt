@@ -1,5 +1,5 @@
 //! The forms by their names, and the blocks.
-ghost use Rattle.std.specs.Prelude.{◌≡◌, ◌+◌, ◌-◌, ◌^◌, ◌<◌, ◌≤◌, ◌++◌, ◌∷◌, [], filter, is_some, length, map, nat_lt};
+ghost use Rattle.std.specs.Prelude.{◌≡◌, ◌+◌, ◌-◌, ◌^◌, ◌<◌, ◌≤◌, ◌++◌, ◌∷◌, [], is_some, length, map, nat_lt};
 ghost use Rattle.std.specs.Prelude.{option_map, slice_get, slice_set, take, true, vec_capacity, vec_len, IfNone, IfOk};
 ghost use Rattle.std.specs.Prelude.{IfSome, IsOk, IsOkUnless, IsTrue, MatchOption, None, OnErr, OnOk, Some};
 ghost use Rattle.std.specs.FinMap as finite;

@@ -1,6 +1,5 @@
 use Rattle.std.proofs.Common.{◌≡◌, ℕ, zero, suc, ◌-◌, List, [], get_or, refl, ap, arith}
 use Rattle.trac_rules.specs.Filling.{text_numbered}
-use Rattle.trac_forms.proofs.filling.text.Goals as goal
 
 -- texts are numbered from 1 on
 numbered : (n : ℕ) (texts : List (List ℕ)) → (n ≡ 0 → ⊥) → get_or texts (n - 1) [] ≡ text_numbered n texts

@@ -1,5 +1,5 @@
 -- A name that is tried has the byte, or has not.
-use Rattle.std.proofs.Common.{◌≡◌, ◌+◌, length, sym, ap, subst, ◌∙◌, arith, ltb-false}
+use Rattle.std.proofs.Common.{◌+◌, length, sym, ap, subst, ◌∙◌, arith, ltb-false}
 use Rattle.trac_forms.specs.Listed.{lesser_len}
 use Rattle.trac_forms.specs.Table.{full_keys}
 use Rattle.trac_forms.proofs.InOrder.{AreTried, all_tried, full-some, none_tried, tried_one}
