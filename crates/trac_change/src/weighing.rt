@@ -1,7 +1,6 @@
 //! What is destroyed of forms and blocks weighs.
-ghost use Rattle.std.specs.Prelude.{◌≡◌, ◌+◌, ◌<◌, ◌^◌, length};
-ghost use Rattle.trac_rules.specs.Form.{all_items};
-ghost use Rattle.trac_rules.specs.Weights.{form_weight, held_weight, undone_weight};
+ghost use Rattle.std.specs.Prelude.{◌≡◌, ◌<◌, ◌^◌};
+ghost use Rattle.trac_rules.specs.Weights.{held_weight, undone_weight};
 ghost use Rattle.trac_change.specs.Changed.{named_forms};
 ghost use Rattle.trac_change.specs.Undone.{undone_in};
 
@@ -19,9 +18,9 @@ impl<A: Allocator + Copy> Undone<A> {
         ensures { result ≡ undone_weight (undone_in self.now) }
     {
         match self {
-            Undone::Nothing | Undone::Point(_) => 0,
+            Undone::Nothing | Undone::Point(_) | Undone::Swap(None) | Undone::MoveOut(None) => 0,
             Undone::Join { cut, pointer: _ } => cut.gaps().len(),
-            Undone::Swap(old) | Undone::MoveOut(old) => weigh_form(old),
+            Undone::Swap(Some(form)) | Undone::MoveOut(Some(form)) => form.len(),
             Undone::Restore(forms) => weigh_forms(forms.as_slice()),
             Undone::Unbring {
                 number: _,
@@ -36,32 +35,14 @@ impl<A: Allocator + Copy> Undone<A> {
     }
 }
 
-// A form without its name, if there is one: its items.
-fn weigh_form<A: Allocator + Copy>(old: &Option<Form<A>>) -> usize
-    ensures { result ≡ form_weight old.now }
-{
-    match old {
-        Some(form) => form.len(),
-        None => 0,
-    }
-}
-
-// A form with its name: its items, the bytes of its name, and one.
-fn weigh_named<A: Allocator + Copy>(name: &[u8], form: &Form<A>) -> usize
-    requires { length (all_items form.now) + length name.now + 1 < 2 ^ 64 }
-    ensures { result ≡ length (all_items form.now) + length name.now + 1 }
-{
-    form.len() + name.len() + 1
-}
-
-// Forms with their names.
+// Forms with their names: of each its items, the bytes of its name, and one.
 fn weigh_forms<A: Allocator + Copy>(forms: &[(Vec<u8, A>, Form<A>)]) -> usize
     requires { held_weight (named_forms forms.now) < 2 ^ 64 }
     ensures { result ≡ held_weight (named_forms forms.now) }
 {
     let mut weight = 0;
     for (name, form) in forms {
-        weight += weigh_named(name.as_slice(), form);
+        weight += form.len() + name.len() + 1;
     }
     weight
 }
@@ -76,7 +57,7 @@ fn weigh_block<A: Allocator + Copy>(block: &Block<A>) -> usize
         let Some((name, form)) = block.get(i) else {
             unreachable!()
         };
-        weight += weigh_named(name, form);
+        weight += form.len() + name.len() + 1;
     }
     weight
 }

@@ -1,5 +1,5 @@
 -- std reads a numeral as the number that it writes.
-use Rattle.std.proofs.Common.{◌≡◌, ◌∙◌, ℕ, true, ℤ, w64, of_z, to_z, List, [], None, Some, Result, Ok, Err, refl, sym, ap, subst, ⊎_elim}
+use Rattle.std.proofs.Common.{◌≡◌, ◌∙◌, ◌<◌, ℕ, length, arith, true, ℤ, w64, of_z, to_z, List, [], None, Some, Result, Ok, Err, refl, sym, ap, subst, ⊎_elim}
 use Rattle.std.proofs.lemmas.Str.{IsUtf8-from_ascii, IsUtf8-nil}
 use Rattle.std.specs.Int.{w128}
 use Rattle.std.specs.Result.{result_ok}
@@ -19,6 +19,11 @@ utf8_numeral numeral form =
     (λ (e : numeral ≡ []). rw e IsUtf8-nil)
     (λ (t : is_numeral numeral ≡ true). IsUtf8-from_ascii numeral (ascii_numeral numeral t))
     form
+
+-- so long a text is not empty
+pub longer_is_numeral : (numeral : List ℕ) → IsNumeralOrNull numeral → 18 < length numeral → is_numeral numeral ≡ true
+longer_is_numeral numeral form long =
+    ⊎_elim (λ (e : numeral ≡ []). absurd (omega (arith, long, ap (λ (xs : List ℕ). length xs) e))) (λ (t : is_numeral numeral ≡ true). t) form
 
 -- a numeral, read as an integer of the code that is as wide
 pub parsed_number : {E : Type 0} (width : Width) (numeral : List ℕ) (r : Result ℤ E) → is_numeral numeral ≡ true → ParsesSigned (held width) 10 numeral r → result_ok r ≡ number_of width numeral

@@ -14,6 +14,19 @@ use Rattle.trac_rules.specs.Number.{IsNumeralOrNull, is_numeral, whole_number}
 pub short_below : (ds : List ℕ) → all_ascii_digits ds ≡ true → length ds ≤ 18 → digits_value 10 ds < 10 ^ 18
 short_below ds t l = digits_value_short (numerals_by_value (λ xs. all_ascii_digits xs ≡ true) tells_all_ascii_digits) ds 18 t l
 
+pub digits_of : (numeral : List ℕ) → IsNumeralOrNull numeral → all_ascii_digits (without_leading_sign numeral) ≡ true
+digits_of numeral form =
+    ⊎_elim (λ (e : numeral ≡ []). rw e refl) (λ (t : is_numeral numeral ≡ true). (numeral_parts numeral t).1) form
+
+digits_short : (numeral : List ℕ) → length numeral ≤ 18 → length (without_leading_sign numeral) ≤ 18
+digits_short numeral l =
+    ⊎_elim
+    (λ (s : ((get_or numeral 0 0 ≡ 43) ⊎ (get_or numeral 0 0 ≡ 45)) × (without_leading_sign numeral ≡ drop 1 numeral)).
+    omega (arith, length-drop 1 numeral, ap (λ (ds : List ℕ). length ds) s.1, l))
+    (λ (s : (get_or numeral 0 0 ≡ 43 → ⊥) × (get_or numeral 0 0 ≡ 45 → ⊥) × (without_leading_sign numeral ≡ numeral)).
+    omega (arith, ap (λ (ds : List ℕ). length ds) s.2, l))
+    (sign_or_none numeral)
+
 -- one digit more
 pub record OneMore (ds : List ℕ) (i s : ℕ) : Type 0 where
   pub low : 48 ≤ get_or ds i 0
@@ -21,8 +34,10 @@ pub record OneMore (ds : List ℕ) (i s : ℕ) : Type 0 where
   pub value : s * 10 + (get_or ds i 0 - 48) ≡ digits_value 10 (take (i + 1) ds)
   pub below : s * 10 + (get_or ds i 0 - 48) < 10 ^ 18
 
-pub one_more : (ds : List ℕ) (i s : ℕ) → all_ascii_digits ds ≡ true → length ds ≤ 18 → i < length ds → s ≡ digits_value 10 (take i ds) → OneMore ds i s
-one_more ds i s t l h e =
+pub one_more : (numeral ds : List ℕ) (i s : ℕ) → IsNumeralOrNull numeral → length numeral ≤ 18 → ds ≡ without_leading_sign numeral → i < length ds → s ≡ digits_value 10 (take i ds) → OneMore ds i s
+one_more numeral ds i s form short is h e =
+    let t : all_ascii_digits ds ≡ true = ap all_ascii_digits is ∙ digits_of numeral form in
+    let l : length ds ≤ 18 = omega (arith, digits_short numeral short, ap (λ (xs : List ℕ). length xs) is) in
     let worth = digit_worth (get_or ds i 0) (digit_at ds i t h) in
     let more = digits_value_more 10 ds i h in
     let within = digits_value-take-le 10 ds (i + 1) (omega arith) in
@@ -33,19 +48,6 @@ one_more ds i s t l h e =
       value = omega (arith, worth, more, e);
       below = omega (arith, worth, more, e, within, most);
     }
-
-pub digits_of : (numeral : List ℕ) → IsNumeralOrNull numeral → all_ascii_digits (without_leading_sign numeral) ≡ true
-digits_of numeral form =
-    ⊎_elim (λ (e : numeral ≡ []). rw e refl) (λ (t : is_numeral numeral ≡ true). (numeral_parts numeral t).1) form
-
-pub digits_short : (numeral : List ℕ) → length numeral ≤ 18 → length (without_leading_sign numeral) ≤ 18
-digits_short numeral l =
-    ⊎_elim
-    (λ (s : ((get_or numeral 0 0 ≡ 43) ⊎ (get_or numeral 0 0 ≡ 45)) × (without_leading_sign numeral ≡ drop 1 numeral)).
-    omega (arith, length-drop 1 numeral, ap (λ (ds : List ℕ). length ds) s.1, l))
-    (λ (s : (get_or numeral 0 0 ≡ 43 → ⊥) × (get_or numeral 0 0 ≡ 45 → ⊥) × (without_leading_sign numeral ≡ numeral)).
-    omega (arith, ap (λ (ds : List ℕ). length ds) s.2, l))
-    (sign_or_none numeral)
 
 -- ---- as integers of the code
 

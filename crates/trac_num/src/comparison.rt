@@ -1,6 +1,5 @@
 //! Comparison of numerals of any length.
-ghost use Rattle.std.specs.Prelude.{◌≡◌, nat_lt, true};
-ghost use Rattle.std.specs.Str.{all_ascii_digits};
+ghost use Rattle.std.specs.Prelude.{◌≡◌, nat_lt};
 ghost use Rattle.std.specs.Str.Parse.{digits_value, starts_with_minus, without_leading_sign};
 ghost use Rattle.trac_num.specs.Magnitude.{IsMagnitude, IsMagnitudeOf};
 ghost use Rattle.trac_rules.specs.Number.{IsNumeralOrNull, is_greater};
@@ -19,12 +18,12 @@ pub(crate) fn unsigned(numeral: &[u8]) -> &[u8]
     numeral
 }
 
-// The digits from the first one on that is not `0`.
-fn without_zeros(digits: &[u8]) -> &[u8]
-    requires { all_ascii_digits digits.now ≡ true }
-    ensures form { IsMagnitude result.now }
-    ensures value { digits_value 10 result.now ≡ digits_value 10 digits.now }
+// The digits of a numeral without its sign and its leading zeros: empty for 0.
+fn magnitude(numeral: &[u8]) -> &[u8]
+    requires { IsNumeralOrNull numeral.now }
+    ensures { IsMagnitudeOf numeral.now result.now }
 {
+    let digits = unsigned(numeral);
     let mut place = 0;
     while place < digits.len() {
         let first = digits[place];
@@ -34,14 +33,6 @@ fn without_zeros(digits: &[u8]) -> &[u8]
         place += 1;
     }
     digits.split_at(place).1
-}
-
-// The digits of a numeral without its sign and its leading zeros: empty for 0.
-fn magnitude(numeral: &[u8]) -> &[u8]
-    requires { IsNumeralOrNull numeral.now }
-    ensures { IsMagnitudeOf numeral.now result.now }
-{
-    without_zeros(unsigned(numeral))
 }
 
 // Whether a minus stands first.

@@ -1,7 +1,5 @@
 //! The numeral at the end of a text.
-ghost use Rattle.std.specs.Prelude.{◌≡◌, ◌-◌, ◌<◌, ◌≤◌, length, drop, slice_index, true, false};
-ghost use Rattle.std.specs.Char.{is_ascii_digit};
-ghost use Rattle.std.specs.Str.{all_ascii_digits};
+ghost use Rattle.std.specs.Prelude.{◌≡◌, ◌≤◌, length, drop};
 ghost use Rattle.trac_rules.specs.Number.{IsNumeralOrNull, numeral_of, prefix_of};
 
 /// A text, cut before its numeral.
@@ -13,29 +11,15 @@ pub struct Tail<'a> {
     pub numeral: &'a [u8],
 }
 
-// Where the digits at the end begin.
-fn digits_place(text: &[u8]) -> usize
-    ensures within { result ≤ length text.now }
-    ensures digits { all_ascii_digits (drop result text.now) ≡ true }
-    ensures before { 0 < result → is_ascii_digit (slice_index text.now (result - 1)) ≡ false }
-{
-    let mut place = text.len();
-    while place > 0 {
-        let before = text[place - 1];
-        if !before.is_ascii_digit() {
-            return place;
-        }
-        place -= 1;
-    }
-    0
-}
-
 // Where the numeral begins: at the digits of the end, or at the sign before them.
 fn numeral_place(text: &[u8]) -> usize
     ensures within { result ≤ length text.now }
     ensures numeral { drop result text.now ≡ numeral_of text.now }
 {
-    let digits = digits_place(text);
+    let mut digits = text.len();
+    while digits > 0 && text[digits - 1].is_ascii_digit() {
+        digits -= 1;
+    }
     if digits == 0 || digits == text.len() {
         return digits;
     }

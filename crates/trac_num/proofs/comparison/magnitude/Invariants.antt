@@ -1,6 +1,6 @@
 use Rattle.std.proofs.Common.{◌≡◌, ◌≤◌, ◌-◌, length, drop}
 use Rattle.std.specs.Str.Parse.{digits_value}
-use Rattle.trac_num.proofs.comparison.without_zeros.Given as goal
+use Rattle.trac_num.proofs.comparison.magnitude.Given as goal
 
 -- the digits from the place on write the same number
 abbrev pub invariant-loop-place : goal.invariant-loop-place
