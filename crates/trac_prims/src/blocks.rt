@@ -1,16 +1,16 @@
 //! Calls that put forms aside in a block, bring copies of them back, or erase a block.
-ghost use Rattle.std.specs.Prelude.{◌≡◌, ◌<◌, ◌≤◌, ◌^◌, ◌++◌, ◌∷◌, [], bytes_eq, decimal, length, nat_le, option_map};
-ghost use Rattle.std.specs.Prelude.{option_to_list, List, ℕ, IfOk, IsOkUnless, OnOk};
+ghost use Rattle.std.specs.Prelude.{◌≡◌, ◌<◌, ◌≤◌, ◌^◌, bytes_eq, decimal, length, nat_le, option_map};
+ghost use Rattle.std.specs.Prelude.{List, ℕ, IfOk, IsOkUnless, OnOk};
 ghost use Rattle.std.specs.List.{list_any};
 ghost use Rattle.std.specs.FinMap as finite;
-ghost use Rattle.trac_forms.specs.Stored.{AreApart, storage_in};
+ghost use Rattle.trac_forms.specs.Stored.{storage_in};
 ghost use Rattle.trac_rules.specs.Blocks.{block_handled, moved_out, named_block_number, number_addressed, with_all};
 ghost use Rattle.trac_rules.specs.Form.{Form as Divided, all_items, defined};
 ghost use Rattle.trac_rules.specs.Handling.{without};
 ghost use Rattle.trac_rules.specs.Limits.{may_be_put};
 ghost use Rattle.trac_rules.specs.Pieces.{bytes_in};
 ghost use Rattle.trac_rules.specs.declared.primitive.BlockAction.TheVariants.{EraseBlock, FetchBlock, StoreBlock};
-ghost use Rattle.trac_prims.specs.Blocks.{IsBlock, count_further};
+ghost use Rattle.trac_prims.specs.Blocks.{IsBlock};
 ghost use Rattle.trac_rules.specs.declared.primitive.Primitive.TheVariants.{HandleBlock};
 ghost use Rattle.trac_change.specs.declared.change.Change.TheVariants.{Keep};
 ghost use Rattle.trac_change.specs.Changes.{IsChangeOf};
@@ -29,9 +29,6 @@ use trac_rules::limit::{BLOCK_LIMIT, FORM_COUNT_LIMIT, NAME_LIMIT};
 use trac_rules::refusal::Refusal;
 use trac_rules::width::Width;
 use trac_text::Args;
-
-/// A form with its name.
-type Named<A> = (Vec<u8, A>, Form<A>);
 
 // `sb`: forms are moved into a new block, and a form becomes its number.
 pub(crate) fn store_block<A: Allocator + Copy>(
@@ -120,32 +117,11 @@ fn leaving<A: Allocator + Copy>(
     let mut held = Vec::new(alloc);
     for i in 0..names.count() {
         let name = names.get(i);
-        add_leaving(alloc, store, name, &mut held)?;
+        if store.get(name).is_some() && !stands_among(held.as_slice(), name) {
+            held.push(Vec::from_slice(alloc, name)?)?;
+        }
     }
     Ok(held)
-}
-
-// Adds a name to those of the forms that leave, if it has a form and is none of them yet.
-fn add_leaving<A: Allocator + Copy>(
-    alloc: A,
-    store: &Store<A>,
-    name: &[u8],
-    held: &mut Vec<Vec<u8, A>, A>,
-) -> Result<(), Refusal>
-    ensures added { OnOk result
-        ((names : List (List ℕ)) → texts_of held.old.items ≡ names_in (moved_out names store.now.forms) →
-        texts_of held.new.items ≡ names_in (moved_out (names ++ name.now ∷ []) store.now.forms)) }
-    ensures err { IsOkUnless result Refusal.Memory }
-{
-    if store.get(name).is_none() {
-        return Ok(());
-    }
-    if stands_among(held.as_slice(), name) {
-        return Ok(());
-    }
-    let text = Vec::from_slice(alloc, name)?;
-    held.push(text)?;
-    Ok(())
 }
 
 // Whether a name stands among others.
@@ -179,19 +155,9 @@ fn address_of<A: Allocator + Copy>(alloc: A, number: usize) -> Result<Form<A>, R
     ensures made { IfOk result (λ form. form ≡ defined (decimal number)) }
     ensures err { IsOkUnless result Refusal.Memory }
 {
-    let text = decimal_of(alloc, number)?;
-    Ok(Form::new(alloc, text.as_slice())?)
-}
-
-// The number of a block in decimal.
-fn decimal_of<A: Allocator + Copy>(alloc: A, number: usize) -> Result<Vec<u8, A>, Refusal>
-    requires { number < BLOCK_LIMIT }
-    ensures made { IfOk result (λ text. text.items ≡ decimal number) }
-    ensures err { IsOkUnless result Refusal.Memory }
-{
     let mut text = Vec::new(alloc);
     print_into(number as i128, &mut text)?;
-    Ok(text)
+    Ok(Form::new(alloc, text.as_slice())?)
 }
 
 // ---- the block that a form names
@@ -220,21 +186,13 @@ fn bytes_of<A: Allocator + Copy>(alloc: A, form: &Form<A>) -> Result<Vec<u8, A>,
 {
     let mut text = Vec::new(alloc);
     for i in 0..form.len() {
-        add_byte(form.item(i), &mut text)?;
+        match form.item(i) {
+            Some(Item::Byte(b)) => text.push(b)?,
+            Some(Item::Gap { .. }) => {}
+            None => {}
+        }
     }
     Ok(text)
-}
-
-// Adds the byte of an item, if there is one, to the end of a text; a gap adds nothing.
-fn add_byte<A: Allocator + Copy>(item: Option<Item>, text: &mut Vec<u8, A>) -> Result<(), Refusal>
-    ensures added { OnOk result (text.new.items ≡ text.old.items ++ bytes_in (option_to_list item)) }
-    ensures err { IsOkUnless result Refusal.Memory }
-{
-    match item {
-        Some(Item::Byte(b)) => Ok(text.push(b)?),
-        Some(Item::Gap { .. }) => Ok(()),
-        None => Ok(()),
-    }
 }
 
 // The live block whose number in decimal is this text, if there is one, and that number.
@@ -273,29 +231,23 @@ fn addressed<'a, A: Allocator + Copy>(
 fn may_come_back<A: Allocator + Copy>(store: &Store<A>, block: &Block<A>) -> bool
     ensures { result ≡ nat_le (finite.len (with_all block.now.held store.now.forms)) FORM_COUNT_LIMIT }
 {
-    let more = further(store, block);
+    let mut more = 0;
+    for i in 0..block.len() {
+        if let Some((name, _form)) = block.get(i) {
+            if store.get(name).is_none() {
+                more += 1;
+            }
+        }
+    }
     let count = store.form_count();
     count <= FORM_COUNT_LIMIT && more <= FORM_COUNT_LIMIT - count
 }
 
-// How many names of a block have no form; none stands twice in it.
-fn further<A: Allocator + Copy>(store: &Store<A>, block: &Block<A>) -> usize
-    ensures count { result ≡ count_further block.now.held store.now.forms }
-    ensures distinct { AreApart block.now.held }
-{
-    let mut further = 0;
-    for i in 0..block.len() {
-        if let Some((name, _form)) = block.get(i) {
-            if store.get(name).is_none() {
-                further += 1;
-            }
-        }
-    }
-    further
-}
-
 // The forms of a block with their names, with memory of their own.
-fn copies_of<A: Allocator + Copy>(alloc: A, block: &Block<A>) -> Result<Vec<Named<A>, A>, Refusal>
+fn copies_of<A: Allocator + Copy>(
+    alloc: A,
+    block: &Block<A>,
+) -> Result<Vec<(Vec<u8, A>, Form<A>), A>, Refusal>
     ensures made { IfOk result (λ copies. named_forms copies.items ≡ block.now.held) }
     ensures err { IsOkUnless result Refusal.Memory }
 {
@@ -304,19 +256,9 @@ fn copies_of<A: Allocator + Copy>(alloc: A, block: &Block<A>) -> Result<Vec<Name
         let Some((name, form)) = block.get(i) else {
             return Ok(copies);
         };
-        let copy = copy_of(alloc, name, form)?;
-        copies.push(copy)?;
+        let name = Vec::from_slice(alloc, name)?;
+        let form = form.copy()?;
+        copies.push((name, form))?;
     }
     Ok(copies)
-}
-
-// A form with its name, with memory of their own.
-fn copy_of<A: Allocator + Copy>(alloc: A, name: &[u8], form: &Form<A>) -> Result<Named<A>, Refusal>
-    ensures name { IfOk result (λ copy. copy.0.items ≡ name.now) }
-    ensures form { IfOk result (λ copy. copy.1 ≡ form.now) }
-    ensures err { IsOkUnless result Refusal.Memory }
-{
-    let name = Vec::from_slice(alloc, name)?;
-    let form = form.copy()?;
-    Ok((name, form))
 }

@@ -1,17 +1,20 @@
 //! Calls whose value is made of their arguments alone: decisions, numbers and bit strings.
-ghost use Rattle.std.specs.Prelude.{◌≡◌, ◌++◌, List, ℕ, Ok, IfOk, IsOkUnless, OnOk};
+ghost use Rattle.std.specs.Prelude.{◌≡◌, ◌++◌, List, ℕ, Ok, IfOk, IsOkUnless, OnOk, cond};
 ghost use Rattle.trac_rules.specs.Computing.{chosen, computed, number_argument, result_of};
 ghost use Rattle.trac_rules.specs.Effect.{argument, gives};
-ghost use Rattle.trac_rules.specs.Number.{is_greater, numeral_of, on_both};
+ghost use Rattle.trac_rules.specs.Number.{on_both};
+ghost use Rattle.trac_rules.specs.Octal.{IsOctal, octal_tail};
 ghost use Rattle.trac_rules.specs.State.{Storage};
-ghost use Rattle.trac_rules.specs.declared.primitive.Computation.TheVariants.{Calculate};
+ghost use Rattle.trac_rules.specs.declared.primitive.Computation.TheVariants.{Calculate, Rotate, Shift};
 ghost use Rattle.trac_change.specs.declared.change.Change.TheVariants.{Keep};
 ghost use Rattle.trac_prims.specs.Effects.{IsDone};
 
-use crate::bits::{complement_of, meet_of, moved_of, union_of};
 use crate::effect::{Deed, Made, NOTHING};
 use std::alloc::Allocator;
-use trac_num::{add, div, greater, mul, print_into, read_tail, sub, value};
+use trac_num::{
+    add, complement, div, greater, meet, mul, octal_tail, print_into, read_tail, rotate, shift,
+    sub, union, value,
+};
 use trac_rules::primitive::{Computation, Operation};
 use trac_rules::refusal::Refusal;
 use trac_rules::width::Width;
@@ -30,11 +33,21 @@ pub(crate) fn compute<A: Allocator + Copy>(
 {
     match computation {
         Computation::Equal => give(choose(args.get(1) == args.get(2), args), made),
-        Computation::Greater => give(choose(has_greater(args), args), made),
+        Computation::Greater => {
+            let first = read_tail(args.get(1)).numeral;
+            let second = read_tail(args.get(2)).numeral;
+            give(choose(greater(first, second), args), made)
+        }
         Computation::Calculate(operation) => calculate(operation, args, width, made),
-        Computation::Union => give(union_of(alloc, args)?.as_slice(), made),
-        Computation::Meet => give(meet_of(alloc, args)?.as_slice(), made),
-        Computation::Complement => give(complement_of(alloc, args)?.as_slice(), made),
+        Computation::Union => give(
+            union(alloc, octal_at(args, 1), octal_at(args, 2))?.as_slice(),
+            made,
+        ),
+        Computation::Meet => give(
+            meet(alloc, octal_at(args, 1), octal_at(args, 2))?.as_slice(),
+            made,
+        ),
+        Computation::Complement => give(complement(alloc, octal_at(args, 1))?.as_slice(), made),
         Computation::Shift => give(moved_of(alloc, false, args, width)?.as_slice(), made),
         Computation::Rotate => give(moved_of(alloc, true, args, width)?.as_slice(), made),
     }
@@ -64,16 +77,6 @@ fn choose<'a>(first: bool, args: &Args<'a>) -> &'a [u8]
     ensures { result.now ≡ chosen first args.now }
 {
     if first { args.get(3) } else { args.get(4) }
-}
-
-// Whether the number of the first argument after the name is greater than that of the second, however long they are.
-fn has_greater(args: &Args<'_>) -> bool
-    ensures { result ≡ is_greater (numeral_of (argument 1 args.now)) (numeral_of (argument 2 args.now)) }
-{
-    greater(
-        read_tail(args.get(1)).numeral,
-        read_tail(args.get(2)).numeral,
-    )
 }
 
 // ---- numbers
@@ -118,21 +121,40 @@ pub fn result_on(operation: Operation, args: &Args<'_>, width: Width) -> Option<
     ensures { result
         ≡ on_both (result_of operation width) (number_argument width 1 args.now) (number_argument width 2 args.now) }
 {
-    operate(
-        operation,
-        number_at(args, 1, width)?,
-        number_at(args, 2, width)?,
-        width,
-    )
-}
-
-fn operate(operation: Operation, a: i128, b: i128, width: Width) -> Option<i128>
-    ensures { result ≡ result_of operation width a b }
-{
+    let a = number_at(args, 1, width)?;
+    let b = number_at(args, 2, width)?;
     match operation {
         Operation::Add => add(a, b, width),
         Operation::Subtract => sub(a, b, width),
         Operation::Multiply => mul(a, b, width),
         Operation::Divide => div(a, b, width),
     }
+}
+
+// ---- bit strings
+
+// `bs` and `br`: an octal string with its bits moved, or else rotated; empty if the number does not fit.
+fn moved_of<A: Allocator + Copy>(
+    alloc: A,
+    rotates: bool,
+    args: &Args<'_>,
+    width: Width,
+) -> Result<Vec<u8, A>, Refusal>
+    ensures made { IfOk result (λ text. (storage : Storage) →
+        computed (cond rotates Rotate Shift) width args.now storage ≡ gives text.items storage) }
+    ensures err { IsOkUnless result Refusal.Memory }
+{
+    match number_at(args, 1, width) {
+        Some(by) if rotates => Ok(rotate(alloc, by, octal_at(args, 2))?),
+        Some(by) => Ok(shift(alloc, by, octal_at(args, 2))?),
+        None => Ok(Vec::new(alloc)),
+    }
+}
+
+// The octal string at the end of an argument.
+fn octal_at<'a>(args: &Args<'a>, k: usize) -> &'a [u8]
+    ensures value { result.now ≡ octal_tail (argument k args.now) }
+    ensures octal { IsOctal result.now }
+{
+    octal_tail(args.get(k))
 }

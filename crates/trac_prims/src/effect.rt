@@ -1,7 +1,5 @@
 //! What a call will do, and what it has to know for that.
-ghost use Rattle.std.specs.Prelude.{◌≡◌, ◌+◌, ◌<◌, ◌^◌, [], List, ℕ};
-ghost use Rattle.trac_rules.specs.State.{Storage};
-ghost use Rattle.trac_prims.specs.Effects.{done_on, planned_from, planned_on};
+ghost use Rattle.std.specs.Prelude.{◌≡◌, []};
 
 use std::alloc::{Allocator, Global};
 use trac_change::Change;
@@ -86,31 +84,3 @@ pub(crate) const NOTHING: Deed = Deed {
     meta: None,
     trace: None,
 };
-
-impl Deed {
-    // What a call will do, from the texts and the change that it made, and from what is so now.
-    pub(crate) fn complete<A: Allocator + Copy>(
-        self,
-        made: Made<A>,
-        change: Change<A>,
-        now: Now,
-    ) -> Effect<A>
-        requires { now.position + self.read < 2 ^ 64 }
-        ensures effect { (arguments : List (List ℕ)) (storage : Storage) →
-            planned_on arguments storage result ≡ planned_from now (done_on arguments storage made change self) }
-        ensures value { result.value ≡ made.value }
-        ensures print { result.print ≡ made.print }
-        ensures position { result.position ≡ now.position + self.read }
-        ensures change { result.change ≡ change }
-    {
-        Effect {
-            value: made.value,
-            forced: self.forced,
-            print: made.print,
-            position: now.position + self.read,
-            meta: self.meta.unwrap_or(now.meta),
-            trace: self.trace.unwrap_or(now.trace),
-            change,
-        }
-    }
-}

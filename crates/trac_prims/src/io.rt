@@ -1,5 +1,5 @@
 //! Input and output.
-ghost use Rattle.std.specs.Prelude.{◌≡◌, ◌==◌, ◌+◌, ◌<◌, ◌≤◌, List, ℕ, length, drop, position, IfOk, IfSome, Ok};
+ghost use Rattle.std.specs.Prelude.{◌≡◌, ◌+◌, ◌≤◌, List, ℕ, length, drop, IfOk, Ok};
 ghost use Rattle.trac_rules.specs.Effect.{argument, prints, reads};
 ghost use Rattle.trac_rules.specs.Reading.{byte_read, string_read};
 ghost use Rattle.trac_rules.specs.State.{Storage};
@@ -38,7 +38,7 @@ pub(crate) fn read_string<A: Allocator + Copy>(
     ensures within { IfOk result (λ d. place + d.read ≤ length tape.entry.bytes.now) }
 {
     let unread = tape.bytes.split_at(place).1;
-    if let Some(k) = first_of(meta, unread) {
+    if let Some(k) = memchr(meta, unread) {
         return take(unread.split_at(k).0, k + 1, made);
     }
     if !tape.ended {
@@ -80,12 +80,4 @@ fn take<A: Allocator + Copy>(text: &[u8], read: usize, made: &mut Made<A>) -> Re
 {
     made.value.extend_from_slice(text)?;
     Ok(Deed { read, ..NOTHING })
-}
-
-// The first place of a byte.
-fn first_of(wanted: u8, bytes: &[u8]) -> Option<usize>
-    ensures place { result ≡ position (λ b. b == wanted) bytes.now }
-    ensures within { IfSome result (λ k. k < length bytes.now) }
-{
-    memchr(wanted, bytes)
 }

@@ -2,7 +2,6 @@
 //! what takes memory and what else T-64 does not name are this project's profile.
 #![tactic(auto)]
 
-mod bits;
 mod blocks;
 mod computing;
 pub mod effect;

@@ -1,8 +1,6 @@
 //! The names of the primitives.
-ghost use Rattle.std.specs.Prelude.{◌≡◌, find};
-ghost use Rattle.std.specs.Str.{bytes_eq};
-ghost use Rattle.trac_rules.specs.Performing.{named_primitive, primitive_of};
-ghost use Rattle.trac_rules.specs.declared.primitive.TheConstants.{NAMES};
+ghost use Rattle.std.specs.Prelude.{◌≡◌};
+ghost use Rattle.trac_rules.specs.Performing.{primitive_of};
 
 use trac_rules::primitive::{NAMES, Primitive};
 
@@ -26,18 +24,13 @@ pub fn primitive_named(name: &[u8]) -> Primitive
     let [first, second] = name else {
         return Primitive::Unknown;
     };
-    named_by(&[first.to_ascii_lowercase(), second.to_ascii_lowercase()])
-}
-
-// What two letters in lower case stand for by the table of names: only the entry at their slot can be theirs.
-fn named_by(letters: &[u8; 2]) -> Primitive
-    ensures { result ≡ named_primitive (find (λ entry. bytes_eq letters.now entry.letters) NAMES) }
-{
+    let letters = [first.to_ascii_lowercase(), second.to_ascii_lowercase()];
+    // Only the entry at their slot can be theirs.
     let slot = (usize::from(letters[0]) * 30 + usize::from(letters[1])) % SLOT_COUNT;
     let Some(entry) = NAMES.get(usize::from(PLACES[slot])) else {
         return Primitive::Unknown;
     };
-    if entry.letters == *letters {
+    if entry.letters == letters {
         entry.primitive
     } else {
         Primitive::Unknown

@@ -1,5 +1,5 @@
 //! Planning a call.
-ghost use Rattle.std.specs.Prelude.{◌≡◌, ◌+◌, ◌≤◌, length, ◌↔◌, IfOk, IsTrue, OnOk};
+ghost use Rattle.std.specs.Prelude.{◌≡◌, ◌+◌, ◌≤◌, length, IfOk, OnOk};
 ghost use Rattle.trac_forms.specs.Stored.{storage_in};
 ghost use Rattle.trac_rules.specs.Blocks.{block_handled};
 ghost use Rattle.trac_rules.specs.Handling.{handled};
@@ -67,7 +67,15 @@ pub fn plan<A: Allocator + Copy>(
     let mut made = Made::new(alloc);
     let mut change = Change::Keep;
     let deed = plan_into(alloc, args, kind, store, tape, now, &mut made, &mut change)?;
-    Ok(deed.complete(made, change, now))
+    Ok(Effect {
+        value: made.value,
+        forced: deed.forced,
+        print: made.print,
+        position: now.position + deed.read,
+        meta: deed.meta.unwrap_or(now.meta),
+        trace: deed.trace.unwrap_or(now.trace),
+        change,
+    })
 }
 
 /// What `plan` says, its value and what it prints being made in buffers. What the buffers held before is gone, and they
@@ -111,19 +119,10 @@ pub fn plan_into<A: Allocator + Copy>(
     )?;
     // A call that is refused anyway needs no line: so its own refusal comes first.
     line?;
-    if !has_place(now, made) {
+    if made.value.len() > TEXT_LIMIT - now.text || made.print.len() > OUTPUT_LIMIT - now.output {
         return Err(Refusal::TooLong);
     }
     Ok(deed)
-}
-
-// Whether there is place within the limits for the texts that a call made.
-fn has_place<A: Allocator + Copy>(now: Now, made: &Made<A>) -> bool
-    requires text { now.text ≤ TEXT_LIMIT }
-    requires output { now.output ≤ OUTPUT_LIMIT }
-    ensures { IsTrue result ↔ HasPlace now made.now.value.items made.now.print.items }
-{
-    made.value.len() <= TEXT_LIMIT - now.text && made.print.len() <= OUTPUT_LIMIT - now.output
 }
 
 // What a primitive does. What it makes is added to the ends of the texts that were made before.

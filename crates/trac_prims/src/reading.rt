@@ -1,13 +1,10 @@
 //! Calls that read a form at its pointer.
-ghost use Rattle.std.specs.Prelude.{◌≡◌, List, ℕ, Ok, Some, option_map, IfOk, IfSome, IsOkUnless, OnOk};
-ghost use Rattle.std.specs.FinMap as finite;
+ghost use Rattle.std.specs.Prelude.{◌≡◌, List, ℕ, option_map, IfOk, IfSome, IsOkUnless, OnOk};
 ghost use Rattle.trac_forms.specs.Taken.{IsThere, taken};
 ghost use Rattle.trac_forms.specs.Stored.{storage_in};
-ghost use Rattle.trac_rules.specs.Effect.{argument, forces};
-ghost use Rattle.trac_rules.specs.Handling.{default_argument, gives_piece, handled, piece_read};
-ghost use Rattle.trac_rules.specs.State.{Storage};
+ghost use Rattle.trac_rules.specs.Effect.{argument};
+ghost use Rattle.trac_rules.specs.Handling.{default_argument, handled, piece_read};
 ghost use Rattle.trac_rules.specs.declared.primitive.FormAction.TheVariants.{Read};
-ghost use Rattle.trac_rules.specs.declared.primitive.FormReading.{FormReading};
 ghost use Rattle.trac_rules.specs.declared.primitive.Primitive.TheVariants.{Handle};
 ghost use Rattle.trac_change.specs.declared.change.Change.TheVariants.{Keep};
 ghost use Rattle.trac_change.specs.Changes.{IsChangeOf};
@@ -43,17 +40,22 @@ pub(crate) fn read<A: Allocator + Copy>(
     let Some(form) = store.get(name) else {
         return Ok(NOTHING);
     };
-    match piece_of(reading, args, form, width)? {
-        Some(piece) => give_piece(alloc, name, form, &piece, made, change),
-        None => force(
-            alloc,
-            name,
-            form,
-            args.get(default_place(reading)),
-            made,
-            change,
-        ),
-    }
+    let Some(piece) = piece_of(reading, args, form, width)? else {
+        let other = args.get(default_place(reading));
+        made.value.extend_from_slice(other)?;
+        let name = Vec::from_slice(alloc, name)?;
+        *change = Change::Point(name, form.pointer());
+        return Ok(Deed {
+            forced: true,
+            ..NOTHING
+        });
+    };
+    // The value is made first: the pointer moves when the call is carried out.
+    made.value.reserve(piece.len)?;
+    form.piece_into(&piece, &mut made.value)?;
+    let name = Vec::from_slice(alloc, name)?;
+    *change = Change::Point(name, piece.pointer);
+    Ok(NOTHING)
 }
 
 // What is read of a form with these arguments; none in the case of the default argument.
@@ -84,54 +86,4 @@ fn default_place(reading: FormReading) -> usize
         FormReading::ReadSegment | FormReading::ReadChar => 2,
         FormReading::ReadCount | FormReading::ReadUntil => 3,
     }
-}
-
-// Gives a piece of the form of this name. Its value is made first: the pointer moves when the call is carried out.
-fn give_piece<A: Allocator + Copy>(
-    alloc: A,
-    name: &[u8],
-    form: &Form<A>,
-    piece: &Piece,
-    made: &mut Made<A>,
-    change: &mut Change<A>,
-) -> Result<Deed, Refusal>
-    requires { IsThere form.now piece.now }
-    ensures outcome { (other : List ℕ) (arguments : List (List ℕ)) (storage : Storage) →
-        finite.get storage.forms name.now ≡ Some form.now →
-        IsDone arguments storage (Ok (gives_piece (Some (taken piece.now form.now)) other name.now form.now storage))
-        made.old made.new change.new result }
-    ensures change { (reading : FormReading) (arguments : List (List ℕ)) (storage : Storage) →
-        name.now ≡ argument 1 arguments →
-        OnOk result (IsChangeOf (Handle (Read reading)) arguments storage change.new) }
-{
-    made.value.reserve(piece.len)?;
-    form.piece_into(piece, &mut made.value)?;
-    let name = Vec::from_slice(alloc, name)?;
-    *change = Change::Point(name, piece.pointer);
-    Ok(NOTHING)
-}
-
-// Gives a text, forced; the pointer of the form of this name stays.
-fn force<A: Allocator + Copy>(
-    alloc: A,
-    name: &[u8],
-    form: &Form<A>,
-    text: &[u8],
-    made: &mut Made<A>,
-    change: &mut Change<A>,
-) -> Result<Deed, Refusal>
-    ensures outcome { (arguments : List (List ℕ)) (storage : Storage) →
-        finite.get storage.forms name.now ≡ Some form.now →
-        IsDone arguments storage (Ok (forces text.now storage)) made.old made.new change.new result }
-    ensures change { (reading : FormReading) (arguments : List (List ℕ)) (storage : Storage) →
-        name.now ≡ argument 1 arguments →
-        OnOk result (IsChangeOf (Handle (Read reading)) arguments storage change.new) }
-{
-    made.value.extend_from_slice(text)?;
-    let name = Vec::from_slice(alloc, name)?;
-    *change = Change::Point(name, form.pointer());
-    Ok(Deed {
-        forced: true,
-        ..NOTHING
-    })
 }

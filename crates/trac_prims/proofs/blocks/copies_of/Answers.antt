@@ -8,5 +8,5 @@ returns-in_default-clause-made g c = absurd (omega (arith, c.in_default.ensures,
 pub loop-i-preserved : goal.loop-i-preserved
 loop-i-preserved g c =
     let within : c.loop-i.i < length c.args.block.now.held = omega (arith, c.loop-i-test.true, c.len-i-end.ensures.len) in
-    copy_added c.loop-i.copies.items c.push.new.self.items c.args.block.now.held c.loop-i.i c.in_ok-copy.copy.0 c.in_ok-copy.copy.1 c.in-Some.name.now c.in-Some.form.now within
-    c.in-Some.ensures c.loop-i.invariant c.in_ok-push.ensures.items c.in_ok-copy.ensures.name c.in_ok-copy.ensures.form
+    copy_added c.loop-i.copies.items c.push.new.self.items c.args.block.now.held c.loop-i.i c.in_ok-name.name c.in_ok-form.form c.in-Some.name.now c.in-Some.form.now within
+    c.in-Some.ensures c.loop-i.invariant c.in_ok-push.ensures.items c.in_ok-name.ensures.items c.in_ok-form.ensures.same

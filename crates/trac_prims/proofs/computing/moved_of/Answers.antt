@@ -5,7 +5,7 @@ use Rattle.trac_rules.specs.declared.primitive.Computation.TheVariants.{Rotate, 
 use Rattle.trac_rules.specs.Computing.{computed}
 use Rattle.trac_rules.specs.Octal.{rotate, shift}
 use Rattle.trac_prims.proofs.OctalCalls.{gives_moved}
-use Rattle.trac_prims.proofs.bits.moved_of.Goals as goal
+use Rattle.trac_prims.proofs.computing.moved_of.Goals as goal
 
 pub returns-in_ok-rotate-in-Some-clause-made : goal.returns-in_ok-rotate-in-Some-clause-made
 returns-in_ok-rotate-in-Some-clause-made g c = λ storage.
