@@ -144,12 +144,16 @@ pub(crate) fn list_names<A: Allocator + Copy>(
         (handled ListNames width args.now (storage_in store.now)) made.old made.new Keep result }
 {
     let text = args.get(1);
-    let names = store.names()?;
-    let Some(len) = list_len(text, names.as_slice()) else {
+    let found = store.names()?;
+    let names = found.as_slice();
+    let Some(len) = list_len(text, names) else {
         return Err(Refusal::TooLong);
     };
     made.value.reserve(len)?;
-    list_into(text, names.as_slice(), &mut made.value)?;
+    for name in names {
+        made.value.extend_from_slice(text)?;
+        made.value.extend_from_slice(name)?;
+    }
     Ok(NOTHING)
 }
 
@@ -234,20 +238,4 @@ fn list_len(text: &[u8], names: &[&[u8]]) -> Option<usize>
         total += len;
     }
     Some(total)
-}
-
-// Puts the names at the end of `out`, each with a text before it.
-fn list_into<A: Allocator + Copy>(
-    text: &[u8],
-    names: &[&[u8]],
-    out: &mut Vec<u8, A>,
-) -> Result<(), Refusal>
-    ensures ok { OnOk result (out.new.items ≡ out.old.items ++ flat_map (λ name. text.now ++ name.now) names.now) }
-    ensures err { IsOkUnless result Refusal.Memory }
-{
-    for name in names {
-        out.extend_from_slice(text)?;
-        out.extend_from_slice(name)?;
-    }
-    Ok(())
 }

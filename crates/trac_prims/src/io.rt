@@ -1,6 +1,6 @@
-//! Input and output.
+//! Calls that read the input.
 ghost use Rattle.std.specs.Prelude.{◌≡◌, ◌+◌, ◌≤◌, List, ℕ, length, drop, IfOk, Ok};
-ghost use Rattle.trac_rules.specs.Effect.{argument, prints, reads};
+ghost use Rattle.trac_rules.specs.Effect.{reads};
 ghost use Rattle.trac_rules.specs.Reading.{byte_read, string_read};
 ghost use Rattle.trac_rules.specs.State.{Storage};
 ghost use Rattle.trac_change.specs.declared.change.Change.TheVariants.{Keep};
@@ -11,19 +11,6 @@ use crate::tape::Tape;
 use memchr::memchr;
 use std::alloc::Allocator;
 use trac_rules::refusal::Refusal;
-use trac_text::Args;
-
-// `ps`: prints the argument after its name.
-pub(crate) fn print_string<A: Allocator + Copy>(
-    args: &Args<'_>,
-    made: &mut Made<A>,
-) -> Result<Deed, Refusal>
-    ensures { (storage : Storage) →
-        IsDone args.now storage (Ok (prints (argument 1 args.now) storage)) made.old made.new Keep result }
-{
-    made.print.extend_from_slice(args.get(1))?;
-    Ok(NOTHING)
-}
 
 // `rs`: the input from this place on, up to the first meta character, or all of it at its end.
 pub(crate) fn read_string<A: Allocator + Copy>(

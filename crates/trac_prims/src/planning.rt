@@ -21,7 +21,7 @@ use crate::blocks::{erase_block, fetch_block, store_block};
 use crate::computing::compute;
 use crate::effect::{Deed, Effect, Made, NOTHING, Now};
 use crate::forms::{call, define, delete, list_names, print_form, restore, segment};
-use crate::io::{print_string, read_byte, read_string};
+use crate::io::{read_byte, read_string};
 use crate::name::primitive_named;
 use crate::reading::read;
 use crate::tape::Tape;
@@ -145,7 +145,10 @@ fn perform<A: Allocator + Copy>(
     ensures change { OnOk result (IsChangeOf primitive args.now (storage_in store.now) change.new) }
 {
     match primitive {
-        Primitive::PrintString => print_string(args, made),
+        Primitive::PrintString => {
+            made.print.extend_from_slice(args.get(1))?;
+            Ok(NOTHING)
+        }
         Primitive::ReadString => read_string(tape, now.position, now.meta, made),
         Primitive::ReadByte => read_byte(tape, now.position, made),
         Primitive::Halt => Err(Refusal::Ended),

@@ -1,9 +1,9 @@
-use Rattle.std.proofs.Common.{ℕ, List, length, drop, refl, sym, ap, subst, arith, ◌∙◌}
+use Rattle.std.proofs.Common.{ℕ, ◌++◌, List, length, drop, refl, sym, ap, subst, ◌∙◌}
 use Rattle.std.specs.Prelude.{false, Ok, None, Some, [], slice_get}
-use Rattle.trac_rules.specs.declared.primitive.Primitive.TheVariants.{Compute, Handle, HandleBlock, PrintString, ReadByte, ReadString}
+use Rattle.trac_rules.specs.declared.primitive.Primitive.TheVariants.{Compute, Handle, HandleBlock, ReadByte, ReadString}
 use Rattle.trac_rules.specs.Blocks.{block_handled}
 use Rattle.trac_rules.specs.Computing.{computed}
-use Rattle.trac_rules.specs.Effect.{Effect, argument, leaves, prints, sets_trace}
+use Rattle.trac_rules.specs.Effect.{Effect, argument, leaves, sets_trace}
 use Rattle.trac_rules.specs.Handling.{handled}
 use Rattle.trac_rules.specs.Reading.{byte_read, string_read}
 use Rattle.trac_rules.specs.State.{initial, storage_of}
@@ -11,20 +11,15 @@ use Rattle.trac_rules.proofs.Steps.{effect_within}
 use Rattle.trac_forms.specs.Stored.{storage_in}
 use Rattle.trac_change.specs.declared.change.Change.TheVariants.{Keep}
 use Rattle.trac_prims.specs.Effects.{IsDone, nothing}
-use Rattle.trac_prims.proofs.Kept.{changed_so, keeps_so, left_so, meta_given}
+use Rattle.trac_prims.proofs.Kept.{changed_so, keeps_so, left_so, meta_given, printed}
 use Rattle.trac_prims.proofs.ReadCounts.{done_unread}
 use Rattle.trac_prims.proofs.planning.perform.Goals as goal
 
-pub returns-in-PrintString-clause-outcome : goal.returns-in-PrintString-clause-outcome
-returns-in-PrintString-clause-outcome g c = λ s known. rw (c.in-PrintString.is, c.requires.keeps) (c.print_string.ensures (storage_of s))
-
-pub returns-in-PrintString-clause-within : goal.returns-in-PrintString-clause-within
-returns-in-PrintString-clause-within g c =
-    done_unread c.args.args.now c.args.now.position (length c.args.tape.bytes.now) (storage_of initial) (Ok (prints (argument 1 c.args.args.now) (storage_of initial)))
-    c.args.made.now c.print_string.new.made Keep c.print_string.result (c.print_string.ensures (storage_of initial)) (omega arith) c.requires.position
-
-pub returns-in-PrintString-clause-change : goal.returns-in-PrintString-clause-change
-returns-in-PrintString-clause-change g c = rw c.in-PrintString.is (keeps_so PrintString c.args.args.now (storage_in c.args.store.now) c.args.change.now c.print_string.result refl c.requires.keeps)
+pub returns-in_ok-extend_from_slice-in-PrintString-clause-outcome : goal.returns-in_ok-extend_from_slice-in-PrintString-clause-outcome
+returns-in_ok-extend_from_slice-in-PrintString-clause-outcome g c = λ s known.
+    rw (c.in-PrintString.is, c.requires.keeps)
+    (printed c.args.args.now (storage_of s) c.args.made.now (record c.args.made.now { print = c.extend_from_slice.new.self }) (argument 1 c.args.args.now) nothing
+    refl (c.in_ok-extend_from_slice-in-PrintString.ensures.items ∙ ap (λ (text : List ℕ). c.args.made.now.print.items ++ text) c.get.ensures) refl)
 
 pub returns-in-ReadString-clause-outcome : goal.returns-in-ReadString-clause-outcome
 returns-in-ReadString-clause-outcome g c = λ s known.
@@ -48,7 +43,7 @@ returns-in-ReadByte-clause-change g c = rw c.in-ReadByte.is (keeps_so ReadByte c
 pub returns-in-SetMeta-clause-outcome : goal.returns-in-SetMeta-clause-outcome
 returns-in-SetMeta-clause-outcome g c = λ s known.
     let text = argument 1 c.args.args.now in
-    let first = c.copied.ensures ∙ c.first.ensures.value ∙ ap (λ (t : List ℕ). slice_get t 0) c.get.ensures in
+    let first = c.copied.ensures ∙ c.first.ensures.value ∙ ap (λ (t : List ℕ). slice_get t 0) c.get-in-SetMeta.ensures in
     rw (c.in-SetMeta.is, c.requires.keeps)
     (subst (λ (e : Effect). IsDone c.args.args.now (storage_of s) (Ok e) c.args.made.now c.args.made.now Keep (Ok (record nothing { meta = c.copied.result }))) (sym (meta_given text (storage_of s)))
     (left_so c.args.args.now (storage_of s) c.args.made.now (record (leaves (storage_of s)) { meta = slice_get text 0 }) Keep (record nothing { meta = c.copied.result }) refl refl refl
