@@ -1,5 +1,5 @@
 -- Lists from their ends.
-use Rattle.std.proofs.Common.{◌≡◌, ℕ, zero, suc, ◌+◌, ◌-◌, ◌<◌, ◌≤◌, List, [], ◌∷◌, ◌++◌, length, take, drop, get_or, map, add-one, drop-cons, refl, sym, ap, ◌∙◌, arith}
+use Rattle.std.proofs.Common.{◌≡◌, ℕ, zero, suc, ◌+◌, ◌-◌, ◌<◌, ◌≤◌, List, [], ◌∷◌, ◌++◌, length, take, drop, get_or, map, refl, sym, ap, ◌∙◌, arith}
 use Rattle.std.specs.Prelude.{reverse}
 use Rattle.std.proofs.lemmas.List.{drop-drop, drop_at, length-append, length-drop, length-take-le, nil_from_length, take-append-drop, take_at}
 use Rattle.trac_rules.specs.Records.{all_before_last, last_of}
@@ -65,7 +65,3 @@ before-last n xs few =
 -- where nothing stands before the last n there are n
 pub length-alone : (n : ℕ) (xs : List ℕ) → n ≤ length xs → all_before_last n xs ≡ [] → length xs ≡ n
 length-alone n xs few none = omega (arith, few, ap (λ (ys : List ℕ). length ys) none, length-take-le (length xs - n) xs (omega arith))
-
--- what stands at a place, and what stands after it
-pub next_of : {X : Type 0} → (xs : List X) (i : ℕ) (x : X) → i < length xs → x ≡ get_or xs i x → drop i xs ≡ x ∷ drop (i + 1) xs
-next_of {X} xs i x within is = rw add-one (drop-cons xs i x within ∙ ap (λ (first : X). first ∷ drop (suc i) xs) (sym is))

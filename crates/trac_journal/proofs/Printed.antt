@@ -54,11 +54,6 @@ oldest_printed kept.Idle own others all calls is view =
 oldest_printed k own others all calls is view =
     record { printed = refl; left = ap (λ (l : Listed). l.calls) (sym (brief_left own others all is.alone is.together)) ∙ view }
 
--- no entry has more than one call
-pub calls_few : (k : Kept) → calls_of k ≤ 1
-calls_few kept.Call = omega arith
-calls_few k = omega arith
-
 -- ---- all that are left out
 
 -- of so few that the oldest entry's own record stays

@@ -1,6 +1,6 @@
 //! Journals of which the oldest records are dropped.
 ghost use Rattle.std.specs.Prelude.{◌≡◌, ◌+◌, ◌-◌, ◌<◌, ◌≤◌, ◌^◌, drop, length, reverse, take};
-ghost use Rattle.trac_journal.specs.Dropped.{calls_of, printed_first};
+ghost use Rattle.trac_journal.specs.Dropped.{printed_first};
 ghost use Rattle.trac_journal.specs.Told.{printed_by, read_by, sum_by};
 
 use crate::entry::{Entry, Kept};
@@ -105,18 +105,10 @@ fn printed_by_first<A: Allocator + Copy>(
             return printed;
         }
         left -= moved + 1;
-        printed += lists.printed_by(entry.kept, at);
-        at += count_calls(entry.kept);
+        if let Kept::Call | Kept::Pointed(_) | Kept::Changed = entry.kept {
+            printed += lists.printed_at(at);
+            at += 1;
+        }
     }
     printed
-}
-
-// How many calls are an entry's own that keeps this.
-fn count_calls(kept: Kept) -> usize
-    ensures { result ≡ calls_of kept }
-{
-    match kept {
-        Kept::Call | Kept::Pointed(_) | Kept::Changed => 1,
-        Kept::Comma | Kept::Begun | Kept::Quoted { .. } | Kept::Deleted(_) | Kept::Idle => 0,
-    }
 }

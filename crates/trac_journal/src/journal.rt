@@ -4,7 +4,7 @@ ghost use Rattle.std.specs.Prelude.{MatchOption, OnErr, OnOk};
 ghost use Rattle.std.specs.List.{concat};
 ghost use Rattle.std.specs.VecDeque.{deque_capacity, deque_len};
 ghost use Rattle.trac_rules.specs.declared.limit.TheConstants.{JOURNAL_LIMIT};
-ghost use Rattle.trac_rules.specs.Records.{Called as CallOf, Idle, Moved, Record};
+ghost use Rattle.trac_rules.specs.Records.{Called as CallOf, Idle, Moved};
 ghost use Rattle.trac_rules.specs.Weights.{meta_weight, undone_weight, weight};
 ghost use Rattle.trac_journal.specs.Journaled.{HasPlaceForCall, HasPlaceForIdle, IsLight};
 ghost use Rattle.trac_journal.specs.Listed.{newest_in, nothing_listed, AreSmall, IsBrief};

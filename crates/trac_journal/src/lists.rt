@@ -1,16 +1,15 @@
 //! The lists of a journal, in which its records stand one after another.
-ghost use Rattle.std.specs.Prelude.{◌≡◌, ℕ, ◌+◌, ◌-◌, ◌<◌, ◌≤◌, ◌^◌, ◌++◌, List, [], ◌∷◌, length, drop, map, reverse};
+ghost use Rattle.std.specs.Prelude.{◌≡◌, ◌+◌, ◌-◌, ◌<◌, ◌≤◌, ◌^◌, ◌++◌, List, [], ◌∷◌, length, drop, map, reverse};
 ghost use Rattle.std.specs.Prelude.{IsOkUnless, OnOk};
 ghost use Rattle.std.specs.List.{concat};
 ghost use Rattle.std.specs.VecDeque.{deque_capacity, deque_len};
 ghost use Rattle.trac_rules.specs.Records.{Called as CallOf, Idle};
-ghost use Rattle.trac_rules.specs.State.{Frame};
 ghost use Rattle.trac_rules.specs.Undone as rules;
 ghost use Rattle.trac_rules.specs.Weights.{meta_weight, undone_weight, weight};
-ghost use Rattle.trac_journal.specs.Dropped.{printed_at, printed_in, without_oldest, EndsWithCall, IsGone, IsGoneCall};
+ghost use Rattle.trac_journal.specs.Dropped.{printed_at, without_oldest, EndsWithCall, IsGone, IsGoneCall};
 ghost use Rattle.trac_journal.specs.Dropped.{IsOldest};
 ghost use Rattle.trac_journal.specs.Journaled.{HasRoom};
-ghost use Rattle.trac_journal.specs.Listed.{call_of, called_in, first_undone, idle_of, newest_in, newest_undone};
+ghost use Rattle.trac_journal.specs.Listed.{call_of, called_in, idle_of, newest_in, newest_undone};
 ghost use Rattle.trac_journal.specs.Listed.{nothing_listed, older_undone, without_call, AreSmall, HasCall, HasMore};
 ghost use Rattle.trac_journal.specs.Listed.{Holds, IsBrief, IsKept, Listed};
 ghost use Rattle.trac_text.specs.Pieces.{all_texts, frames_in};
@@ -194,7 +193,12 @@ impl<A: Allocator + Copy> Lists<A> {
     {
         match kept {
             Kept::Pointed(place) => Undone::Point(place as usize),
-            Kept::Changed => self.pop_changed(),
+            Kept::Changed => {
+                let Some(undone) = self.undone.pop_back() else {
+                    unreachable!()
+                };
+                undone
+            }
             Kept::Comma
             | Kept::Begun
             | Kept::Quoted { .. }
@@ -202,18 +206,6 @@ impl<A: Allocator + Copy> Lists<A> {
             | Kept::Call
             | Kept::Idle => Undone::Nothing,
         }
-    }
-
-    // Takes out what was destroyed last of forms and blocks.
-    fn pop_changed(&mut self) -> Undone<A>
-        requires { 1 ≤ length self.old.listed.undone }
-        ensures others { self.new.listed ≡ record self.old.listed { undone = drop 1 self.old.listed.undone } }
-        ensures first { undone_in result ≡ first_undone self.old.listed.undone }
-    {
-        let Some(undone) = self.undone.pop_back() else {
-            unreachable!()
-        };
-        undone
     }
 
     // Takes out what was emptied last.
@@ -247,7 +239,12 @@ impl<A: Allocator + Copy> Lists<A> {
                 let weight = call.weight + undone;
                 Gone { weight, ..call }
             }
-            Kept::Idle => weighing(self.drop_emptied()),
+            Kept::Idle => {
+                let Some(emptied) = self.emptied.pop_front() else {
+                    unreachable!()
+                };
+                weighing(emptied.weight() as u64)
+            }
         }
     }
 
@@ -282,33 +279,8 @@ impl<A: Allocator + Copy> Lists<A> {
         undone.weight() as u64
     }
 
-    // Drops what was emptied first, and returns what it weighs.
-    fn drop_emptied(&mut self) -> u64
-        requires { (first : List ℕ × List Frame) × ((newer : List (List ℕ × List Frame))
-            × ((self.old.listed.emptied ≡ newer ++ first ∷ []) × (weight (Idle first.0 first.1) < 2 ^ 64))) }
-        ensures { (first : List ℕ × List Frame) (newer : List (List ℕ × List Frame)) →
-            self.old.listed.emptied ≡ newer ++ first ∷ [] →
-            (result ≡ weight (Idle first.0 first.1)) × (self.new.listed ≡ record self.old.listed { emptied = newer }) }
-    {
-        let Some(emptied) = self.emptied.pop_front() else {
-            unreachable!()
-        };
-        emptied.weight() as u64
-    }
-
-    // How much the step printed of whose record an entry keeps this. Its call, if it has one, stands at this place, the
-    // oldest at 0.
-    pub(crate) fn printed_by(&self, kept: Kept, at: usize) -> usize
-        ensures { result ≡ printed_in kept (drop at (reverse self.now.listed.calls)) }
-    {
-        match kept {
-            Kept::Call | Kept::Pointed(_) | Kept::Changed => self.printed_at(at),
-            Kept::Comma | Kept::Begun | Kept::Quoted { .. } | Kept::Deleted(_) | Kept::Idle => 0,
-        }
-    }
-
     // How much the call printed that stands at this place, the oldest at 0; nothing past the last.
-    fn printed_at(&self, at: usize) -> usize
+    pub(crate) fn printed_at(&self, at: usize) -> usize
         ensures { result ≡ printed_at (drop at (reverse self.now.listed.calls)) }
     {
         match self.calls.get(at) {
