@@ -54,7 +54,7 @@ pub fn change_forms<A: Allocator + Copy>(
         return Ok(set_pointer(store, name.as_slice(), *place));
     }
     match mem::replace(change, Change::Keep) {
-        Change::Put(name, form) => put_form(store, name.as_slice(), form),
+        Change::Put(name, form) => Ok(Undone::Swap(store.insert(name.as_slice(), form)?)),
         other => change_other(store, alloc, arguments, other),
     }
 }
@@ -94,25 +94,6 @@ fn change_other<A: Allocator + Copy>(
         Change::Bring { number, forms } => bring(store, alloc, number, forms),
         Change::Erase { number, name } => Ok(erase(store, number, name.as_slice())),
     }
-}
-
-// Puts a form under a name, in place of an earlier one. Returns what that destroyed, which is the earlier one.
-fn put_form<A: Allocator + Copy>(
-    store: &mut Store<A>,
-    name: &[u8],
-    form: Form<A>,
-) -> Result<Undone<A>, Refusal>
-    ensures put { OnOk result (store.new ≡ record store.old {
-      forms = finite.insert store.old.forms name.now form;
-      known = set.insert store.old.known name.now;
-    }) }
-    ensures undone { IfOk result (λ undone. undone_in undone ≡ Swap (finite.get store.old.forms name.now)) }
-    ensures unchanged { OnErr result (store.new ≡ store.old) }
-    ensures places { store.new.spare ≡ store.old.spare }
-    ensures again { IsTrue (set.contains store.old.known name.now) → IsOk result }
-    ensures err { IsOkUnless result Refusal.Memory }
-{
-    Ok(Undone::Swap(store.insert(name, form)?))
 }
 
 // Cuts the texts that the arguments give after the name out of the form of this name, if there is one:

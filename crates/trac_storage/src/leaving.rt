@@ -1,15 +1,14 @@
 //! Changes by which forms leave the store for a record: those that are deleted, and those that others replace.
-ghost use Rattle.std.specs.Prelude.{◌≡◌, ◌≤◌, [], length, map, vec_capacity, IfOk, IsOkUnless, OnErr, OnOk};
+ghost use Rattle.std.specs.Prelude.{◌≡◌, map, IfOk, IsOkUnless, OnErr, OnOk};
 ghost use Rattle.std.specs.FinMap as finite;
 ghost use Rattle.trac_rules.specs.Blocks.{moved_out, with_all};
 ghost use Rattle.trac_rules.specs.Handling.{keeping, without};
-ghost use Rattle.trac_rules.specs.Listing.{names_of};
 ghost use Rattle.trac_forms.specs.Stored.{AreApart, storage_in};
 ghost use Rattle.trac_change.specs.Changed.{named_forms};
 ghost use Rattle.trac_change.specs.Undone.{undone_in};
 ghost use Rattle.trac_text.specs.Framing.{texts_of};
 ghost use Rattle.trac_rules.specs.Undone.{Restore, Unbring, names_in};
-ghost use Rattle.trac_storage.specs.Changing.{KnowsNamed, KnowsSome, knowing};
+ghost use Rattle.trac_storage.specs.Changing.{KnowsSome, knowing};
 
 use crate::blocking::{Named, know_each};
 use std::alloc::Allocator;
@@ -33,8 +32,13 @@ pub(crate) fn delete_each<A: Allocator + Copy>(
     ensures places { store.new.spare ≡ store.old.spare }
     ensures err { IsOkUnless result Refusal.Memory }
 {
-    let taken = Vec::with_capacity(alloc, names.len())?;
-    Ok(Undone::Restore(take_each(store, names, taken)))
+    let mut taken = Vec::with_capacity(alloc, names.len())?;
+    for name in names {
+        if let Some(form) = store.take(name.as_slice()) {
+            taken.push_reserved((name, form));
+        }
+    }
+    Ok(Undone::Restore(taken))
 }
 
 // Deletes all forms. Returns what that destroyed. It takes memory for copies of their names, and as `delete_each` does.
@@ -49,20 +53,8 @@ pub(crate) fn delete_all<A: Allocator + Copy>(
     ensures places { store.new.spare ≡ store.old.spare }
     ensures err { IsOkUnless result Refusal.Memory }
 {
-    let names = all_names(alloc, store)?;
-    delete_each(store, alloc, names)
-}
-
-// Copies of the names of all forms.
-fn all_names<A: Allocator + Copy>(
-    alloc: A,
-    store: &Store<A>,
-) -> Result<Vec<Vec<u8, A>, A>, FormError>
-    ensures names { IfOk result (λ names. texts_of names.items ≡ names_of store.now.forms) }
-    ensures err { IsOkUnless result FormError.Memory }
-{
-    let names = store.names()?;
-    copies_of(alloc, names.as_slice())
+    let copies = copies_of(alloc, store.names()?.as_slice())?;
+    delete_each(store, alloc, copies)
 }
 
 // Copies of these texts.
@@ -100,50 +92,12 @@ pub(crate) fn bring<A: Allocator + Copy>(
     ensures places { store.new.spare ≡ store.old.spare }
     ensures err { IsOkUnless result Refusal.Memory }
 {
-    let room = Vec::with_capacity(alloc, forms.len())?;
+    let mut replaced = Vec::with_capacity(alloc, forms.len())?;
     know_each(store, forms.as_slice())?;
-    let replaced = replace_each(store, forms, room);
-    Ok(Undone::Unbring { number, replaced })
-}
-
-// Takes the forms of these names out of the store, and lists them with their names; a name without a form is passed
-// over. The list has room for so many, and is empty.
-fn take_each<A: Allocator + Copy>(
-    store: &mut Store<A>,
-    names: Vec<Vec<u8, A>, A>,
-    mut taken: Vec<Named<A>, A>,
-) -> Vec<Named<A>, A>
-    requires none { taken.items ≡ [] }
-    requires room { length names.items ≤ vec_capacity taken }
-    ensures store { store.new ≡ record store.old { forms = without (texts_of names.items) store.old.forms } }
-    ensures taken { named_forms result.items ≡ moved_out (texts_of names.items) store.old.forms }
-{
-    for name in names {
-        if let Some(form) = store.take(name.as_slice()) {
-            taken.push_reserved((name, form));
-        }
-    }
-    taken
-}
-
-// Puts forms under their names, which are known and each different, and lists those that they replace, with their
-// names. The list has room for so many, and is empty.
-fn replace_each<A: Allocator + Copy>(
-    store: &mut Store<A>,
-    forms: Vec<Named<A>, A>,
-    mut replaced: Vec<Named<A>, A>,
-) -> Vec<Named<A>, A>
-    requires none { replaced.items ≡ [] }
-    requires room { length forms.items ≤ vec_capacity replaced }
-    requires known { KnowsNamed (named_forms forms.items) store.old.known }
-    requires apart { AreApart (named_forms forms.items) }
-    ensures store { store.new ≡ record store.old { forms = with_all (named_forms forms.items) store.old.forms } }
-    ensures replaced { named_forms result.items ≡ moved_out (names_in (named_forms forms.items)) store.old.forms }
-{
     for (name, form) in forms {
         if let Some(old) = store.put(name.as_slice(), form) {
             replaced.push_reserved((name, old));
         }
     }
-    replaced
+    Ok(Undone::Unbring { number, replaced })
 }

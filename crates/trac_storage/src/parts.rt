@@ -1,12 +1,10 @@
 //! The parts of a state, from which a machine is loaded, and whether they are within the limits.
-ghost use Rattle.std.specs.Prelude.{◌≡◌, ◌&&◌, length, nat_le, IsTrue};
+ghost use Rattle.std.specs.Prelude.{◌≡◌, ◌&&◌, nat_le, IsTrue};
 ghost use Rattle.std.specs.List.{All};
-ghost use Rattle.trac_rules.specs.Limits.{texts_fit};
-ghost use Rattle.trac_rules.specs.Proper.{IsProperForm};
 ghost use Rattle.trac_change.specs.Changed.{named_forms};
 ghost use Rattle.trac_text.specs.Framing.{texts_of, EachGathers};
-ghost use Rattle.trac_storage.specs.Loading.{AreProperEntries, IsProperList, block_entries_fit, blocks_fit};
-ghost use Rattle.trac_storage.specs.Loading.{entries_fit, lengths_fit, names_fit, rooms_fit, state_in};
+ghost use Rattle.trac_storage.specs.Loading.{AreProperEntries, IsProperList, blocks_fit, entries_fit};
+ghost use Rattle.trac_storage.specs.Loading.{lengths_fit, names_fit};
 
 use crate::blocking::Named;
 use std::alloc::{Allocator, Global};
@@ -66,29 +64,6 @@ fn are_within(text: usize, marks: usize, output: usize) -> bool
     text <= TEXT_LIMIT && marks <= MARK_LIMIT && output <= OUTPUT_LIMIT
 }
 
-// Whether the texts, marks and output of parts are within the limits.
-fn texts_within<A: Allocator + Copy>(parts: &Parts<A>) -> bool
-    requires { EachGathers parts.now.frames.items }
-    ensures { result ≡ texts_fit (state_in parts.now) }
-{
-    are_within(
-        text_len(
-            parts.active.as_slice(),
-            parts.base.as_slice(),
-            parts.frames.as_slice(),
-        ),
-        mark_count(parts.frames.as_slice()),
-        parts.output.len(),
-    )
-}
-
-// Whether the rooms that parts ask for are within the limits.
-fn rooms_within<A: Allocator + Copy>(parts: &Parts<A>) -> bool
-    ensures { result ≡ rooms_fit parts.now }
-{
-    are_within(parts.text_room, parts.mark_room, parts.output_room)
-}
-
 // Whether each of these names is within the limit.
 fn names_within<A: Allocator + Copy>(names: &[Vec<u8, A>]) -> bool
     ensures { result ≡ names_fit (texts_of names.now) }
@@ -101,38 +76,19 @@ fn names_within<A: Allocator + Copy>(names: &[Vec<u8, A>]) -> bool
     true
 }
 
-// Whether the name of a form is within the limit. The form itself always is.
-fn entry_within<A: Allocator + Copy>(name: &[u8], form: &Form<A>) -> bool
-    ensures fits { result ≡ nat_le (length name.now) NAME_LIMIT }
-    ensures proper { IsTrue result → IsProperForm name.now form.now }
-{
-    // For the clause `proper`: what is true of the items of every form.
-    let _items = form.len();
-    name.len() <= NAME_LIMIT
-}
-
-// Whether the name of each of these forms is within the limit.
+// Whether the name of each of these forms is within the limit. The forms themselves always are.
 fn entries_within<A: Allocator + Copy>(forms: &[Named<A>]) -> bool
     ensures fits { result ≡ entries_fit (named_forms forms.now) }
     ensures proper { IsTrue result → AreProperEntries (named_forms forms.now) }
 {
     for (name, form) in forms {
-        if !entry_within(name.as_slice(), form) {
+        // For the clause `proper`: what is true of the items of every form.
+        let _items = form.len();
+        if name.len() > NAME_LIMIT {
             return false;
         }
     }
     true
-}
-
-// Whether the name of each form of a block is within the limit.
-fn block_within<A: Allocator + Copy>(block: &Option<Vec<Named<A>, A>>) -> bool
-    ensures fits { result ≡ block_entries_fit block.now }
-    ensures proper { IsTrue result → IsProperList block.now }
-{
-    match block {
-        Some(forms) => entries_within(forms.as_slice()),
-        None => true,
-    }
 }
 
 // Whether blocks are within the limits: their number, and the names of the forms of each.
@@ -144,7 +100,10 @@ fn blocks_within<A: Allocator + Copy>(blocks: &[Option<Vec<Named<A>, A>>]) -> bo
         return false;
     }
     for block in blocks {
-        if !block_within(block) {
+        let Some(forms) = block else {
+            continue;
+        };
+        if !entries_within(forms.as_slice()) {
             return false;
         }
     }
@@ -159,8 +118,16 @@ pub fn lengths_within<A: Allocator + Copy>(parts: &Parts<A>) -> bool
     ensures forms { IsTrue result → AreProperEntries (named_forms parts.now.forms.items) }
     ensures blocks { IsTrue result → All IsProperList parts.now.blocks.items }
 {
-    let texts = texts_within(parts);
-    let rooms = rooms_within(parts);
+    let texts = are_within(
+        text_len(
+            parts.active.as_slice(),
+            parts.base.as_slice(),
+            parts.frames.as_slice(),
+        ),
+        mark_count(parts.frames.as_slice()),
+        parts.output.len(),
+    );
+    let rooms = are_within(parts.text_room, parts.mark_room, parts.output_room);
     let names = names_within(parts.names.as_slice());
     let forms = entries_within(parts.forms.as_slice());
     let blocks = blocks_within(parts.blocks.as_slice());

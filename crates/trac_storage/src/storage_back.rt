@@ -1,18 +1,16 @@
 //! The way back over a call, on forms and blocks.
 ghost use Rattle.std.specs.Prelude.{◌≡◌, None, Some};
-ghost use Rattle.trac_rules.specs.Blocks.{with_all};
-ghost use Rattle.trac_rules.specs.Handling.{keeping, without};
-ghost use Rattle.trac_rules.specs.Undone.{MoveOut, names_in, storage_before, swapped_back, unbrought, unerased};
+ghost use Rattle.trac_rules.specs.Handling.{keeping};
+ghost use Rattle.trac_rules.specs.Undone.{MoveOut, storage_before, swapped_back, unbrought};
 ghost use Rattle.trac_forms.specs.Stored.{storage_in};
 ghost use Rattle.trac_change.specs.Changed.{named_forms};
-ghost use Rattle.trac_storage.specs.Changing.{KnowsNamed};
 ghost use Rattle.trac_storage.specs.Returning.{KnowsBefore};
 ghost use Rattle.trac_change.specs.Undone.{undone_in};
 
 use crate::blocking::put_each;
 use std::alloc::Allocator;
 use trac_change::{Undone, after};
-use trac_forms::{Block, Form, Store};
+use trac_forms::{Form, Store};
 use trac_text::Args;
 
 /// Puts back what a call of these arguments destroyed of forms and blocks. It takes no memory, and forgets no name.
@@ -42,7 +40,10 @@ pub fn put_storage<A: Allocator + Copy>(
             number,
             block,
             address,
-        } => unerase(store, name, number, block, address),
+        } => {
+            store.set_block(number, block);
+            store.put(name, address);
+        }
     }
 }
 
@@ -66,18 +67,10 @@ fn move_out<A: Allocator + Copy>(store: &mut Store<A>, arguments: &Args<'_>, old
     ensures names { store.new.known ≡ store.old.known }
 {
     let name = arguments.get(1);
-    let Some(block) = store.pop_block() else {
+    let Some(mut block) = store.pop_block() else {
         unreachable!()
     };
     swap(store, name, old);
-    put_held(store, block);
-}
-
-// Puts what a block holds among the forms.
-fn put_held<A: Allocator + Copy>(store: &mut Store<A>, mut block: Block<A>)
-    requires { KnowsNamed block.held store.old.known }
-    ensures { store.new ≡ record store.old { forms = with_all block.held store.old.forms } }
-{
     // `len` is called for its clause that no name stands twice: so they may come from the last one on.
     let _len = block.len();
     while let Some((name, form)) = block.pop() {
@@ -99,35 +92,12 @@ fn unbring<A: Allocator + Copy>(
     let Some(block) = store.take_block(number) else {
         unreachable!()
     };
-    take_named(store, &block);
-    store.set_block(number, block);
-    put_each(store, replaced);
-}
-
-// Takes away the forms of all names in a block.
-fn take_named<A: Allocator + Copy>(store: &mut Store<A>, block: &Block<A>)
-    ensures { store.new ≡ record store.old { forms = without (names_in block.now.held) store.old.forms } }
-{
     for i in 0..block.len() {
         let Some((name, _form)) = block.get(i) else {
             unreachable!()
         };
         store.take(name);
     }
-}
-
-// Puts a block in the place of the erased one of this number, and its address under a name.
-fn unerase<A: Allocator + Copy>(
-    store: &mut Store<A>,
-    name: &[u8],
-    number: usize,
-    block: Block<A>,
-    address: Form<A>,
-)
-    requires { KnowsBefore store.old.known (unerased number block.held name.now address (storage_in store.old)) }
-    ensures storage { unerased number block.held name.now address (storage_in store.old) ≡ Some (storage_in store.new) }
-    ensures names { store.new.known ≡ store.old.known }
-{
     store.set_block(number, block);
-    store.put(name, address);
+    put_each(store, replaced);
 }

@@ -3,38 +3,20 @@ ghost use Rattle.std.specs.Prelude.{◌≡◌, ◌-◌, ◌++◌, ◌∷◌, ◌
 ghost use Rattle.std.specs.Prelude.{OnOk, Some, None, true};
 ghost use Rattle.std.specs.FinSet as set;
 ghost use Rattle.std.specs.List.{All, list_all};
-ghost use Rattle.trac_rules.specs.Blocks.{with_all};
 ghost use Rattle.trac_rules.specs.Outcomes.{MayAnswer, MayRefuse, limited};
 ghost use Rattle.trac_rules.specs.State.{storage_of};
 ghost use Rattle.trac_forms.specs.Stored.{KnowsAll, storage_in};
-ghost use Rattle.trac_rules.specs.Undone.{names_in};
 ghost use Rattle.trac_change.specs.Changed.{named_forms};
 ghost use Rattle.trac_text.specs.Framing.{texts_of};
 ghost use Rattle.trac_storage.specs.Changing.{AreAmong, KnowsNamed};
 ghost use Rattle.trac_storage.specs.Loading.{block_few, block_of, counts_fit, forms_of, held_of, state_in};
 
-use crate::blocking::{Named, know_each, move_into};
+use crate::blocking::{Named, move_into};
 use crate::parts::Parts;
 use std::alloc::Allocator;
 use trac_forms::{Block, FormError, Store};
 use trac_rules::limit::FORM_COUNT_LIMIT;
 use trac_rules::refusal::Refusal;
-
-// Puts copies of forms under their names, which are known.
-fn put_copies<A: Allocator + Copy>(
-    store: &mut Store<A>,
-    forms: &[Named<A>],
-) -> Result<(), FormError>
-    requires { KnowsNamed (named_forms forms.now) store.old.known }
-    ensures put { OnOk result
-        (store.new ≡ record store.old { forms = with_all (named_forms forms.now) store.old.forms }) }
-    ensures err { IsOkUnless result FormError.Memory }
-{
-    for (name, form) in forms {
-        store.put(name.as_slice(), form.copy()?);
-    }
-    Ok(())
-}
 
 // A store of copies of these forms, which knows their names.
 fn store_of<A: Allocator + Copy>(alloc: A, forms: &[Named<A>]) -> Result<Store<A>, FormError>
@@ -44,24 +26,10 @@ fn store_of<A: Allocator + Copy>(alloc: A, forms: &[Named<A>]) -> Result<Store<A
     ensures err { IsOkUnless result FormError.Memory }
 {
     let mut store = Store::new(alloc);
-    know_each(&mut store, forms)?;
-    put_copies(&mut store, forms)?;
-    Ok(store)
-}
-
-// Copies of the names of these forms.
-fn names_of<A: Allocator + Copy>(
-    alloc: A,
-    forms: &[Named<A>],
-) -> Result<Vec<Vec<u8, A>, A>, FormError>
-    ensures names { IfOk result (λ names. texts_of names.items ≡ names_in (named_forms forms.now)) }
-    ensures err { IsOkUnless result FormError.Memory }
-{
-    let mut names = Vec::with_capacity(alloc, forms.len())?;
-    for (name, _form) in forms {
-        names.push(Vec::from_slice(alloc, name.as_slice())?)?;
+    for (name, form) in forms {
+        store.insert(name.as_slice(), form.copy()?)?;
     }
-    Ok(names)
+    Ok(store)
 }
 
 // A block of copies of these forms. If a name stands again, its last form stands in the first one's place. So all forms
@@ -70,7 +38,10 @@ fn block_with<A: Allocator + Copy>(alloc: A, forms: &[Named<A>]) -> Result<Block
     ensures held { IfOk result (λ block. block.held ≡ held_of (named_forms forms.now)) }
     ensures err { IsOkUnless result FormError.Memory }
 {
-    let names = names_of(alloc, forms)?;
+    let mut names = Vec::with_capacity(alloc, forms.len())?;
+    for (name, _form) in forms {
+        names.push(Vec::from_slice(alloc, name.as_slice())?)?;
+    }
     let mut block = Block::with_room(alloc, names.len())?;
     let mut store = store_of(alloc, forms)?;
     move_into(&mut store, names, &mut block);

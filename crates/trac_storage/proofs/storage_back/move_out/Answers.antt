@@ -1,8 +1,12 @@
--- The last block was there, and its forms have known names.
-use Rattle.std.proofs.Common.{drop, sym}
+-- The last block was there, and its forms have known names. The last of them is put, in front of all others.
+use Rattle.std.proofs.Common.{◌≡◌, [], ◌∷◌, length, drop, refl, sym, ap, ◌∙◌, arith}
+use Rattle.std.proofs.lemmas.List.{length_push}
+use Rattle.trac_rules.specs.Blocks.{with_all}
+use Rattle.trac_rules.specs.State.{Forms}
 use Rattle.trac_rules.specs.Undone.{swapped_back}
-use Rattle.trac_forms.specs.Stored.{storage_in}
-use Rattle.trac_storage.proofs.StorageBack.{is_moved_out, knows_each, knows_fewer, never_none}
+use Rattle.trac_forms.specs.Stored.{Stored, storage_in}
+use Rattle.trac_forms.proofs.BlockLists.{apart_front}
+use Rattle.trac_storage.proofs.StorageBack.{is_moved_out, knows_each, knows_fewer, knows_last, never_none, put_before_all}
 use Rattle.trac_storage.proofs.storage_back.move_out.Goals as goal
 
 pub unreachable-requires : goal.unreachable-requires
@@ -16,15 +20,46 @@ swap-requires g c =
     let back = is_moved_out store.known c.get-name.ensures (drop 2 c.args.arguments.now) c.args.old (storage_in store) held (sym c.in-Some.ensures.last) c.requires in
     rw c.pop_block.ensures.others (knows_fewer held store.known (swapped_back c.get-name.result.now c.args.old store.forms) back.knows)
 
-pub put_held-requires : goal.put_held-requires
-put_held-requires g c =
+pub loop-name-init : goal.loop-name-init
+loop-name-init g c =
     let store = c.args.store.now in
     let held = c.in-Some.block.held in
     let back = is_moved_out store.known c.get-name.ensures (drop 2 c.args.arguments.now) c.args.old (storage_in store) held (sym c.in-Some.ensures.last) c.requires in
-    rw (c.swap.ensures, c.pop_block.ensures.others) (knows_each held store.known (swapped_back c.get-name.result.now c.args.old store.forms) back.knows)
+    record {
+      put = refl;
+      apart = c.len-len.ensures.distinct;
+      known = rw (c.swap.ensures, c.pop_block.ensures.others) (knows_each held store.known (swapped_back c.get-name.result.now c.args.old store.forms) back.knows);
+    }
 
-pub returns-clause-storage : goal.returns-clause-storage
-returns-clause-storage g c =
+pub put-requires : goal.put-requires
+put-requires g c =
+    rw c.as_slice.ensures.value (knows_last c.pop.new.self.held c.loop-name.store.known (c.in-Some-pop.name.items, c.in-Some-pop.form) (rw c.in-Some-pop.ensures.last at c.loop-name.invariant).known).1
+
+pub loop-name-preserved : goal.loop-name-preserved
+loop-name-preserved g c =
+    let store = c.loop-name.store in
+    let fewer = c.pop.new.self.held in
+    let name = c.in-Some-pop.name.items in
+    let form = c.in-Some-pop.form in
+    let so_far = rw c.in-Some-pop.ensures.last at c.loop-name.invariant in
+    rw (c.put.ensures.put, c.as_slice.ensures.value) (record {
+      put = ap (λ (forms : Forms). let after : Stored = record store { forms = forms } in after) (put_before_all fewer store.forms name form so_far.apart) ∙ so_far.put;
+      apart = apart_front fewer ((name, form) ∷ []) so_far.apart;
+      known = (knows_last fewer store.known (name, form) so_far.known).0;
+    })
+
+pub loop-name-smaller : goal.loop-name-smaller
+loop-name-smaller g c = omega (arith, ap length c.in-Some-pop.ensures.last, length_push c.pop.new.self.held (c.in-Some-pop.name.items, c.in-Some-pop.form))
+
+pub returns : goal.returns
+returns g c =
     let store = c.args.store.now in
-    rw (c.put_held.ensures, c.swap.ensures, c.pop_block.ensures.others)
-    (is_moved_out store.known c.get-name.ensures (drop 2 c.args.arguments.now) c.args.old (storage_in store) c.in-Some.block.held (sym c.in-Some.ensures.last) c.requires).state
+    let held = c.in-Some.block.held in
+    let back = c.swap.new.store in
+    let left : c.loop-name.store ≡ record back { forms = with_all held back.forms } = (rw c.in_default-pop.ensures.last.0 at c.loop-name.invariant).put in
+    record {
+      storage =
+          rw (left, c.swap.ensures, c.pop_block.ensures.others)
+          (is_moved_out store.known c.get-name.ensures (drop 2 c.args.arguments.now) c.args.old (storage_in store) held (sym c.in-Some.ensures.last) c.requires).state;
+      names = rw (left, c.swap.ensures, c.pop_block.ensures.others) refl;
+    }

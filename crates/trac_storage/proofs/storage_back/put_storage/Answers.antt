@@ -1,12 +1,14 @@
 -- By what the call destroyed.
 use Rattle.std.proofs.Common.{ap, drop, sym, ◌∙◌}
-use Rattle.std.specs.Prelude.{Some}
+use Rattle.std.specs.Prelude.{◌&&◌, Some}
 use Rattle.std.specs.FinMap as finite
+use Rattle.std.proofs.lemmas.Bool.{and_parts}
 use Rattle.trac_rules.specs.Effect.{argument}
+use Rattle.trac_rules.specs.Undone.{is_erased, is_free}
 use Rattle.trac_forms.specs.Stored.{storage_in}
 use Rattle.trac_change.specs.Changed.{named_forms}
 use Rattle.trac_storage.proofs.Pointers.{pointed_there}
-use Rattle.trac_storage.proofs.StorageBack.{can_join, joins_again, knows_each, pointed_again, tested}
+use Rattle.trac_storage.proofs.StorageBack.{can_join, erased_there, joins_again, knows_each, knows_put, pointed_again, tested}
 use Rattle.trac_storage.proofs.storage_back.put_storage.Goals as goal
 
 pub put_each-requires : goal.put_each-requires
@@ -44,3 +46,20 @@ swap-requires g c = rw c.get-name.ensures (tested _ c.args.store.now.known _ (rw
 
 pub returns-in-Swap-clause-storage : goal.returns-in-Swap-clause-storage
 returns-in-Swap-clause-storage g c = rw (c.in-Swap.is, c.swap.ensures, c.get-name.ensures) (tested _ c.args.store.now.known _ (rw c.in-Swap.is at c.requires)).2
+
+pub set_block-requires : goal.set_block-requires
+set_block-requires g c =
+    let store = c.args.store.now in
+    let erased = is_erased c.in-Unerase.number store.blocks in
+    let free = is_free (argument 1 c.args.arguments.now) store.forms in
+    erased_there c.in-Unerase.number store.blocks (and_parts erased free (tested (erased && free) store.known _ (rw c.in-Unerase.is at c.requires)).0).0
+
+pub put-requires : goal.put-requires
+put-requires g c =
+    let store = c.args.store.now in
+    let name = argument 1 c.args.arguments.now in
+    rw (c.set_block.ensures, c.get-name.ensures) (knows_put store.known store.forms name c.in-Unerase.address (tested _ store.known _ (rw c.in-Unerase.is at c.requires)).1)
+
+pub returns-in-Unerase-clause-storage : goal.returns-in-Unerase-clause-storage
+returns-in-Unerase-clause-storage g c =
+    rw (c.in-Unerase.is, c.put.ensures.put, c.set_block.ensures, c.get-name.ensures) (tested _ c.args.store.now.known _ (rw c.in-Unerase.is at c.requires)).2
