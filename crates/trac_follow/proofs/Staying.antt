@@ -1,9 +1,8 @@
 -- What a step leaves as it is, and where what stands after a run of bytes stood before it, as the code tells them.
-use Rattle.std.proofs.Common.{◌≡◌, ◌⊎◌, ℕ, ◌+◌, ◌-◌, ◌<◌, Bool, true, false, List, length, take, drop, inl, inr, refl, sym, ap, subst, ◌∙◌, ⊎_elim, arith}
-use Rattle.std.specs.Prelude.{Option, None, Some, Ok, if◌then◌else◌, nat_lt, slice_get}
+use Rattle.std.proofs.Common.{◌≡◌, ◌⊎◌, ℕ, ◌+◌, ◌-◌, ◌<◌, ◌≤◌, Bool, true, false, List, length, take, drop, inl, inr, refl, sym, ap, subst, ◌∙◌, ⊎_elim, arith}
+use Rattle.std.specs.Prelude.{Option, None, Some, SomeIff, Ok, slice_get}
 use Rattle.std.specs.FinMap as finite
 use Rattle.std.specs.List.{concat}
-use Rattle.std.proofs.lemmas.Bool.{cond-true, cond-false, lt-ltb}
 use Rattle.trac_rules.specs.declared.item.Item.{Item}
 use Rattle.trac_rules.specs.declared.kind.Kind.{Kind}
 use Rattle.trac_rules.specs.Effect.{argument}
@@ -21,7 +20,7 @@ use Rattle.trac_rules.proofs.Scans.{gathered_in_shows}
 use Rattle.trac_origins.specs.Lengths.{before_moved, in_active, is_of_text, is_outside, may_put, moves_bytes, past_in}
 use Rattle.trac_origins.specs.Places.{Place, InActive, InBase, InArgument, InForm, InHeld, InOutput, Carried, found_at, items_of}
 use Rattle.trac_origins.specs.Stepping.{origin}
-use Rattle.trac_origins.proofs.Moved.{not_less, past_place, stood}
+use Rattle.trac_origins.proofs.Moved.{past_place, stood}
 use Rattle.trac_origins.proofs.Told.{byte_within}
 use Rattle.trac_origins.proofs.ToldCalls.{ended}
 use Rattle.trac_origins.proofs.Unchanged.{Unchanged, calls_held, calls_unchanged, moves_held, moves_unchanged}
@@ -203,22 +202,22 @@ moved_in_text n s p text = absurd (cc)
 
 -- a byte of a text, as the code finds it
 pub text_before : (n : ℕ) (s : State) (p : Place) (bytes : ℕ) (gap : Bool) (item : Item) (past : Option ℕ) → is_in_text p ≡ true → found_at (moved_on n s) p ≡ Some item → IsPlaced bytes gap (moved_on n s) p →
-    past ≡ (if nat_lt bytes (neutral_bytes s) then None else Some (bytes - neutral_bytes s)) → in_active past p ≡ before_moved n s p
-text_before n s p bytes gap item past text stands placed is = ap (λ q. in_active q p) (go (past_in s.frames s p) refl) ∙ sym (moved_in_text n s p text)
+    SomeIff past (neutral_bytes s ≤ bytes) (bytes - neutral_bytes s) → in_active past p ≡ before_moved n s p
+text_before n s p bytes gap item past text stands placed is = ap (λ q. in_active q p) (go (past_in s.frames s p) refl past is) ∙ sym (moved_in_text n s p text)
   where
     at : bytes ≡ offset s p
     at = offset_before n s p bytes gap item stands placed text
 
-    go : (found : Option ℕ) → past_in s.frames s p ≡ found → past ≡ past_in s.frames s p
-    go None none =
+    past_end : (j : ℕ) → past_in s.frames s p ≡ Some j → bytes ≡ neutral_bytes s + j
+    past_end j found = at ∙ ap (offset s) (past_place s.frames s p j found) ∙ new_past s.frames s j refl
+
+    go : (found : Option ℕ) → past_in s.frames s p ≡ found → (q : Option ℕ) → SomeIff q (neutral_bytes s ≤ bytes) (bytes - neutral_bytes s) → q ≡ past_in s.frames s p
+    go None none None is = sym none
+    go None none (Some k) is =
         let old : found_at s p ≡ Some item = stood s.frames s (take n s.active) (drop n s.active) p item refl (of_text p text).0 none stands in
-        let within : bytes < neutral_bytes s = omega (arith, at, stands_within s p item text old) in
-        is ∙ cond-true (nat_lt bytes (neutral_bytes s)) None (Some (bytes - neutral_bytes s)) (lt-ltb bytes (neutral_bytes s) within) ∙ sym none
-    go (Some j) found =
-        let past_end : bytes ≡ neutral_bytes s + j = at ∙ ap (offset s) (past_place s.frames s p j found) ∙ new_past s.frames s j refl in
-        is
-        ∙ cond-false (nat_lt bytes (neutral_bytes s)) None (Some (bytes - neutral_bytes s)) (not_less bytes (neutral_bytes s) (omega (arith, past_end)))
-        ∙ ap Some (omega (arith, past_end)) ∙ sym found
+        absurd (omega (arith, at, stands_within s p item text old, is.0))
+    go (Some j) found None is = absurd (is (omega (arith, past_end j found)))
+    go (Some j) found (Some k) is = ap Some (omega (arith, is.1, past_end j found)) ∙ sym found
 
 -- ---- the rest of the active text
 

@@ -32,7 +32,7 @@ use Rattle.trac_follow.specs.declared.called.Put as code_put
 use Rattle.trac_follow.specs.Putting.{put_by}
 use Rattle.trac_follow.specs.declared.place.Origin as code_origin
 use Rattle.trac_follow.specs.declared.place.Place as code_place
-use Rattle.trac_follow.specs.Places.{IsCalling, Tells, TellsComputed, TellsValue, ToldAsPrinted, ToldAsPut, ToldAsRead}
+use Rattle.trac_follow.specs.Places.{IsCalling, Tells, TellsComputed, TellsValue, ToldAsPrinted, ToldAsRead}
 use Rattle.trac_origins.specs.Accounts.{Accounts}
 use Rattle.trac_origins.proofs.Accounted.{accounted}
 use Rattle.trac_follow.proofs.Giving.{done_by, others_give_none}
@@ -284,19 +284,11 @@ module _ (environment : Environment) (s t : State) (call : Call) (h : step envir
       let done = call_does (HandleBlock StoreBlock) named in
       ap (λ q. origin environment s (InForm q i)) ((bytes_eq-Decides name (argument 1 call.arguments)).0 same) ∙ address_told environment s call done.0 done.1 i
 
-  pub put_tells : primitive_of (argument 0 call.arguments) ≡ Handle Define → (name : List ℕ) (i function text : ℕ) (told : code_origin.Origin) → bytes_eq name (argument 1 call.arguments) ≡ true →
-      length call.state.frames ≡ function → text ≡ length (argument 2 call.arguments) → (item : Item) → found_at t (InForm name i) ≡ Some item →
-      ToldAsPut text function i told → Tells s told (origin environment s (InForm name i))
-  put_tells named name i function text told same number long item stands tells = go told tells
-    where
-      go : (o : code_origin.Origin) → ToldAsPut text function i o → Tells s o (origin environment s (InForm name i))
-      go (code_origin.TheVariants.Carried (code_place.TheVariants.Argument n k j)) at =
-          defined_is name i function named same number (omega (arith, at.3, long))
-          ∙ ap₂ (λ m a. Carried (InArgument m a i)) (sym at.0) (sym at.1) ∙ ap (λ b. Carried (InArgument n k b)) (sym at.2)
-      go code_origin.TheVariants.Nothing at =
-          let done = call_does (Handle Define) named in
-          absurd (omega (arith, at, long, defined_within environment s t call done.0 h done.1 name i item same stands))
-      go other at = absurd at
+  pub defined_within_text : (name : List ℕ) (i : ℕ) (item : Item) → primitive_of (argument 0 call.arguments) ≡ Handle Define → bytes_eq name (argument 1 call.arguments) ≡ true →
+      found_at t (InForm name i) ≡ Some item → i < length (argument 2 call.arguments)
+  defined_within_text name i item named same stands =
+      let done = call_does (Handle Define) named in
+      defined_within environment s t call done.0 h done.1 name i item same stands
 
   pub stored_tells : (number : ℕ) (name : List ℕ) (i : ℕ) (item : Item) → primitive_of (argument 0 call.arguments) ≡ HandleBlock StoreBlock → number ≡ length s.blocks →
       found_at t (InHeld number name i) ≡ Some item → origin environment s (InHeld number name i) ≡ Carried (InForm name i)

@@ -145,13 +145,6 @@ ToldAsPrinted text function end i code_origin.TheVariants.Made = i + text < end
 ToldAsPrinted text function end i code_origin.TheVariants.Nothing = (end < text) ⊎ (end ≤ i)
 ToldAsPrinted text function end i told = ⊥
 
--- of argument 2, which is so long
-abbrev pub ToldAsPut : ℕ → ℕ → ℕ → code_origin.Origin → Type 0
-ToldAsPut text function i (code_origin.TheVariants.Carried (code_place.TheVariants.Argument n k j)) =
-    (n ≡ function) × (k ≡ 2) × (j ≡ i) × (i < text)
-ToldAsPut text function i code_origin.TheVariants.Nothing = text ≤ i
-ToldAsPut text function i told = ⊥
-
 -- something stands at a place
 abbrev pub Stands : State → Place → Type 0
 Stands s place = (item : Item) × (found_at s place ≡ Some item)

@@ -1,18 +1,16 @@
 -- Steps back over which a byte is followed without a look at where it comes from.
 use Rattle.std.specs.Prelude.{◌≡◌, ◌⊎◌, ℕ, length, Bool, true, false, Ok, Some}
 use Rattle.trac_rules.specs.declared.item.Item.{Item}
-use Rattle.trac_rules.specs.declared.width.Width.{Width}
 use Rattle.trac_rules.specs.State.{Environment, State}
 use Rattle.trac_rules.specs.Stepping.{step}
 use Rattle.trac_origins.specs.Places.{Place, Carried, found_at}
 use Rattle.trac_origins.specs.Stepping.{origin}
 use Rattle.trac_follow.specs.declared.history.Source as code
 use Rattle.trac_follow.specs.declared.history.Turn as turning
-use Rattle.trac_follow.specs.declared.place.After.{After}
 use Rattle.trac_follow.specs.declared.place.Origin as told
 use Rattle.trac_follow.specs.declared.place.Place as code_place
 use Rattle.trac_follow.specs.Offsets.{IsPlaced}
-use Rattle.trac_follow.specs.Places.{IsPassed, TellsOf, is_in_form, is_in_storage, place_of}
+use Rattle.trac_follow.specs.Places.{IsPassed, is_in_form, is_in_storage, place_of}
 
 -- what stands at a place after the step from a state stood there before it, what is known of the place stays known,
 -- and the step does not pass it on
@@ -39,6 +37,3 @@ IsTurn s here (told.TheVariants.OfForm i) turn =
 IsTurn s here (told.TheVariants.Read n) turn = turn ≡ turning.TheVariants.Found (code.TheVariants.Read n)
 IsTurn s here told.TheVariants.Made turn = turn ≡ turning.TheVariants.Found code.TheVariants.Made
 IsTurn s here told.TheVariants.Nothing turn = turn ≡ turning.TheVariants.Found code.TheVariants.Nothing
-
-abbrev pub HasTurned : State → Width → After → code_place.Place → turning.Turn → Type 0
-HasTurned s width after here turn = (o : told.Origin) × TellsOf s width after (place_of here) o × IsTurn s here o turn

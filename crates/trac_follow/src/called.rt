@@ -9,9 +9,8 @@ ghost use Rattle.trac_rules.specs.Effect.{argument};
 ghost use Rattle.trac_rules.specs.Performing.{primitive_of};
 ghost use Rattle.trac_rules.specs.Scanning.{Call, Calls, scan};
 ghost use Rattle.trac_follow.specs.declared.place.After.{After as Lengths};
-ghost use Rattle.trac_follow.specs.Formed.{ToldAsFormCut, ToldAsFormShown};
 ghost use Rattle.trac_follow.specs.Putting.{put_by};
-ghost use Rattle.trac_follow.specs.Places.{IsCalling, IsTakenOut, TellsOf, ToldAsPrinted, ToldAsPut, is_from_form};
+ghost use Rattle.trac_follow.specs.Places.{IsCalling, IsTakenOut, TellsOf, ToldAsPrinted, is_from_form};
 ghost use Rattle.trac_follow.specs.Places.{is_in_text, place_of};
 
 use crate::fetched::before_fetch;
@@ -136,24 +135,7 @@ fn of_output<'a, E: TwoEnds<u8, A>, M: TwoEnds<Mark, A>, A: Allocator + Copy>(
             printed(arguments.get(1).len(), innermost(before), after.output, i)
         }
         // No other primitive but `pf` prints.
-        _ => form_shown(before, arguments.get(1), after.output, i),
-    }
-}
-
-// Of what `pf` prints of the form of this name, after which the output ends; without a form it prints nothing, so what
-// is new is the line of the trace.
-fn form_shown<'a, E: TwoEnds<u8, A>, M: TwoEnds<Mark, A>, A: Allocator + Copy>(
-    before: &Core<E, M, A>,
-    name: &[u8],
-    end: usize,
-    i: usize,
-) -> Origin<'a>
-    ensures tells { ToldAsFormShown before.now.state name.now end i result }
-    ensures taken { is_from_form result ≡ false }
-{
-    match before.store().get(name) {
-        Some(form) => shown_byte(form, end, i),
-        None => Origin::Made,
+        _ => shown_byte(before, arguments.get(1), after.output, i),
     }
 }
 
@@ -192,36 +174,13 @@ fn of_form<'a, E: TwoEnds<u8, A>, M: TwoEnds<Mark, A>, A: Allocator + Copy>(
     ensures taken { IsTakenOut (InForm name.now i) result }
 {
     match put_by(arguments, name) {
-        Put::Text => put_byte(arguments.get(2).len(), innermost(before), i),
-        Put::Cut => form_cut(before, name, after),
+        Put::Text if i < arguments.get(2).len() => argument_byte(innermost(before), 2, i),
+        Put::Text => Origin::Nothing,
+        Put::Cut => cut_item(before, name, after),
         Put::Fetched => Origin::Carried(before_fetch(before.store(), arguments.get(1), name, i)),
         Put::Address => Origin::Made,
         Put::Nothing => Origin::Carried(Place::Form(name, i)),
     }
-}
-
-// Of a form of this name that `ss` cuts.
-fn form_cut<'a, E: TwoEnds<u8, A>, M: TwoEnds<Mark, A>, A: Allocator + Copy>(
-    before: &Core<E, M, A>,
-    name: &'a [u8],
-    after: After,
-) -> Origin<'a>
-    ensures { ToldAsFormCut before.now.state name.now after result }
-{
-    match before.store().get(name) {
-        Some(form) => cut_item(form, name, after),
-        None => Origin::Nothing,
-    }
-}
-
-// Of a form that is a text of this length, argument 2.
-fn put_byte<'a>(text: usize, function: usize, i: usize) -> Origin<'a>
-    ensures { ToldAsPut text function i result }
-{
-    if i < text {
-        return argument_byte(function, 2, i);
-    }
-    Origin::Nothing
 }
 
 // What a call puts under a name.

@@ -1,5 +1,5 @@
 //! Where bytes come from that a call takes out of a form, prints of it, or cuts in it.
-ghost use Rattle.std.specs.Prelude.{◌≡◌, ◌≤◌, drop, false, length, option_map, IfSome, List, Option, Some, ℕ};
+ghost use Rattle.std.specs.Prelude.{◌≡◌, ◌≤◌, drop, false, length, option_map, IfSome, List, Option, ℕ};
 ghost use Rattle.trac_forms.specs.Taken.{IsThere, taken};
 ghost use Rattle.trac_rules.specs.Effect.{argument};
 ghost use Rattle.trac_rules.specs.Form.{all_items};
@@ -9,8 +9,9 @@ ghost use Rattle.trac_rules.specs.declared.primitive.FormAction.TheVariants.{Cal
 ghost use Rattle.trac_rules.specs.declared.primitive.Primitive.TheVariants.{Handle};
 ghost use Rattle.trac_rules.specs.declared.primitive.FormReading.TheVariants.{ReadCount, ReadUntil};
 ghost use Rattle.trac_rules.specs.declared.width.Width.{Width};
-ghost use Rattle.trac_follow.specs.Formed.{IsFound, IsPrintedAt, TellsOfForm, ToldAsCut, ToldAsPiece, ToldAsShown};
-ghost use Rattle.trac_follow.specs.Formed.{ToldAsShownAfter, ToldAsShownAt, ToldFrom, is_byte, is_cut, of_shown};
+ghost use Rattle.trac_follow.specs.Formed.{IsFound, IsPrintedAt, TellsOfForm, ToldAsFormCut, ToldAsFormShown};
+ghost use Rattle.trac_follow.specs.Formed.{ToldAsPiece, ToldAsShownAfter, ToldAsShownAt, ToldFrom, is_byte, is_cut};
+ghost use Rattle.trac_follow.specs.Formed.{of_shown};
 ghost use Rattle.trac_follow.specs.Places.{is_from_form};
 
 use crate::items::{Among, Giving, byte_among, item_after};
@@ -18,9 +19,11 @@ use crate::place::{After, Origin, Place};
 use crate::valued::{Asked, argument_byte};
 use std::alloc::Allocator;
 use trac_forms::{Form, Item, Piece};
+use trac_gap::TwoEnds;
 use trac_prims::number_at;
 use trac_rules::primitive::FormReading;
 use trac_rules::width::Width;
+use trac_step::{Core, Mark};
 use trac_text::Args;
 
 // Of the value of `cl`: of the form, or of the argument that fills a gap.
@@ -116,20 +119,14 @@ fn until_byte<'a, A: Allocator + Copy>(
     argument_byte(function, 3, i)
 }
 
-// Whether `in` found a text: its value then is not forced, and the text stands after it.
+// Whether `in` found a text: its value then is not forced, and the text stands in the form after that, from the pointer
+// on.
 fn is_found<A: Allocator + Copy>(form: &Form<A>, text: &[u8], seen: Option<usize>) -> bool
     ensures { IsFound form.now text.now seen result }
 {
-    match seen {
-        Some(len) => stands_after(form, text, len),
-        None => true,
-    }
-}
-
-// Whether a text stands in a form after so many bytes that stand after the pointer.
-fn stands_after<A: Allocator + Copy>(form: &Form<A>, text: &[u8], bytes: usize) -> bool
-    ensures { IsFound form.now text.now (Some bytes) result }
-{
+    let Some(bytes) = seen else {
+        return true;
+    };
     let start = form.pointer();
     match byte_among(form, start, form.len(), Giving::Read, bytes) {
         Among::Here(given) => begins_at(form, start + given.at, text),
@@ -177,16 +174,20 @@ fn byte_from<'a, A: Allocator + Copy>(form: &Form<A>, first: usize, i: usize) ->
     Origin::OfForm(first + given.at)
 }
 
-// Of what `pf` prints of a form, after which the output ends: bytes are the form's, and marks made,
-// as is the line before it.
-pub(crate) fn shown_byte<'a, A: Allocator + Copy>(
-    form: &Form<A>,
+// Of what `pf` prints of the form of this name, after which the output ends: bytes are the form's, and marks made, as is
+// the line before it. Without a form it prints nothing, so what is new is that line.
+pub(crate) fn shown_byte<'a, E: TwoEnds<u8, A>, M: TwoEnds<Mark, A>, A: Allocator + Copy>(
+    before: &Core<E, M, A>,
+    name: &[u8],
     end: usize,
     i: usize,
 ) -> Origin<'a>
-    ensures tells { ToldAsShown form.now end i result }
+    ensures tells { ToldAsFormShown before.now.state name.now end i result }
     ensures taken { is_from_form result ≡ false }
 {
+    let Some(form) = before.store().get(name) else {
+        return Origin::Made;
+    };
     let Some(len) = form.show_len() else {
         return Origin::Nothing;
     };
@@ -260,15 +261,18 @@ fn of_shown<'a>(item: Item, place: usize) -> Origin<'a>
     }
 }
 
-// Of an item of a form of this name that `ss` leaves: it stood where as many bytes stood before it,
-// and a gap over a byte is made.
-pub(crate) fn cut_item<'a, A: Allocator + Copy>(
-    form: &Form<A>,
+// Of an item of the form of this name that `ss` leaves: it stood where as many bytes stood before it, and a gap over a
+// byte is made.
+pub(crate) fn cut_item<'a, E: TwoEnds<u8, A>, M: TwoEnds<Mark, A>, A: Allocator + Copy>(
+    before: &Core<E, M, A>,
     name: &'a [u8],
     after: After,
 ) -> Origin<'a>
-    ensures { ToldAsCut form.now name.now after result }
+    ensures { ToldAsFormCut before.now.state name.now after result }
 {
+    let Some(form) = before.store().get(name) else {
+        return Origin::Nothing;
+    };
     let Some((place, item)) = item_after(form, after.extent) else {
         return Origin::Nothing;
     };

@@ -3,13 +3,12 @@ ghost use Rattle.std.specs.Prelude.{◌≡◌, ◌+◌, ◌^◌, ◌<◌, ◌≤
 ghost use Rattle.trac_follow.specs.Following.{IsFollowed, IsKnown};
 ghost use Rattle.trac_follow.specs.Items.{IsMeasured};
 ghost use Rattle.trac_follow.specs.Offsets.{IsPlaced};
-ghost use Rattle.trac_follow.specs.Places.{IsTakenOut, Stands, calls, is_in_form, is_passed, place_of};
-ghost use Rattle.trac_follow.specs.Running.{HasTurned, IsTurn};
+ghost use Rattle.trac_follow.specs.Places.{IsTakenOut, Stands, is_in_form, is_passed, place_of};
+ghost use Rattle.trac_follow.specs.Running.{IsTurn};
 ghost use Rattle.trac_origins.specs.Places.{InForm};
-ghost use Rattle.trac_rules.specs.Scanning.{scan};
 ghost use Rattle.trac_rules.specs.Session.{Back, repeated};
 
-use crate::items::item_measured;
+use crate::items::extent_before;
 use crate::offset::{argument_offset, is_innermost};
 use crate::origin::origin_of;
 use crate::place::{After, Origin, Place};
@@ -17,6 +16,7 @@ use crate::running::{before_in_active, before_run, stays};
 use crate::standing::stands;
 use std::alloc::Allocator;
 use trac_gap::TwoEnds;
+use trac_rules::item::Item;
 use trac_rules::width::Width;
 use trac_session::Session;
 use trac_step::{Core, Mark};
@@ -107,15 +107,17 @@ pub(crate) fn follow_from<'a, A: Allocator + Copy>(
         if stays(session.machine(), measure, here) {
             continue;
         }
-        match turned(session.machine(), width, after, here) {
+        let origin = origin_of(session.machine(), width, after, here);
+        match turn_of(session.machine(), here, origin) {
             Turn::On(there) => {
                 measure = measured(session.machine(), there);
                 here = there;
             }
-            Turn::Found(source) => return found(steps, source),
+            Turn::Found(source) => return Followed { steps, source },
         }
     }
-    found(steps, Source::Here(here))
+    let source = Source::Here(here);
+    Followed { steps, source }
 }
 
 // What is told of a machine and of a place in it, of which so much is measured.
@@ -148,20 +150,7 @@ pub(crate) enum Turn<'a> {
     Found(Source<'a>),
 }
 
-// How what stands here after the next step of a machine is followed further back, if that step leaves texts of these
-// lengths.
-fn turned<'a, E: TwoEnds<u8, A>, M: TwoEnds<Mark, A>, A: Allocator + Copy>(
-    before: &Core<E, M, A>,
-    width: Width,
-    after: After,
-    here: Place<'a>,
-) -> Turn<'a>
-    ensures { HasTurned before.now.state width after here.entry result }
-{
-    turn_of(before, here, origin_of(before, width, after, here))
-}
-
-// The same, by where it comes from.
+// How what stands here after the next step of a machine, and has this origin, is followed further back.
 fn turn_of<'a, E: TwoEnds<u8, A>, M: TwoEnds<Mark, A>, A: Allocator + Copy>(
     before: &Core<E, M, A>,
     here: Place<'a>,
@@ -213,8 +202,12 @@ fn measured_in<E: TwoEnds<u8, A>, M: TwoEnds<Mark, A>, A: Allocator + Copy>(
 ) -> (usize, bool)
     ensures { IsMeasured result.0 result.1 machine.now.state (InForm name.now i) }
 {
-    match machine.store().get(name) {
-        Some(form) => item_measured(form, i),
+    let Some(form) = machine.store().get(name) else {
+        return (0, false);
+    };
+    match form.item(i) {
+        Some(Item::Byte(_)) => (extent_before(form, i), false),
+        Some(Item::Gap { .. }) => (extent_before(form, i), true),
         None => (0, false),
     }
 }
@@ -229,7 +222,9 @@ fn is_passed<E: TwoEnds<u8, A>, M: TwoEnds<Mark, A>, A: Allocator + Copy>(
     ensures { result ≡ is_passed machine.now.state (place_of here.entry) (place_of there.entry) }
 {
     match there {
-        Place::Argument { function, .. } => is_called(machine, function),
+        Place::Argument { function, .. } => {
+            machine.next_call().is_some() && is_innermost(function, machine.depth())
+        }
         Place::Held(_, _, _) => is_form(here),
         Place::Form(_, _) => !is_form(here),
         _ => false,
@@ -241,24 +236,4 @@ fn is_form(place: Place<'_>) -> bool
     ensures { result ≡ is_in_form (place_of place.entry) }
 {
     matches!(place, Place::Form(_, _))
-}
-
-// Whether the step that comes next performs the function of this number.
-fn is_called<E: TwoEnds<u8, A>, M: TwoEnds<Mark, A>, A: Allocator + Copy>(
-    machine: &Core<E, M, A>,
-    function: usize,
-) -> bool
-    ensures { result ≡ calls function (length machine.now.state.frames) (scan machine.now.state) }
-{
-    match machine.next_call() {
-        Some(_call) => is_innermost(function, machine.depth()),
-        None => false,
-    }
-}
-
-fn found<'a>(steps: u64, source: Source<'a>) -> Followed<'a>
-    ensures steps { result.steps ≡ steps }
-    ensures source { result.source ≡ source.entry }
-{
-    Followed { steps, source }
 }

@@ -1,11 +1,7 @@
 //! Which item of a form gives a byte.
 ghost use Rattle.std.specs.Prelude.{◌≡◌, ◌<◌, ◌≤◌, ◌-◌, drop, length, take, MatchOption, Some, slice_get, ℕ};
-ghost use Rattle.trac_rules.specs.Filling.{text_numbered};
 ghost use Rattle.trac_rules.specs.Form.{all_items, extent, width_of};
-ghost use Rattle.trac_rules.specs.Pieces.{is_gap};
-ghost use Rattle.trac_rules.specs.Showing.{shown_item};
 ghost use Rattle.trac_rules.specs.declared.item.Item.{Item};
-ghost use Rattle.trac_rules.specs.declared.item.Item.TheVariants.{Gap};
 ghost use Rattle.trac_follow.specs.Formed.{IsAfter};
 ghost use Rattle.trac_follow.specs.Items.{IsAmong, given_by};
 
@@ -107,40 +103,14 @@ fn given_len(giving: Giving<'_>, item: Item) -> usize
         return 1;
     };
     match giving {
-        Giving::Filled(arguments) => text_len(arguments, ordinal),
+        // Nothing fills a gap of ordinal 0.
+        Giving::Filled(_) if ordinal == 0 => 0,
+        Giving::Filled(arguments) => arguments.get(ordinal as usize + 1).len(),
         Giving::Read => 0,
-        Giving::Shown => mark_len(ordinal),
-    }
-}
-
-// How long the text is that fills a gap of this ordinal.
-fn text_len(arguments: &Args<'_>, ordinal: u32) -> usize
-    ensures { result ≡ length (text_numbered ordinal (drop 2 arguments.now)) }
-{
-    if ordinal == 0 {
-        return 0;
-    }
-    arguments.get(ordinal as usize + 1).len()
-}
-
-// How long the mark of a gap of this ordinal is.
-fn mark_len(ordinal: u32) -> usize
-    ensures { result ≡ length (shown_item (Gap ordinal 1)) }
-{
-    let mut buffer = Buffer::new();
-    b"<".len() + buffer.format(ordinal).len() + b">".len()
-}
-
-// How many bytes the items before this place stand for, and whether a gap stands there; nothing is
-// told of a place past the end.
-pub(crate) fn item_measured<A: Allocator + Copy>(form: &Form<A>, place: usize) -> (usize, bool)
-    ensures extent { place < length (all_items form.now) → result.0 ≡ extent (take place (all_items form.now)) }
-    ensures gap { (item : Item) → slice_get (all_items form.now) place ≡ Some item → result.1 ≡ is_gap item }
-{
-    match form.item(place) {
-        Some(Item::Byte(_)) => (extent_before(form, place), false),
-        Some(Item::Gap { .. }) => (extent_before(form, place), true),
-        None => (0, false),
+        Giving::Shown => {
+            let mut buffer = Buffer::new();
+            b"<".len() + buffer.format(ordinal).len() + b">".len()
+        }
     }
 }
 

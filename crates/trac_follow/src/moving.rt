@@ -1,5 +1,5 @@
 //! Where bytes come from by the rules of scanning that move on.
-ghost use Rattle.std.specs.Prelude.{◌≡◌, false, length, true, Ok, Some};
+ghost use Rattle.std.specs.Prelude.{◌≡◌, length, true, Ok, Some};
 ghost use Rattle.trac_origins.specs.Lengths.{is_outside};
 ghost use Rattle.trac_origins.specs.Places.{InActive, found_at};
 ghost use Rattle.trac_origins.specs.Stepping.{origin};
@@ -11,7 +11,7 @@ ghost use Rattle.trac_follow.specs.Places.{IsBare, IsTakenOut, Tells, place_of};
 
 use crate::front::first_moved_at;
 use crate::place::{Origin, Place};
-use crate::standing::{past_current, stands_elsewhere};
+use crate::standing::{past_current, stands};
 use std::alloc::Allocator;
 use trac_gap::TwoEnds;
 use trac_step::{Core, Mark};
@@ -31,7 +31,7 @@ pub(crate) fn moved<'a, E: TwoEnds<u8, A>, M: TwoEnds<Mark, A>, A: Allocator + C
     if let Place::Active(i) = place {
         return left_over(before.active(), left, i);
     }
-    if stands_elsewhere(before, place) {
+    if stands(before, place) {
         return Origin::Carried(place);
     }
     gathered(before, place)

@@ -1,10 +1,10 @@
 //! How far into the neutral text a byte of an argument stands.
-ghost use Rattle.std.specs.Prelude.{◌≡◌, ◌+◌, ◌-◌, drop, reverse, slice_get, take, MatchBool};
+ghost use Rattle.std.specs.Prelude.{◌≡◌, ◌+◌, drop, reverse, slice_get, MatchBool};
 ghost use Rattle.trac_follow.specs.Offsets.{offset};
 ghost use Rattle.trac_follow.specs.Places.{Stands};
 ghost use Rattle.trac_origins.specs.Places.{InArgument};
 ghost use Rattle.trac_rules.specs.declared.kind.Kind.{Kind};
-ghost use Rattle.trac_rules.specs.Limits.{argument_bytes, total_length};
+ghost use Rattle.trac_rules.specs.Limits.{argument_bytes};
 ghost use Rattle.trac_text.specs.Frames.{IsFrame};
 
 use std::alloc::Allocator;
@@ -22,15 +22,16 @@ pub(crate) fn argument_offset<E: TwoEnds<u8, A>, M: TwoEnds<Mark, A>, A: Allocat
     ensures { Stands machine.now.state (InArgument function argument byte) →
         result ≡ offset machine.now.state (InArgument function argument byte) }
 {
-    match machine.frame(function) {
-        Some((_, arguments)) => {
-            let from_function = bytes_from(machine, function, &arguments);
-            let from_argument = bytes_after(from_function, &arguments, argument);
-            let from_byte = from_argument.saturating_sub(byte);
-            machine.neutral_len().saturating_sub(from_byte)
-        }
-        None => 0,
+    let Some((_, arguments)) = machine.frame(function) else {
+        return 0;
+    };
+    let from_function = bytes_from(machine, function, &arguments);
+    let mut from_argument = from_function;
+    for i in 0..argument.min(arguments.count()) {
+        from_argument = from_argument.saturating_sub(arguments.get(i).len());
     }
+    let from_byte = from_argument.saturating_sub(byte);
+    machine.neutral_len().saturating_sub(from_byte)
 }
 
 // How many bytes the arguments of the functions from this number on hold, counted from the outermost; the one of this
@@ -46,23 +47,6 @@ fn bytes_from<E: TwoEnds<u8, A>, M: TwoEnds<Mark, A>, A: Allocator + Copy>(
     if is_innermost(function, machine.depth()) {
         return arguments.joined().len();
     }
-    bytes_counted(machine, function)
-}
-
-// Whether the begun function of this number is the last of so many.
-pub(crate) fn is_innermost(function: usize, depth: usize) -> bool
-    ensures { MatchBool result (function + 1 ≡ depth) (function + 1 ≡ depth → ⊥) }
-{
-    function < depth && depth - function == 1
-}
-
-// The same as `bytes_from`, of any function.
-fn bytes_counted<E: TwoEnds<u8, A>, M: TwoEnds<Mark, A>, A: Allocator + Copy>(
-    machine: &Core<E, M, A>,
-    function: usize,
-) -> usize
-    ensures { result ≡ argument_bytes (drop function (reverse machine.now.state.frames)) }
-{
     let mut functions = machine.begun_functions();
     let mut bytes = machine.neutral_len() - machine.base().len();
     for number in 0..function {
@@ -74,13 +58,9 @@ fn bytes_counted<E: TwoEnds<u8, A>, M: TwoEnds<Mark, A>, A: Allocator + Copy>(
     bytes
 }
 
-// How many of so many bytes are left without these arguments before the one of this number.
-fn bytes_after(bytes: usize, arguments: &Args<'_>, argument: usize) -> usize
-    ensures { result ≡ bytes - total_length (take argument arguments.now) }
+// Whether the begun function of this number is the last of so many.
+pub(crate) fn is_innermost(function: usize, depth: usize) -> bool
+    ensures { MatchBool result (function + 1 ≡ depth) (function + 1 ≡ depth → ⊥) }
 {
-    let mut left = bytes;
-    for i in 0..argument.min(arguments.count()) {
-        left = left.saturating_sub(arguments.get(i).len());
-    }
-    left
+    function < depth && depth - function == 1
 }

@@ -1,6 +1,5 @@
 //! Steps back over which a byte is followed without a look at where it comes from.
-ghost use Rattle.std.specs.Prelude.{◌≡◌, ◌+◌, ◌-◌, ◌<◌, ◌≤◌, if◌then◌else◌, length, nat_lt, Bool, IfSome, IsTrue, None};
-ghost use Rattle.std.specs.Prelude.{Some, ℕ};
+ghost use Rattle.std.specs.Prelude.{◌≡◌, ◌+◌, ◌<◌, ◌≤◌, length, Bool, IfSome, IsTrue, Some, ℕ};
 ghost use Rattle.trac_follow.specs.Offsets.{IsPlaced, bytes_left};
 ghost use Rattle.trac_follow.specs.Places.{place_of};
 ghost use Rattle.trac_follow.specs.Running.{CameFrom, StaysAt};
@@ -33,7 +32,7 @@ pub(crate) fn before_run<'a, E: TwoEnds<u8, A>, M: TwoEnds<Mark, A>, A: Allocato
     match place {
         Place::Active(i) => Place::Active(further_on(before.active(), count, i)),
         Place::Base(_) | Place::Argument { .. } => {
-            in_active(past_end(before.neutral_len(), measure.0), place)
+            in_active(measure.0.checked_sub(before.neutral_len()), place)
         }
         Place::Form(_, _) => place,
         Place::Held(_, _, _) => place,
@@ -64,16 +63,6 @@ fn further_on(text: &[u8], count: u64, i: usize) -> usize
         return i;
     }
     first + i
-}
-
-// How far a byte is past so many; none if it is within.
-fn past_end(len: usize, i: usize) -> Option<usize>
-    ensures { result ≡ (if nat_lt i len then None else Some (i - len)) }
-{
-    if i < len {
-        return None;
-    }
-    Some(i - len)
 }
 
 // ---- steps that leave the rest of the active text

@@ -1,15 +1,14 @@
 //! What stands at a place, and what is past the current text.
-ghost use Rattle.std.specs.Prelude.{◌≡◌, ◌+◌, ◌-◌, ◌<◌, ◌≤◌, drop, false, length, slice_get, true, Some, IsTrue};
+ghost use Rattle.std.specs.Prelude.{◌≡◌, ◌+◌, ◌-◌, ◌<◌, ◌≤◌, drop, false, length, true, Some, IsTrue};
 ghost use Rattle.std.specs.Prelude.{ℕ};
-ghost use Rattle.trac_origins.specs.Lengths.{current_text, in_current, is_of_text, is_outside};
-ghost use Rattle.trac_origins.specs.Places.{byte_at, held_form, items_of, InArgument, InForm, InHeld};
+ghost use Rattle.trac_origins.specs.Lengths.{current_text, in_current, is_of_text};
+ghost use Rattle.trac_origins.specs.Places.{byte_at, InArgument, InForm, InHeld};
 ghost use Rattle.trac_rules.specs.declared.item.Item.{Item};
 ghost use Rattle.trac_follow.specs.Places.{IsBare, IsOutside, Stands, is_in_text, place_of};
 
 use crate::fetched::held_in;
 use crate::place::Place;
 use std::alloc::Allocator;
-use trac_forms::Block;
 use trac_gap::TwoEnds;
 use trac_step::{Core, Mark};
 
@@ -23,21 +22,6 @@ pub(crate) fn stands<E: TwoEnds<u8, A>, M: TwoEnds<Mark, A>, A: Allocator + Copy
 {
     match place {
         Place::Active(i) => has_byte(machine.active(), i),
-        _ => stands_elsewhere(machine, place),
-    }
-}
-
-// The same, for a place that is not in the active text.
-pub(crate) fn stands_elsewhere<E: TwoEnds<u8, A>, M: TwoEnds<Mark, A>, A: Allocator + Copy>(
-    machine: &Core<E, M, A>,
-    place: Place<'_>,
-) -> bool
-    ensures there { IsTrue result →
-        Stands machine.now.state (place_of place.entry) × (is_outside (place_of place.entry) ≡ true) }
-    ensures bare { result ≡ false → is_outside (place_of place.entry) ≡ true →
-        IsBare machine.now.state (place_of place.entry) }
-{
-    match place {
         Place::Base(i) => has_byte(machine.base(), i),
         Place::Argument {
             function,
@@ -47,7 +31,6 @@ pub(crate) fn stands_elsewhere<E: TwoEnds<u8, A>, M: TwoEnds<Mark, A>, A: Alloca
         Place::Form(name, i) => stands_in_form(machine, name, i),
         Place::Held(number, name, i) => stands_in_block(machine, number, name, i),
         Place::Output(i) => has_byte(machine.output(), i),
-        Place::Active(_) => false,
     }
 }
 
@@ -138,20 +121,7 @@ fn stands_in_block<E: TwoEnds<u8, A>, M: TwoEnds<Mark, A>, A: Allocator + Copy>(
     ensures there { IsTrue result → Stands machine.now.state (InHeld number name.now i) }
     ensures bare { result ≡ false → IsBare machine.now.state (InHeld number name.now i) }
 {
-    match machine.store().block(number) {
-        Some(block) => holds_item(block, name, i),
-        None => false,
-    }
-}
-
-// The same, of this block.
-fn holds_item<A: Allocator + Copy>(block: &Block<A>, name: &[u8], i: usize) -> bool
-    ensures there { IsTrue result →
-        (item : Item) × (slice_get (items_of (held_form name.now (Some block.now.held))) i ≡ Some item) }
-    ensures bare { result ≡ false → (item : Item) →
-        slice_get (items_of (held_form name.now (Some block.now.held))) i ≡ Some item → ⊥ }
-{
-    match held_in(block, name) {
+    match held_in(machine.store(), number, name) {
         Some(form) => form.item(i).is_some(),
         None => false,
     }

@@ -1,15 +1,17 @@
-use Rattle.std.proofs.Common.{◌≡◌, ℕ, List, length, refl, sym, ap, subst, ◌∙◌}
+use Rattle.std.proofs.Common.{◌≡◌, ℕ, ◌<◌, ◌≤◌, List, length, refl, sym, ap, subst, ◌∙◌, arith}
 use Rattle.trac_forms.specs.Stored.{Stored, storage_in}
 use Rattle.trac_rules.specs.Effect.{argument}
 use Rattle.trac_rules.specs.Performing.{primitive_of}
 use Rattle.trac_follow.specs.Fetched.{block_named, place_fetched}
-use Rattle.trac_follow.specs.Places.{place_of}
+use Rattle.trac_origins.specs.Places.{InForm}
+use Rattle.trac_origins.specs.Stepping.{origin}
+use Rattle.trac_follow.specs.Places.{Tells, place_of}
 use Rattle.trac_follow.specs.declared.called.Put as code
 use Rattle.trac_follow.proofs.CallsTold.{number_is}
 use Rattle.trac_follow.proofs.FetchedTold.{fetched_tells}
 use Rattle.trac_follow.proofs.FormCalls.{cut_tells}
 use Rattle.trac_follow.proofs.Staying.{form_unchanged}
-use Rattle.trac_follow.proofs.ValuesTold.{IsFor, address_is, is_put_by, put_tells}
+use Rattle.trac_follow.proofs.ValuesTold.{IsFor, address_is, defined_is, defined_within_text, is_put_by}
 use Rattle.trac_follow.proofs.called.of_form.Given.{Over}
 use Rattle.trac_follow.proofs.called.of_form.Goals as goal
 use Rattle.trac_follow.proofs.called.of_form.Goals.{After-put_by}
@@ -24,17 +26,28 @@ puts g c put is =
 
 pub returns-in-Text-clause-tells : goal.returns-in-Text-clause-tells
 returns-in-Text-clause-tells g c = λ width environment t item wide h lengths stands.
+    let s = c.args.before.now.state in
     let call = c.requires.call in
     let is = puts g (goal.at.returns-in-Text-clause-tells g c).After-put_by code.TheVariants.Text c.in-Text.is in
-    put_tells environment c.args.before.now.state t call.0 h call.1 is.0 c.args.name.now c.args.i c.innermost.result (length c.get.result.now) c.put_byte.result is.1
-    (number_is c.args.before.now.state call.0 call.1 c.innermost.result (c.innermost.ensures call.0 call.1))
-    (ap (λ text. length text) c.get.ensures ∙ ap (λ texts. length (argument 2 texts)) (sym call.2)) item stands c.put_byte.ensures
+    subst (λ o. Tells s o (origin environment s (InForm c.args.name.now c.args.i))) (sym c.argument_byte.ensures)
+    (defined_is environment s t call.0 h call.1 c.args.name.now c.args.i c.innermost.result is.0 is.1 (number_is s call.0 call.1 c.innermost.result (c.innermost.ensures call.0 call.1))
+    (subst (λ text. c.args.i < length text) (c.get.ensures ∙ ap (argument 2) (sym call.2)) c.if-i-get.true))
+
+pub returns-in-Text-2-clause-tells : goal.returns-in-Text-2-clause-tells
+returns-in-Text-2-clause-tells g c = λ width environment t item wide h lengths stands.
+    let call = c.requires.call in
+    let is = puts g (goal.at.returns-in-Text-2-clause-tells g c).After-put_by code.TheVariants.Text c.in-Text-2.is in
+    absurd (omega (
+      arith,
+      defined_within_text environment c.args.before.now.state t call.0 h call.1 c.args.name.now c.args.i item is.0 is.1 stands,
+      subst (λ text. length text ≤ c.args.i) (c.get.ensures ∙ ap (argument 2) (sym call.2)) c.if-i-get.false,
+    ))
 
 pub returns-in-Cut-clause-tells : goal.returns-in-Cut-clause-tells
 returns-in-Cut-clause-tells g c = λ width environment t item wide h lengths stands.
     let call = c.requires.call in
     let is = puts g (goal.at.returns-in-Cut-clause-tells g c).After-put_by code.TheVariants.Cut c.in-Cut.is in
-    cut_tells environment c.args.before.now.state t call.0 h call.1 is.0 c.args.name.now c.args.after c.args.i item c.form_cut.result is.1 lengths.measured stands c.form_cut.ensures
+    cut_tells environment c.args.before.now.state t call.0 h call.1 is.0 c.args.name.now c.args.after c.args.i item c.cut_item.result is.1 lengths.measured stands c.cut_item.ensures
 
 pub returns-in-Fetched-clause-tells : goal.returns-in-Fetched-clause-tells
 returns-in-Fetched-clause-tells g c = λ width environment t item wide h lengths stands.

@@ -39,6 +39,6 @@ returns-in_default-clause-tells g c = λ width environment t item wide h lengths
     let shows = prints_form c.primitive_named-primitive.result (sym c.is_silent.ensures ∙ c.if-is_silent.false) c.in_default.not-PrintString in
     shown_tells environment s t call.0 h call.1
     (named_by s c.args.arguments.now call c.primitive_named-primitive.result c.get.result.now c.get.ensures c.primitive_named-primitive.ensures ∙ shows)
-    c.get-in_default.result.now c.args.after.output c.args.i c.form_shown.result
+    c.get-in_default.result.now c.args.after.output c.args.i c.shown_byte.result
     (c.get-in_default.ensures ∙ ap (argument 1) (sym call.2)) lengths.output
-    (subst (λ text. length text ≤ c.args.i) c.output.ensures c.if-i-output.false) (byte_within c.args.i t.output item stands) c.form_shown.ensures.tells
+    (subst (λ text. length text ≤ c.args.i) c.output.ensures c.if-i-output.false) (byte_within c.args.i t.output item stands) c.shown_byte.ensures.tells

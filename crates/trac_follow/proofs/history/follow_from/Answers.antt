@@ -1,6 +1,6 @@
 -- Each end of the loop is that of a byte that was carried so far.
 use Rattle.std.proofs.Common.{length, refl, sym, ◌∙◌, inl, inr, ap, subst, arith}
-use Rattle.trac_rules.specs.Session.{PlainSession, Back, over, repeated}
+use Rattle.trac_rules.specs.Session.{PlainSession, over}
 use Rattle.trac_rules.specs.State.{State}
 use Rattle.trac_follow.specs.Following.{IsKnown}
 use Rattle.trac_follow.specs.Offsets.{IsPlaced}
@@ -9,7 +9,7 @@ use Rattle.trac_follow.proofs.RunsBack.{before_by, run_on, run_placed, same_sess
 use Rattle.trac_follow.proofs.StepsBack.{begins, GoesBack, HasTold, has_told, no_way_back, none_by_test, seen_lengths, some_by_test, step_to, stops, turned_end, turned_on, walked_on, went_back}
 use Rattle.trac_follow.proofs.history.follow_from.Given.{Over}
 use Rattle.trac_follow.proofs.history.follow_from.Goals as goal
-use Rattle.trac_follow.proofs.history.follow_from.Goals.{After-back, After-turned, else-loop-steps-test, then-loop-steps-test+else-count-gt0+then-is_some}
+use Rattle.trac_follow.proofs.history.follow_from.Goals.{After-back, After-turn_of, else-loop-steps-test, then-loop-steps-test+else-count-gt0+then-is_some}
 
 pub loop-steps-init : goal.loop-steps-init
 loop-steps-init g c = (
@@ -48,16 +48,16 @@ came g c =
     )
 
 -- and what is told of it
-told : (g : Over) (c : After-turned g) → HasTold c.args.width c.args.session.now c.pass_back-count.new.self c.back.new.self (place_of c.args.place) (place_of c.loop-steps.here) c.loop-steps.steps c.turned.ensures.0
+told : (g : Over) (c : After-turn_of g) → HasTold c.args.width c.args.session.now c.pass_back-count.new.self c.back.new.self (place_of c.args.place) (place_of c.loop-steps.here) c.loop-steps.steps c.origin_of-origin.result
 told g c =
-    let known = came g (goal.at.After-turned g c).After-back in
+    let known = came g (goal.at.After-turn_of g c).After-back in
     has_told c.args.session.now c.pass_back-count.new.self c.back.new.self (place_of c.args.place) (place_of c.loop-steps.here) c.loop-steps.steps c.back.result.done c.back.result.why
-    c.is_some.result c.args.width c.seen_after-after.result c.machine-in-loop-steps.result.now.state c.machine-in-loop-steps-4.result.now.state c.turned.ensures.0
+    c.is_some.result c.args.width c.seen_after-after.result c.machine-in-loop-steps.result.now.state c.machine-in-loop-steps-4.result.now.state c.origin_of-origin.result
     known.0 c.back.ensures c.is_some.ensures c.if-is_some.false c.machine-in-loop-steps.ensures.last
     (λ trail.
     seen_lengths c.seen_after-after.result c.machine-in-loop-steps.result.now.state c.pass_back-count.new.self (place_of c.loop-steps.here) c.loop-steps.measure.0 c.loop-steps.measure.1
     c.seen_after-after.ensures.active c.seen_after-after.ensures.output c.seen_after-after.ensures.extent c.seen_after-after.ensures.gap c.seen_after-after.ensures.read c.machine-in-loop-steps.ensures.last (known.1 trail))
-    c.machine-in-loop-steps-4.ensures.last c.turned.ensures.1
+    c.machine-in-loop-steps-4.ensures.last c.origin_of-origin.ensures.tells
 
 pub loop-steps-preserved-in-Some : goal.loop-steps-preserved-in-Some
 loop-steps-preserved-in-Some g c =
@@ -82,9 +82,9 @@ loop-steps-preserved-then-stays g c =
 
 pub loop-steps-preserved : goal.loop-steps-preserved
 loop-steps-preserved g c =
-    let has = told g (goal.at.loop-steps-preserved g c).After-turned in
-    let on = turned_on c.args.session.now c.pass_back-count.new.self c.back.new.self (place_of c.args.place) (place_of c.loop-steps.here) c.loop-steps.steps c.turned.ensures.0 c.args.width has
-    c.machine-in-loop-steps-4.result.now.state c.loop-steps.here c.turned.result c.in-On.there c.machine-in-loop-steps-4.ensures.last refl c.turned.ensures.2 c.in-On.is in (
+    let has = told g (goal.at.loop-steps-preserved g c).After-turn_of in
+    let on = turned_on c.args.session.now c.pass_back-count.new.self c.back.new.self (place_of c.args.place) (place_of c.loop-steps.here) c.loop-steps.steps c.origin_of-origin.result c.args.width has
+    c.machine-in-loop-steps-5.result.now.state c.loop-steps.here c.turn_of.result c.in-On.there c.machine-in-loop-steps-5.ensures.last refl c.turn_of.ensures c.in-On.is in (
       omega (arith, c.loop-steps-test.true),
       on,
       λ trail.
@@ -94,29 +94,26 @@ loop-steps-preserved g c =
 
 pub returns-in-Found-clause-followed : goal.returns-in-Found-clause-followed
 returns-in-Found-clause-followed g c = λ known.
-    let has = told g (goal.at.returns-in-Found-clause-followed g c).After-turned in
-    turned_end c.args.session.now c.pass_back-count.new.self c.back.new.self (place_of c.args.place) (place_of c.loop-steps.here) c.loop-steps.steps c.turned.ensures.0 c.args.width has
-    c.machine-in-loop-steps-4.result.now.state c.args.most c.loop-steps.here c.turned.result c.in-Found.source c.found.result c.machine-in-loop-steps-4.ensures.last refl c.turned.ensures.2 c.in-Found.is
-    c.found.ensures.steps c.found.ensures.source known
+    let has = told g (goal.at.returns-in-Found-clause-followed g c).After-turn_of in
+    turned_end c.args.session.now c.pass_back-count.new.self c.back.new.self (place_of c.args.place) (place_of c.loop-steps.here) c.loop-steps.steps c.origin_of-origin.result c.args.width has
+    c.machine-in-loop-steps-5.result.now.state c.args.most c.loop-steps.here c.turn_of.result c.in-Found.source _ c.machine-in-loop-steps-5.ensures.last refl c.turn_of.ensures c.in-Found.is refl refl known
 
 pub returns-clause-followed : goal.returns-clause-followed
 returns-clause-followed g c = λ known.
     elim c.loop-steps-test.branch [
       | else-loop-steps-test w ↦
-          stops c.args.width c.args.session.now c.loop-steps.session c.loop-steps-test.session (place_of c.args.place) (place_of c.loop-steps.here) c.args.most c.loop-steps.steps c.loop-steps.here c.found-2.result refl
-          c.loop-steps.invariant.1 (inl (omega (arith, w.loop-steps-test.false, c.loop-steps.invariant.0))) w.session-is c.found-2.ensures.steps c.found-2.ensures.source known
+          stops c.args.width c.args.session.now c.loop-steps.session c.loop-steps-test.session (place_of c.args.place) (place_of c.loop-steps.here) c.args.most c.loop-steps.steps c.loop-steps.here _ refl
+          c.loop-steps.invariant.1 (inl (omega (arith, w.loop-steps-test.false, c.loop-steps.invariant.0))) w.session-is refl refl known
       | then-loop-steps-test+else-count-gt0+then-is_some w ↦
           let same = same_session w.pass_back-count.result c.loop-steps.session w.pass_back-count.new.self w.pass_back-count.ensures.passed w.if-count-gt0.false in
           let refusal = some_by_test w.back.result.why w.is_some.result w.is_some.ensures w.if-is_some.true in
           let nowhere = no_way_back w.pass_back-count.new.self w.back.new.self w.back.result.done w.back.result.why refusal.0 w.back.ensures refusal.1 in
-          stops c.args.width c.args.session.now c.loop-steps.session c.loop-steps-test.session (place_of c.args.place) (place_of c.loop-steps.here) c.args.most c.loop-steps.steps c.loop-steps.here c.found-2.result refl
-          c.loop-steps.invariant.1 (inr (ap (λ (p : PlainSession). p.earlier) (same ∙ sym nowhere.0) ∙ nowhere.1)) (w.session-is ∙ nowhere.0 ∙ sym same)
-          c.found-2.ensures.steps c.found-2.ensures.source known
+          stops c.args.width c.args.session.now c.loop-steps.session c.loop-steps-test.session (place_of c.args.place) (place_of c.loop-steps.here) c.args.most c.loop-steps.steps c.loop-steps.here _ refl
+          c.loop-steps.invariant.1 (inr (ap (λ (p : PlainSession). p.earlier) (same ∙ sym nowhere.0) ∙ nowhere.1)) (w.session-is ∙ nowhere.0 ∙ sym same) refl refl known
     ]
 
 pub returns-in-Found-clause-back : goal.returns-in-Found-clause-back
 returns-in-Found-clause-back g c =
     let known = came g (goal.at.returns-in-Found-clause-back g c).After-back in
     let went = went_back c.pass_back-count.new.self c.back.new.self c.back.result.done c.back.result.why c.back.ensures (none_by_test c.back.result.why c.is_some.result c.is_some.ensures c.if-is_some.false) in
-    ap (λ n. repeated Back n c.args.session.now) c.found.ensures.steps
-    ∙ walked_on c.args.width c.args.session.now c.pass_back-count.new.self c.back.new.self (place_of c.args.place) (place_of c.loop-steps.here) c.loop-steps.steps known.0 went
+    walked_on c.args.width c.args.session.now c.pass_back-count.new.self c.back.new.self (place_of c.args.place) (place_of c.loop-steps.here) c.loop-steps.steps known.0 went

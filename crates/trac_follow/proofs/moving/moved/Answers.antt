@@ -1,8 +1,15 @@
+use Rattle.std.proofs.Common.{◌≡◌, ℕ, true, refl}
+use Rattle.trac_origins.specs.Lengths.{is_outside}
 use Rattle.trac_follow.specs.Places.{place_of}
+use Rattle.trac_follow.specs.declared.place.Place as code_place
 use Rattle.trac_follow.proofs.Scanned.{stays_carried}
 use Rattle.trac_follow.proofs.moving.moved.Goals as goal
 
-pub returns-then-stands_elsewhere-clause-tells : goal.returns-then-stands_elsewhere-clause-tells
-returns-then-stands_elsewhere-clause-tells g c = λ environment t item h is left stands.
-    let there = c.stands_elsewhere.ensures.there c.if-stands_elsewhere.true in
-    stays_carried environment c.args.before.now.state t (place_of c.args.place) there.0.0 item is there.1 there.0.1 stands
+outside : (p : code_place.Place) → ((i : ℕ) → p ≡ code_place.TheVariants.Active i → ⊥) → is_outside (place_of p) ≡ true
+outside (code_place.TheVariants.Active i) other = absurd (other i refl)
+outside p other = refl
+
+pub returns-then-stands-clause-tells : goal.returns-then-stands-clause-tells
+returns-then-stands-clause-tells g c = λ environment t item h is left stands.
+    let there = c.stands.ensures.there c.if-stands.true in
+    stays_carried environment c.args.before.now.state t (place_of c.args.place) there.0 item is (outside c.args.place c.in_default.not-Active) there.1 stands

@@ -1,5 +1,5 @@
-use Rattle.std.proofs.Common.{◌≡◌, ◌-◌, true, ap, ◌∙◌, inl, inr}
-use Rattle.std.specs.Prelude.{None, Some, if◌then◌else◌, nat_lt}
+use Rattle.std.proofs.Common.{◌≡◌, ◌-◌, ◌≤◌, true, ap, subst, ◌∙◌, inl, inr}
+use Rattle.std.specs.Prelude.{SomeIff}
 use Rattle.trac_follow.specs.Places.{is_in_text, place_of}
 use Rattle.trac_follow.proofs.Staying.{text_before}
 use Rattle.trac_follow.proofs.running.before_run.Goals as goal
@@ -11,6 +11,5 @@ returns-in-Base g c = λ item within stands placed.
       | inr at ↦ ap (λ p. is_in_text (place_of p)) at.3
     ] in
     c.in_active.ensures
-    ∙ text_before c.args.count c.args.before.now.state (place_of c.args.place) c.args.measure.0 c.args.measure.1 item c.past_end.result text stands placed
-    (c.past_end.ensures
-    ∙ ap (λ n. if nat_lt c.args.measure.0 n then None else Some (c.args.measure.0 - n)) c.neutral_len.ensures)
+    ∙ text_before c.args.count c.args.before.now.state (place_of c.args.place) c.args.measure.0 c.args.measure.1 item c.checked_sub.result text stands placed
+    (subst (λ n. SomeIff c.checked_sub.result (n ≤ c.args.measure.0) (c.args.measure.0 - n)) c.neutral_len.ensures c.checked_sub.ensures)

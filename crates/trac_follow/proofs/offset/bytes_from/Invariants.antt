@@ -1,6 +1,6 @@
 use Rattle.std.proofs.Common.{◌≡◌, drop, reverse}
 use Rattle.trac_rules.specs.Limits.{argument_bytes}
-use Rattle.trac_follow.proofs.offset.bytes_counted.Given as goal
+use Rattle.trac_follow.proofs.offset.bytes_from.Given as goal
 
 -- so many bytes do the functions hold that are left
 abbrev pub invariant-loop-number : goal.invariant-loop-number
