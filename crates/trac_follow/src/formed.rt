@@ -174,8 +174,8 @@ fn byte_from<'a, A: Allocator + Copy>(form: &Form<A>, first: usize, i: usize) ->
     Origin::OfForm(first + given.at)
 }
 
-// Of what `pf` prints of the form of this name, after which the output ends: bytes are the form's, and marks made, as is
-// the line before it. Without a form it prints nothing, so what is new is that line.
+// Of what `pf` prints of the form of this name, after which the output ends: bytes are the form's, and marks made, as
+// is the line before it. Without a form it prints nothing, so what is new is that line.
 pub(crate) fn shown_byte<'a, E: TwoEnds<u8, A>, M: TwoEnds<Mark, A>, A: Allocator + Copy>(
     before: &Core<E, M, A>,
     name: &[u8],
