@@ -1,7 +1,7 @@
 //! The doubts of the next step.
 ghost use Rattle.std.specs.Prelude.{◌≡◌, option_map, IfOk, IsOkUnless};
 ghost use Rattle.trac_doubts.specs.Ahead.{doubts_ahead};
-ghost use Rattle.trac_rules.specs.Doubts.{doubts, is_doubtful};
+ghost use Rattle.trac_rules.specs.Doubts.{doubts};
 ghost use Rattle.trac_rules.specs.Goals.{next_call};
 
 use crate::session::Session;
@@ -27,18 +27,8 @@ impl<A: Allocator + Copy> Session<A> {
     }
 }
 
-// Whether there is a doubt of a machine's next step, numbers being of this width.
-pub(crate) fn has_doubt<E: TwoEnds<u8, A>, M: TwoEnds<Mark, A>, A: Allocator + Copy>(
-    machine: &Core<E, M, A>,
-    width: Width,
-) -> bool
-    ensures { result ≡ is_doubtful width machine.now.state }
-{
-    ahead(machine, width).is_doubtful()
-}
-
 // What a machine's next step is judged by.
-fn ahead<E: TwoEnds<u8, A>, M: TwoEnds<Mark, A>, A: Allocator + Copy>(
+pub(crate) fn ahead<E: TwoEnds<u8, A>, M: TwoEnds<Mark, A>, A: Allocator + Copy>(
     machine: &Core<E, M, A>,
     width: Width,
 ) -> Ahead<'_, A>

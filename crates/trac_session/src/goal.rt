@@ -1,15 +1,14 @@
 //! What walks look for.
 ghost use Rattle.std.specs.Prelude.{◌≡◌, bytes_eq, is_some, map, option_copied, false, Some, true};
 ghost use Rattle.std.specs.List.{starts_with};
-ghost use Rattle.trac_rules.specs.Goals.{frame_at, has_other_form, is_begun_with, is_call_with, is_end_of, is_form_as};
-ghost use Rattle.trac_rules.specs.Goals.{is_idle_printing, is_idle_reading, is_own_call, is_same_form, is_same_item};
-ghost use Rattle.trac_rules.specs.Goals.{next_call};
+ghost use Rattle.trac_rules.specs.Goals.{frame_at, is_begun_with, is_form_as, is_idle_printing, is_idle_reading};
+ghost use Rattle.trac_rules.specs.Goals.{is_same_form, is_same_item, next_call};
 ghost use Rattle.trac_rules.specs.declared.item.Item.{Item};
 ghost use Rattle.trac_rules.specs.State.{State};
 ghost use Rattle.trac_session.specs.Goals.{goal_of};
 ghost use Rattle.trac_session.specs.Runs.{IsQuiet};
 
-use crate::doubts::has_doubt;
+use crate::doubts::ahead;
 use std::alloc::{AllocError, Allocator, Global};
 use trac_forms::{Form, Item};
 use trac_gap::TwoEnds;
@@ -81,14 +80,19 @@ pub(crate) fn is_met<E: TwoEnds<u8, A>, M: TwoEnds<Mark, A>, A: Allocator + Copy
     ensures { result ≡ goal_of goal.now machine.now.state }
 {
     match goal {
-        Goal::Call(wanted) => is_before_call(machine, wanted),
-        Goal::OwnCall => is_before_own_call(machine),
-        Goal::End(depth) => is_at_end(machine, *depth),
+        Goal::Call(wanted) => match machine.next_call() {
+            Some((_, arguments)) => begin_with(&arguments, wanted),
+            None => false,
+        },
+        Goal::OwnCall => is_calling(machine) && !(reads_idly(machine) || prints_idly(machine)),
+        Goal::End(depth) => is_calling(machine) && machine.depth() == *depth,
         Goal::Shallower(count) => machine.depth() < *count,
         Goal::Rest(most) => machine.active().len() <= *most,
-        Goal::OtherForm(name, form) => has_other_form(machine, name, form),
+        Goal::OtherForm(name, form) => {
+            is_calling(machine) && !are_alike(machine.store().get(name), form)
+        }
         Goal::Unprinted(count) => machine.output().len() <= *count,
-        Goal::Doubtful(width) => has_doubt(machine, *width),
+        Goal::Doubtful(width) => ahead(machine, *width).is_doubtful(),
     }
 }
 
@@ -99,27 +103,6 @@ fn is_calling<E: TwoEnds<u8, A>, M: TwoEnds<Mark, A>, A: Allocator + Copy>(
     ensures { result ≡ is_some (next_call machine.now.state) }
 {
     machine.next_call().is_some()
-}
-
-// Whether it performs the begun function of this number, the outermost being number 1.
-fn is_at_end<E: TwoEnds<u8, A>, M: TwoEnds<Mark, A>, A: Allocator + Copy>(
-    machine: &Core<E, M, A>,
-    depth: usize,
-) -> bool
-    ensures { result ≡ is_end_of depth machine.now.state }
-{
-    is_calling(machine) && machine.depth() == depth
-}
-
-// Whether it performs a call, and the form of this name is another one than this.
-fn has_other_form<E: TwoEnds<u8, A>, M: TwoEnds<Mark, A>, A: Allocator + Copy>(
-    machine: &Core<E, M, A>,
-    name: &[u8],
-    form: &Option<Form<A>>,
-) -> bool
-    ensures { result ≡ has_other_form name.now form.now machine.now.state }
-{
-    is_calling(machine) && !are_alike(machine.store().get(name), form)
 }
 
 // Whether arguments begin with these.
@@ -135,19 +118,6 @@ fn begin_with(arguments: &Args<'_>, wanted: &[&[u8]]) -> bool
         }
     }
     true
-}
-
-// Whether the next step performs a call whose first arguments are these.
-fn is_before_call<E: TwoEnds<u8, A>, M: TwoEnds<Mark, A>, A: Allocator + Copy>(
-    machine: &Core<E, M, A>,
-    wanted: &[&[u8]],
-) -> bool
-    ensures { result ≡ is_call_with (map (λ text. text.now) wanted.now) machine.now.state }
-{
-    match machine.next_call() {
-        Some((_, arguments)) => begin_with(&arguments, wanted),
-        None => false,
-    }
 }
 
 // Whether the begun function of this number is active, and its arguments begin with these.
@@ -183,15 +153,6 @@ fn prints_idly<E: TwoEnds<u8, A>, M: TwoEnds<Mark, A>, A: Allocator + Copy>(
     ensures { result ≡ is_idle_printing machine.now.state }
 {
     machine.active() == b")".as_slice() && machine.depth() == 1 && has_begun(machine, 0, &[b"ps"])
-}
-
-// Whether the next step performs a call that is not the idle program's.
-fn is_before_own_call<E: TwoEnds<u8, A>, M: TwoEnds<Mark, A>, A: Allocator + Copy>(
-    machine: &Core<E, M, A>,
-) -> bool
-    ensures { result ≡ is_own_call machine.now.state }
-{
-    is_calling(machine) && !(reads_idly(machine) || prints_idly(machine))
 }
 
 // Whether there is a form on neither side, or the same one on both.

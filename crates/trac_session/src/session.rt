@@ -164,28 +164,16 @@ impl<A: Allocator + Copy> Session<A> {
     pub fn commit(&mut self, keep: usize)
         ensures { answer (Commit keep) self.old ≡ record { reply = Done; session = self.new } }
     {
+        // With no state before it the last one needs no name of a deleted form.
         if keep == 0 {
-            self.keep_none();
-        } else {
-            self.keep_last(keep);
+            settle(&mut self.machine, &mut self.tape);
+            self.journal.clear();
+            return;
         }
-    }
-
-    // Keeps the last state alone. With no state before it none needs the name of a deleted form.
-    fn keep_none(&mut self)
-        ensures { answer (Commit 0) self.old ≡ record { reply = Done; session = self.new } }
-    {
-        settle(&mut self.machine, &mut self.tape);
-        self.journal.clear();
-    }
-
-    // Keeps the last state and so many before it. What is released is told by the records that are dropped, since the
-    // first state of a session has no output and has read nothing.
-    fn keep_last(&mut self, keep: usize)
-        ensures { answer (Commit keep) self.old ≡ record { reply = Done; session = self.new } }
-    {
         // `len` is called for what it says: the sums of what was printed are no longer than the output, and fit a word.
         let _len = self.machine.output().len();
+        // What is released is told by the records that are dropped, since the first state of a session has no output
+        // and has read nothing.
         let passed = self.journal.keep_newest(keep);
         self.tape.drop_front(passed.read);
         self.machine.release(passed.printed, passed.read);

@@ -168,13 +168,6 @@ impl<A: Allocator + Copy> Session<A> {
         }
     }
 
-    // How many steps back a search may take: all that there are, and one even if there is none, which is then refused.
-    fn steps_back(&self) -> u64
-        ensures { result ≡ max 1 (length self.now.earlier) }
-    {
-        self.len().max(1) as u64
-    }
-
     /// Goes forward by up to `n` steps, until one is refused: as `JournalFull`, `NeedInput`, `Ended`, `TooLong` or
     /// `Memory`, which the walk returns.
     pub fn forward(&mut self, n: u64) -> Walk
@@ -238,7 +231,8 @@ impl<A: Allocator + Copy> Session<A> {
         ensures { IsSearch Back (goal_of goal.entry) (max 1 (length self.old.earlier)) self.old result.done
             result.why self.new }
     {
-        let walk = self.walk(Direction::Backward, &goal, self.steps_back());
+        // Over all steps that there are, and one even if there is none, which is then refused.
+        let walk = self.walk(Direction::Backward, &goal, self.len().max(1) as u64);
         self.searched(&goal, walk)
     }
 
