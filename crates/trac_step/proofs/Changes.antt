@@ -1,6 +1,6 @@
 -- What each rule does to the parts of a machine: they stay sound, and show the state that the rule names.
-use Rattle.std.proofs.Common.{◌≡◌, ℕ, zero, suc, ◌+◌, ◌<◌, ◌≤◌, List, [], ◌∷◌, ◌++◌, length, take, drop, reverse, refl, sym, ap, ◌∙◌, subst, arith, true, false, Bool}
-use Rattle.std.specs.Prelude.{Option, None, ◌==◌}
+use Rattle.std.proofs.Common.{◌≡◌, ℕ, zero, suc, ◌+◌, ◌<◌, ◌≤◌, List, [], ◌∷◌, ◌++◌, length, take, drop, reverse, refl, sym, ap, ◌∙◌, subst, arith, false, Bool}
+use Rattle.std.specs.Prelude.{Option, None}
 use Rattle.std.proofs.lemmas.List.{length-append, length-drop, length-take}
 use Rattle.std.specs.FinSet as set
 use Rattle.trac_gap.specs.Ends.{Ends, item_count}
@@ -102,14 +102,6 @@ has_marks p s sound view h = has_marks_by (length p.marks) (marks_of_view p s so
     has_marks_by : (n : ℕ) → marks s.frames ≡ n → 0 < n
     has_marks_by zero e = absurd (omega (arith, no_marks s.frames e))
     has_marks_by (suc n) e = omega arith
-
--- where a test for no marks fails, there are some
-pub some_marks : (ms all : List Mark) (b : Bool) → b ≡ (length ms == 0) → b ≡ false → ms ≡ all → 0 < length all
-some_marks ms all b is unset same = some_by (length all) (sym unset ∙ is ∙ ap (λ (xs : List Mark). length xs == 0) same)
-  where
-    some_by : (n : ℕ) → false ≡ (n == 0) → 0 < n
-    some_by zero e = absurd (let unset : false ≡ true = e in cc)
-    some_by (suc n) e = omega arith
 
 -- ---- other rooms
 

@@ -13,7 +13,6 @@ ghost use Rattle.trac_text.specs.Cuts.{cut};
 ghost use Rattle.trac_change.specs.declared.change.Change.TheVariants.{Keep};
 ghost use Rattle.trac_prims.specs.Tape.{environment_of};
 ghost use Rattle.trac_change.specs.Changes.{undone_of};
-ghost use Rattle.trac_text.specs.Pieces.{all_texts};
 ghost use Rattle.trac_journal.specs.Told.{record_with};
 ghost use Rattle.trac_change.specs.Undone.{undone_in};
 ghost use Rattle.trac_step.specs.Calling.{BeginsInnermost, HasRoomFor, IsBegun, arguments_in, state_after, state_ended};
@@ -212,17 +211,6 @@ impl<E: TwoEnds<u8, A>, M: TwoEnds<Mark, A>, A: Allocator + Copy> Core<E, M, A> 
         self.position = plan.position;
     }
 
-    // A copy of the arguments of the call that the next step performs, whose function begins here.
-    fn copied_arguments(&self, beginning: Beginning) -> Result<Pieces<A>, Refusal>
-        requires front { front_of self.now.state.active ≡ Front.Closing }
-        requires begins { BeginsInnermost self.now.state beginning }
-        ensures same { IfOk result (λ p. all_texts p ≡ arguments_in (scan self.now.state)) }
-        ensures err { IsOkUnless result Refusal.Memory }
-    {
-        let arguments = arguments_at(&self.text, &self.marks, beginning);
-        Pieces::of(*self.output.allocator(), &arguments)
-    }
-
     // Performs the call that is planned, and returns its record. It is refused memory alone, and then the state stays.
     fn perform(
         &mut self,
@@ -237,7 +225,8 @@ impl<E: TwoEnds<u8, A>, M: TwoEnds<Mark, A>, A: Allocator + Copy> Core<E, M, A> 
         ensures err { IsOkUnless result Refusal.Memory }
         ensures room { IsNoLess self.old self.new }
     {
-        let arguments = self.copied_arguments(plan.beginning)?;
+        let lent = arguments_at(&self.text, &self.marks, plan.beginning);
+        let arguments = Pieces::of(*self.output.allocator(), &lent)?;
         self.make_room(made)?;
         let undone = self.change_storage(plan.beginning, change)?;
         self.end_call(plan, made);

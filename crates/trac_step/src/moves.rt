@@ -1,5 +1,5 @@
 //! The steps that perform no function.
-ghost use Rattle.std.specs.Prelude.{◌≡◌, ◌≢◌, ◌<◌, ◌≤◌, get_or, length, true, None};
+ghost use Rattle.std.specs.Prelude.{◌≡◌, ◌<◌, ◌≤◌, get_or, length, true, None};
 ghost use Rattle.std.specs.Prelude.{IfOk, IsOkUnless, OnErr, OnOk};
 ghost use Rattle.trac_rules.specs.Scanning.{deleted, front_of, scan, Moves};
 ghost use Rattle.trac_rules.specs.declared.limit.TheConstants.{JOURNAL_LIMIT};
@@ -34,43 +34,6 @@ impl<E: TwoEnds<u8, A>, M: TwoEnds<Mark, A>, A: Allocator + Copy> Core<E, M, A> 
         !makes_mark(front, marks) || marks < MARK_LIMIT
     }
 
-    // Carries out the rule for this front, which asks for no call and does not empty all
-    // texts, and returns what it destroys.
-    fn move_briefly(&mut self, front: Front) -> Result<Short, Refusal>
-        requires front { front ≡ front_of self.old.state.active }
-        requires moves { IsMove (scan self.old.state) }
-        requires fits { IfMoves (scan self.old.state) (λ t. texts_fit t ≡ true) }
-        requires some { front ≢ Front.Nothing }
-        ensures ok { OnOk result (scan self.old.state ≡ Moves self.new.state) }
-        ensures recorded { IfOk result (λ r. said_by r ≡ recorded self.old.state) }
-        ensures room { IsNoLess self.old self.new }
-        ensures unchanged { OnErr result (self.new ≡ self.old) }
-        ensures lacking { OnErr result (LacksRoomAhead self.old) }
-        ensures err { IsOkUnless result Refusal.Memory }
-    {
-        match front {
-            Front::Nothing => unreachable!(),
-            Front::Opening => {
-                let (inner, closed) = self.protect();
-                Ok(Short::Quoted { inner, closed })
-            }
-            Front::Comma => self.comma(),
-            Front::Layout | Front::Closing => Ok(Short::Deleted(self.delete_first())),
-            Front::ActiveCall => {
-                self.mark(2, Some(Kind::Active))?;
-                Ok(Short::Begun)
-            }
-            Front::NeutralCall => {
-                self.mark(3, Some(Kind::Neutral))?;
-                Ok(Short::Begun)
-            }
-            Front::Sharp | Front::Plain => {
-                self.gather_first();
-                Ok(Short::Moved)
-            }
-        }
-    }
-
     // Carries out the rule for this front, which asks for no call, and returns what it destroys.
     fn move_on(&mut self, front: Front) -> Result<Record<A>, Refusal>
         requires front { front ≡ front_of self.old.state.active }
@@ -88,9 +51,29 @@ impl<E: TwoEnds<u8, A>, M: TwoEnds<Mark, A>, A: Allocator + Copy> Core<E, M, A> 
                 let (base, frames) = self.reload()?;
                 Ok(Record::Idle { base, frames })
             }
-            _ => {
-                let short = self.move_briefly(front)?;
-                Ok(Record::of_short(short))
+            Front::Opening => {
+                let (inner, closed) = self.protect();
+                Ok(Record::Quoted { inner, closed })
+            }
+            Front::Layout | Front::Closing => Ok(Record::Deleted(self.delete_first())),
+            Front::ActiveCall => {
+                self.mark(2, Some(Kind::Active))?;
+                Ok(Record::Begun)
+            }
+            Front::NeutralCall => {
+                self.mark(3, Some(Kind::Neutral))?;
+                Ok(Record::Begun)
+            }
+            Front::Comma => {
+                if self.neutral().is_outside() {
+                    return Ok(Record::Deleted(self.delete_first()));
+                }
+                self.mark(1, None)?;
+                Ok(Record::Comma)
+            }
+            Front::Sharp | Front::Plain => {
+                self.gather_first();
+                Ok(Record::Moved)
             }
         }
     }

@@ -3,7 +3,7 @@ ghost use Rattle.std.specs.Prelude.{◌≡◌, ◌<◌, ◌^◌, IsSomeAnd, Some
 ghost use Rattle.trac_rules.specs.Records as rules;
 ghost use Rattle.trac_rules.specs.Weights.{weight};
 ghost use Rattle.trac_text.specs.Pieces.{all_texts};
-ghost use Rattle.trac_journal.specs.Told.{record_with, said_by};
+ghost use Rattle.trac_journal.specs.Told.{record_with};
 ghost use Rattle.trac_change.specs.Undone.{undone_in};
 ghost use Rattle.trac_step.specs.Record.{before, recorded_by};
 ghost use Rattle.trac_step.specs.Room.{HasRoom, IsNoLess};
@@ -66,19 +66,6 @@ pub enum Record<A: Allocator + Copy = Global> {
 }
 
 impl<A: Allocator + Copy> Record<A> {
-    // A short record among those of all steps.
-    pub(crate) fn of_short(short: Short) -> Self
-        ensures { recorded_by result ≡ said_by short }
-    {
-        match short {
-            Short::Moved => Record::Moved,
-            Short::Comma => Record::Comma,
-            Short::Begun => Record::Begun,
-            Short::Quoted { inner, closed } => Record::Quoted { inner, closed },
-            Short::Deleted(byte) => Record::Deleted(byte),
-        }
-    }
-
     // The record of a call, from what it says beside its arguments, these, and what the call
     // destroyed of forms and blocks.
     pub(crate) fn of_call(called: Called, arguments: Pieces<A>, undone: Undone<A>) -> Self

@@ -1,20 +1,17 @@
 //! The rules of scanning that perform no function, each on the machine's own parts.
-ghost use Rattle.std.specs.Prelude.{◌≡◌, ◌<◌, ◌≤◌, ◌+◌, ◌++◌, false, get_or, is_some, length, take, drop, None, IfOk};
+ghost use Rattle.std.specs.Prelude.{◌≡◌, ◌<◌, ◌≤◌, ◌+◌, ◌++◌, false, get_or, is_some, length, take, drop, None};
 ghost use Rattle.std.specs.Prelude.{IsOkUnless, OnErr, OnOk, ℕ};
 ghost use Rattle.trac_rules.specs.Matching.{match_of, protected};
-ghost use Rattle.trac_rules.specs.Scanning.{protect, deleted, comma_in, gather_first};
+ghost use Rattle.trac_rules.specs.Scanning.{protect, deleted, gather_first};
 ghost use Rattle.trac_rules.specs.Limits.{marks};
 ghost use Rattle.trac_rules.specs.PlainRuns.{BeginsPlain, is_plain, moved_on};
 ghost use Rattle.trac_rules.specs.Proper.{IsProper};
-ghost use Rattle.trac_rules.specs.Records.{comma_recorded};
 ghost use Rattle.trac_step.specs.Calling.{with_mark};
-ghost use Rattle.trac_journal.specs.Told.{said_by};
 ghost use Rattle.trac_step.specs.Room.{HasRoom, IsNoLess};
 
 use crate::engine::Core;
 use std::alloc::Allocator;
 use trac_gap::TwoEnds;
-use trac_journal::Short;
 use trac_rules::kind::Kind;
 use trac_rules::limit::MARK_LIMIT;
 use trac_rules::refusal::Refusal;
@@ -55,25 +52,6 @@ impl<E: TwoEnds<u8, A>, M: TwoEnds<Mark, A>, A: Allocator + Copy> Core<E, M, A> 
         ensures byte { result ≡ get_or self.old.state.active 0 0 }
     {
         take_first(&mut self.text)
-    }
-
-    // A `,`: inside a function an argument is finished, and an empty one begun.
-    pub(crate) fn comma(&mut self) -> Result<Short, Refusal>
-        requires front { 0 < length self.old.state.active }
-        requires room { 0 < length self.old.state.frames → marks self.old.state.frames < MARK_LIMIT }
-        ensures ok { OnOk result (self.new.state ≡ comma_in self.old.state.frames (deleted 1 self.old.state)) }
-        ensures recorded { IfOk result (λ r. said_by r ≡ comma_recorded self.old.state.frames self.old.state) }
-        ensures room { IsNoLess self.old self.new }
-        ensures unchanged { OnErr result (self.new ≡ self.old) }
-        ensures full { OnErr result
-            ((0 < length self.old.state.frames) × (self.old.mark_room ≤ marks self.old.state.frames)) }
-        ensures err { IsOkUnless result Refusal.Memory }
-    {
-        if self.marks.left().is_empty() {
-            return Ok(Short::Deleted(self.delete_first()));
-        }
-        self.mark(1, None)?;
-        Ok(Short::Comma)
     }
 
     // The first n bytes of the active text are deleted, and a function of this kind is begun, or, if none is named, a
