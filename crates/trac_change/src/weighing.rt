@@ -1,4 +1,4 @@
-//! What is destroyed of forms and blocks weighs.
+//! How much a call's loss of forms and blocks weighs.
 ghost use Rattle.std.specs.Prelude.{◌≡◌, ◌<◌, ◌^◌};
 ghost use Rattle.trac_rules.specs.Weights.{held_weight, undone_weight};
 ghost use Rattle.trac_change.specs.Changed.{named_forms};
@@ -47,7 +47,7 @@ fn weigh_forms<A: Allocator + Copy>(forms: &[(Vec<u8, A>, Form<A>)]) -> usize
     weight
 }
 
-// The forms of a block with their names.
+// The forms of a block with their names, each weighed as in `weigh_forms`.
 fn weigh_block<A: Allocator + Copy>(block: &Block<A>) -> usize
     requires { held_weight block.now.held < 2 ^ 64 }
     ensures { result ≡ held_weight block.now.held }

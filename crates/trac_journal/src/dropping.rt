@@ -105,6 +105,7 @@ fn printed_by_first<A: Allocator + Copy>(
             return printed;
         }
         left -= moved + 1;
+        // Such an entry's step performed a call, which stands at place `at` of the calls, the oldest at 0.
         if let Kept::Call | Kept::Pointed(_) | Kept::Changed = entry.kept {
             printed += lists.printed_at(at);
             at += 1;

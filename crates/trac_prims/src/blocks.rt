@@ -227,7 +227,8 @@ fn addressed<'a, A: Allocator + Copy>(
 
 // ---- forms that come back
 
-// Whether copies of a block's forms may be put among the forms: those whose names have no form yet are further ones.
+// Whether copies of a block's forms may be put among the forms. Each of its names that has no form yet adds one form:
+// no name stands twice in a block.
 fn may_come_back<A: Allocator + Copy>(store: &Store<A>, block: &Block<A>) -> bool
     ensures { result ≡ nat_le (finite.len (with_all block.now.held store.now.forms)) FORM_COUNT_LIMIT }
 {

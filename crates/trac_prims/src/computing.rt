@@ -133,7 +133,7 @@ pub fn result_on(operation: Operation, args: &Args<'_>, width: Width) -> Option<
 
 // ---- bit strings
 
-// `bs` and `br`: an octal string with its bits moved, or else rotated; empty if the number does not fit.
+// `bs`, or `br` if it rotates: an octal string with its bits moved, or rotated; empty if the number does not fit.
 fn moved_of<A: Allocator + Copy>(
     alloc: A,
     rotates: bool,

@@ -1,4 +1,4 @@
-//! Calls that read the input.
+//! Calls that read the input. `ps`, which prints, has its arm in `perform`, `planning.rt`.
 ghost use Rattle.std.specs.Prelude.{◌≡◌, ◌+◌, ◌≤◌, List, ℕ, length, drop, IfOk, Ok};
 ghost use Rattle.trac_rules.specs.Effect.{reads};
 ghost use Rattle.trac_rules.specs.Reading.{byte_read, string_read};

@@ -41,6 +41,7 @@ pub(crate) fn read<A: Allocator + Copy>(
         return Ok(NOTHING);
     };
     let Some(piece) = piece_of(reading, args, form, width)? else {
+        // Nothing is read: the default argument is the value, and the pointer stays.
         let other = args.get(default_place(reading));
         made.value.extend_from_slice(other)?;
         let name = Vec::from_slice(alloc, name)?;

@@ -11,7 +11,6 @@ ghost use Rattle.trac_rules.specs.Weights.{losses_from, weights_from};
 ghost use Rattle.trac_step.specs.Room.{HasRoom};
 ghost use Rattle.trac_session.specs.Replies.{reply_of};
 
-use crate::walk::Walk;
 use std::alloc::{Allocator, Global};
 use std::marker::Model;
 use trac_gap::{SlidingBuf, TwoEnds};
@@ -118,7 +117,7 @@ impl<A: Allocator + Copy> Session<A> {
 
     /// Goes back over the last step, which takes no memory.
     /// Refused, with nothing changed, as `AtStart` if there is no record to go back over.
-    // The loop of a walk calls it, so that it holds the steps of scanning alone.
+    // The loop of a walk calls this, so that the loop holds only the most frequent rules of scanning.
     #[inline(never)]
     pub(crate) fn step_back(&mut self) -> Result<(), Refusal>
         ensures { answer Back self.old ≡ record { reply = reply_of result; session = self.new } }
@@ -164,7 +163,7 @@ impl<A: Allocator + Copy> Session<A> {
     pub fn commit(&mut self, keep: usize)
         ensures { answer (Commit keep) self.old ≡ record { reply = Done; session = self.new } }
     {
-        // With no state before it the last one needs no name of a deleted form.
+        // The last state stays alone. Only going back needs the names of deleted forms: `settle` forgets them.
         if keep == 0 {
             settle(&mut self.machine, &mut self.tape);
             self.journal.clear();

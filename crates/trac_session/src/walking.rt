@@ -25,7 +25,8 @@ enum Direction {
 }
 
 impl<A: Allocator + Copy> Session<A> {
-    // Takes one step this way. The loop of a walk has it in itself, with the scanning steps, and calls the way back.
+    // Takes one step this way. The loop of a walk has this inlined, with the most frequent rules of scanning, and calls
+    // the way back.
     #[inline(always)]
     fn go(&mut self, direction: Direction) -> Result<(), Refusal>
         ensures { Answers (command_towards direction) self.old (reply_of result) self.new }
@@ -231,7 +232,7 @@ impl<A: Allocator + Copy> Session<A> {
         ensures { IsSearch Back (goal_of goal.entry) (max 1 (length self.old.earlier)) self.old result.done
             result.why self.new }
     {
-        // Over all steps that there are, and one even if there is none, which is then refused.
+        // The walk may go back over all steps that there are. If there are none, it tries one, which is refused.
         let walk = self.walk(Direction::Backward, &goal, self.len().max(1) as u64);
         self.searched(&goal, walk)
     }

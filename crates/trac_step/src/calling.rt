@@ -1,7 +1,6 @@
 //! The steps that perform a function.
-ghost use Rattle.std.specs.Prelude.{◌≡◌, ◌<◌, ◌≤◌, ◌+◌, ◌-◌, ◌++◌, ◌^◌, ◌∷◌, length, take, drop, option_map, IfErr};
+ghost use Rattle.std.specs.Prelude.{◌≡◌, ◌<◌, ◌≤◌, ◌+◌, ◌-◌, ◌++◌, ◌∷◌, length, drop, option_map, IfErr};
 ghost use Rattle.std.specs.Prelude.{IfOk, IsOkUnless, OnErr, OnOk, Ok};
-ghost use Rattle.trac_gap.specs.Ends.{item_count};
 ghost use Rattle.trac_rules.specs.declared.limit.TheConstants.{JOURNAL_LIMIT};
 ghost use Rattle.trac_rules.specs.Outcomes.{MayRefuse};
 ghost use Rattle.trac_rules.specs.Records as rules;
@@ -17,7 +16,6 @@ ghost use Rattle.trac_journal.specs.Told.{record_with};
 ghost use Rattle.trac_change.specs.Undone.{undone_in};
 ghost use Rattle.trac_step.specs.Calling.{BeginsInnermost, HasRoomFor, IsBegun, arguments_in, state_after, state_ended};
 ghost use Rattle.trac_step.specs.Calling.{with_change};
-ghost use Rattle.trac_text.specs.Moving.{with_value};
 ghost use Rattle.trac_step.specs.Kept.{CanStep, FitsJournal, HasRoomForCall, IsKeptAs, IsStepped};
 ghost use Rattle.trac_step.specs.Ready.{CanChange, CanEnd, IsFound, IsReady, recorded_after};
 ghost use Rattle.trac_step.specs.Record.{IsTaken, recorded_by};

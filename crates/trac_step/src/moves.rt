@@ -9,7 +9,6 @@ ghost use Rattle.trac_rules.specs.Records.{Deleted, recorded};
 ghost use Rattle.trac_rules.specs.State.{Environment};
 ghost use Rattle.trac_step.specs.Calling.{IfMoves, IsMove, with_mark};
 ghost use Rattle.trac_step.specs.Kept.{IsCarriedOut};
-ghost use Rattle.trac_text.specs.Moving.{adds_mark};
 ghost use Rattle.trac_step.specs.Record.{IsTaken, recorded_by};
 ghost use Rattle.trac_journal.specs.Told.{said_by};
 ghost use Rattle.trac_step.specs.Room.{IsNoLess, LacksRoomAhead};

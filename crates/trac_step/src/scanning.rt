@@ -1,4 +1,4 @@
-//! The rules of scanning that perform no function, each on the machine's own parts.
+//! What the rules of scanning do to the machine's own texts and marks. `moves.rt` says which rule does what.
 ghost use Rattle.std.specs.Prelude.{◌≡◌, ◌<◌, ◌≤◌, ◌+◌, ◌++◌, false, get_or, is_some, length, take, drop, None};
 ghost use Rattle.std.specs.Prelude.{IsOkUnless, OnErr, OnOk, ℕ};
 ghost use Rattle.trac_rules.specs.Matching.{match_of, protected};

@@ -25,8 +25,8 @@ use trac_text::front::front_at;
 use trac_text::{Mark, Refusal};
 
 impl<E: TwoEnds<u8, A>, M: TwoEnds<Mark, A>, A: Allocator + Copy> Core<E, M, A> {
-    /// Takes the next step of T-64's rules over this tape, and answers its record: what the step destroyed, so that
-    /// `undo` can go back over it. Sessions call `step_into`, which packs the record into a journal.
+    /// Takes the next step of T-64's rules over this tape, and answers its record: what the step destroyed. By it
+    /// `undo` can go back over the step. Sessions call `step_into`, which packs the record into a journal.
     ///
     /// If the step is refused, the state stays as it was. It is refused with:
     /// - `NeedInput`: its function reads input that is not there yet.
@@ -51,8 +51,8 @@ impl<E: TwoEnds<u8, A>, M: TwoEnds<Mark, A>, A: Allocator + Copy> Core<E, M, A> 
             (λ r. record_of (environment_of self.old.width tape.entry) self.old.state ≡ Some (recorded_by r)) }
         ensures weighs { IfOk result (λ r. weight (recorded_by r) ≤ loss self.old.state) }
 
-        // The record of a call gives back three parts of the state, each without the others: texts and begun functions,
-        // forms and blocks, and all else.
+        // The record of a call gives back three parts of the state, each by itself: texts and begun functions, forms
+        // and blocks, all else.
         ensures texts { IfOk result (λ r. (c : CallRecord) → recorded_by r ≡ Called c →
             texts_before c (texts_in self.new.state) ≡ Some (texts_in self.old.state)) }
         ensures storage { IfOk result (λ r. (c : CallRecord) → recorded_by r ≡ Called c →
@@ -124,8 +124,8 @@ impl<E: TwoEnds<u8, A>, M: TwoEnds<Mark, A>, A: Allocator + Copy> Core<E, M, A> 
         self.move_step(front)
     }
 
-    // The same, with its record added to the journal. Scanning can pass one limit alone, that on marks: each argument of
-    // a begun function has one. `move_fits` checks this limit, here and in `move_step`.
+    // The same, with its record added to the journal. Scanning can pass one limit alone, that on marks: each argument
+    // of a begun function has a mark. `move_fits` checks this limit, here and in `move_step`.
     #[inline(always)]
     fn next_step_into(
         &mut self,
@@ -148,7 +148,7 @@ impl<E: TwoEnds<u8, A>, M: TwoEnds<Mark, A>, A: Allocator + Copy> Core<E, M, A> 
     }
 
     // Does nothing when it runs. Its two calls tell the prover what holds of every machine: its state is within all
-    // limits, and it has room for that.
+    // limits, and the machine has room for this state.
     pub(crate) fn recall_room(&self)
         ensures proper { IsProper self.now.state }
         ensures room { HasRoom self.now self.now.state }
