@@ -89,7 +89,7 @@ fn take_line<R: Read, W: Write, A: Allocator + Copy, T: Replier<A>>(
         Ok(NextLine::End) => Err(Ending::Ended),
         Ok(NextLine::TooLong) => {
             lines.pass_all();
-            // It is said once of a line that is too long that it is not understood.
+            // A line that is too long comes in parts. Only the first part is answered: it is not understood.
             if taking.passing {
                 return Ok(());
             }

@@ -16,8 +16,8 @@ use std::alloc::Allocator;
 use trac_forms::{Form, Store};
 use trac_rules::item::Item;
 
-// Where an item stood that stands in the form of a name after `fb` of the block whose address the form `given` is: in
-// that block, if it holds a form of this name.
+// Where an item stood that stands in the form of a name after `fb` of the block whose address the form `given` is. It
+// stood in that block, if the block holds a form of this name. Else it has not moved.
 pub(crate) fn before_fetch<'a, A: Allocator + Copy>(
     store: &Store<A>,
     given: &[u8],
@@ -52,7 +52,8 @@ fn named_block<A: Allocator + Copy>(store: &Store<A>, given: &[u8]) -> Option<us
     None
 }
 
-// Whether a form is the address of the block of this number: its bytes, its gaps left out, are the number in decimal.
+// Whether a form is the address of the block of this number. There is such a block, and the form's bytes, its gaps left
+// out, are the number in decimal.
 fn is_address<A: Allocator + Copy>(store: &Store<A>, form: &Form<A>, number: usize) -> bool
     ensures { result ≡ is_address form.now store.now.blocks number }
 {

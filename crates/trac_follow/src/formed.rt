@@ -119,8 +119,8 @@ fn until_byte<'a, A: Allocator + Copy>(
     argument_byte(function, 3, i)
 }
 
-// Whether `in` found a text: its value then is not forced, and the text stands in the form after that, from the pointer
-// on.
+// Whether `in` found a text. If not, its value is forced, and so is scanned: for a value that is not scanned, it did.
+// For a scanned one, it did if the text stands in the form after as many bytes as the value has, from the pointer on.
 fn is_found<A: Allocator + Copy>(form: &Form<A>, text: &[u8], seen: Option<usize>) -> bool
     ensures { IsFound form.now text.now seen result }
 {
@@ -174,8 +174,8 @@ fn byte_from<'a, A: Allocator + Copy>(form: &Form<A>, first: usize, i: usize) ->
     Origin::OfForm(first + given.at)
 }
 
-// Of what `pf` prints of the form of this name, after which the output ends: bytes are the form's, and marks made, as
-// is the line before it. Without a form it prints nothing, so what is new is that line.
+// Of what `pf` prints of the form of this name, after which the output ends. Bytes are the form's, and marks are made.
+// So is the line of the trace before them. Without a form only that line is new.
 pub(crate) fn shown_byte<'a, E: TwoEnds<u8, A>, M: TwoEnds<Mark, A>, A: Allocator + Copy>(
     before: &Core<E, M, A>,
     name: &[u8],
@@ -261,8 +261,8 @@ fn of_shown<'a>(item: Item, place: usize) -> Origin<'a>
     }
 }
 
-// Of an item of the form of this name that `ss` leaves: it stood where as many bytes stood before it, and a gap over a
-// byte is made.
+// Of an item of the form of this name that `ss` leaves. It stood where as many bytes stood before it. If a byte stood
+// where a gap stands now, the gap is made.
 pub(crate) fn cut_item<'a, E: TwoEnds<u8, A>, M: TwoEnds<Mark, A>, A: Allocator + Copy>(
     before: &Core<E, M, A>,
     name: &'a [u8],

@@ -150,7 +150,7 @@ pub(crate) enum Turn<'a> {
     Found(Source<'a>),
 }
 
-// How what stands here after the next step of a machine, and has this origin, is followed further back.
+// By its origin, how what stands here after the next step of a machine is followed further back.
 fn turn_of<'a, E: TwoEnds<u8, A>, M: TwoEnds<Mark, A>, A: Allocator + Copy>(
     before: &Core<E, M, A>,
     here: Place<'a>,
@@ -194,7 +194,7 @@ fn measured<E: TwoEnds<u8, A>, M: TwoEnds<Mark, A>, A: Allocator + Copy>(
     }
 }
 
-// The same, of an item of a form.
+// The same, of an item of a form. If there is none, nothing is told.
 fn measured_in<E: TwoEnds<u8, A>, M: TwoEnds<Mark, A>, A: Allocator + Copy>(
     machine: &Core<E, M, A>,
     name: &[u8],
@@ -212,8 +212,8 @@ fn measured_in<E: TwoEnds<u8, A>, M: TwoEnds<Mark, A>, A: Allocator + Copy>(
     }
 }
 
-// Of a byte that the call which comes next carried here from there: whether it was from an argument of its own, into a
-// form from a block, or out of a form.
+// Of a byte that the next step carried here from there: whether a call passed it on. It did if it took the byte from an
+// argument of its own, from a block into a form, or out of a form.
 fn is_passed<E: TwoEnds<u8, A>, M: TwoEnds<Mark, A>, A: Allocator + Copy>(
     machine: &Core<E, M, A>,
     here: Place<'_>,
@@ -223,6 +223,7 @@ fn is_passed<E: TwoEnds<u8, A>, M: TwoEnds<Mark, A>, A: Allocator + Copy>(
 {
     match there {
         Place::Argument { function, .. } => {
+            // The arguments of the next call, if there is one, are those of the innermost function.
             machine.next_call().is_some() && is_innermost(function, machine.depth())
         }
         Place::Held(_, _, _) => is_form(here),

@@ -1,4 +1,4 @@
-//! Which item of a form gives a byte.
+//! Which item of a form gives a byte, and which stands after so many bytes.
 ghost use Rattle.std.specs.Prelude.{◌≡◌, ◌<◌, ◌≤◌, ◌-◌, drop, length, take, MatchOption, Some, slice_get, ℕ};
 ghost use Rattle.trac_rules.specs.Form.{all_items, extent, width_of};
 ghost use Rattle.trac_rules.specs.declared.item.Item.{Item};

@@ -25,6 +25,7 @@ pub(crate) fn argument_offset<E: TwoEnds<u8, A>, M: TwoEnds<Mark, A>, A: Allocat
     let Some((_, arguments)) = machine.frame(function) else {
         return 0;
     };
+    // So many bytes of the neutral text stand from the function, from the argument and from the byte on.
     let from_function = bytes_from(machine, function, &arguments);
     let mut from_argument = from_function;
     for i in 0..argument.min(arguments.count()) {
@@ -48,6 +49,7 @@ fn bytes_from<E: TwoEnds<u8, A>, M: TwoEnds<Mark, A>, A: Allocator + Copy>(
         return arguments.joined().len();
     }
     let mut functions = machine.begun_functions();
+    // The bytes of all arguments, without those of the functions before this one.
     let mut bytes = machine.neutral_len() - machine.base().len();
     for number in 0..function {
         match functions.next() {

@@ -32,6 +32,7 @@ pub(crate) fn before_run<'a, E: TwoEnds<u8, A>, M: TwoEnds<Mark, A>, A: Allocato
     match place {
         Place::Active(i) => Place::Active(further_on(before.active(), count, i)),
         Place::Base(_) | Place::Argument { .. } => {
+            // A byte past the end of this machine's neutral text was that far into its active text.
             in_active(measure.0.checked_sub(before.neutral_len()), place)
         }
         Place::Form(_, _) => place,
@@ -130,7 +131,7 @@ fn bytes_left<E: TwoEnds<u8, A>, M: TwoEnds<Mark, A>, A: Allocator + Copy>(
     }
 }
 
-// The same, of all that stands in the form of a name.
+// Whether all that stands in the form of a name stays, as `stays` says it.
 fn stays_in_form<E: TwoEnds<u8, A>, M: TwoEnds<Mark, A>, A: Allocator + Copy>(
     before: &Core<E, M, A>,
     name: &[u8],

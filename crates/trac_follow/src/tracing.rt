@@ -22,7 +22,7 @@ use trac_session::{Machine, Session};
 
 /// Who is told of the calls on the way of a byte.
 pub trait Witness<A: Allocator + Copy> {
-    // `passes` relates the witness before it is told of a call, and the witness after. `refuses` relates these two if it
+    // `passes` relates the witness before it is told of a call to the witness after. `refuses` relates them if it
     // refuses. A witness that gives neither promises nothing.
     ghost passes: { Self → Passing → Self → Type 0 } = { λ _ _ _. ⊤ };
 
@@ -31,8 +31,8 @@ pub trait Witness<A: Allocator + Copy> {
     /// Told of a call that passed the byte on, the latest call first. `machine` is about to perform the call, `steps`
     /// steps before the state where the trace begins.
     ///
-    /// `from` is the place in a later state from which the byte was followed to this call. At the first telling, that is
-    /// where the trace begins. At each other, the call of the telling before took the byte from there.
+    /// `from` is the place in a later state from which the byte was followed to this call. At the first telling, the
+    /// trace begins there. At each other, the call of the telling before took the byte from there.
     ///
     /// If the witness answers the error, for want of memory or because it has heard enough, the trace ends.
     fn passed(
