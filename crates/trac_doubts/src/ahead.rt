@@ -63,6 +63,7 @@ fn scanning_doubt(active: &[u8], depth: usize) -> Option<Doubt>
     match front_at(active) {
         Front::Nothing => (depth > 0).then_some(Doubt::Unended(depth)),
         Front::Opening => {
+            // What stands after the `(`. If it has no match, nothing closes that `(`.
             let rest = active.split_at(active.len().min(1)).1;
             match_in(rest).is_none().then_some(Doubt::Unclosed)
         }

@@ -70,5 +70,6 @@ pub(crate) fn result_doubt(primitive: Primitive, args: &Args<'_>, width: Width) 
     if result_on(operation, args, width).is_some() {
         return None;
     }
+    // Argument 3, if there is one, is given in place of the result.
     (args.count() <= 3).then_some(Doubt::NoResult)
 }

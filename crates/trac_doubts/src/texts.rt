@@ -82,7 +82,7 @@ fn stands_in<A: Allocator + Copy>(text: &[u8], form: &Form<A>) -> bool
         if sum == wanted && begins_at(text, form, place) {
             return true;
         }
-        // One item comes in, and one goes out.
+        // The sum of as many items from the next place on: one item comes in, and one goes out.
         let coming = code_at(form, place + size);
         let going = code_at(form, place);
         sum = sum + coming - going;

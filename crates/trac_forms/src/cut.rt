@@ -60,7 +60,8 @@ impl<A: Allocator + Copy> Form<A> {
         ensures err { IsOkUnless result FormError.Memory }
     {
         let mut gaps = Vec::new(self.alloc);
-        // A text that is kept as one is cut where it stands.
+        // A text that is kept as one has no gaps, and is searched where it stands. Of any other form the bytes are
+        // copied into one text first.
         if self.items.left().is_empty() && self.items.right().is_empty() {
             let gaps = cut_run(self.alloc, texts, self.text.as_slice(), gaps)?;
             return Ok(Cut { gaps });

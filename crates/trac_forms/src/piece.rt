@@ -71,7 +71,7 @@ impl<A: Allocator + Copy> Form<A> {
                 pointer: self.pointer(),
             });
         }
-        // `len` is called for its clause that no form has more items than a length can say.
+        // `len` is called for its clause that forms are short. So a count too great for a length reads all bytes.
         let _items = self.len();
         // The least number has no negative: it is as many bytes as its absolute value says.
         let count = n.unsigned_abs().min(usize::MAX as u128) as usize;
@@ -328,6 +328,7 @@ fn search<A: Allocator>(
         if let Some(at) = place_in_run(finder, run.as_slice(), start) {
             return Ok(Some(at));
         }
+        // No occurrence crosses a gap: what comes after this one is searched by itself.
         start = Reached {
             items: start.items + run.len() + 1,
             bytes: start.bytes + run.len(),

@@ -16,6 +16,7 @@ fn numeral_place(text: &[u8]) -> usize
     ensures within { result ≤ length text.now }
     ensures numeral { drop result text.now ≡ numeral_of text.now }
 {
+    // The place where the digits at the end begin.
     let mut digits = text.len();
     while digits > 0 && text[digits - 1].is_ascii_digit() {
         digits -= 1;

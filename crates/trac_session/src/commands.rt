@@ -1,4 +1,5 @@
-//! Lists of commands to a session, and the replies to them.
+//! Lists of commands to a session, and the replies to them. A session keeps a list of states, of which the last is the
+//! present one.
 ghost use Rattle.std.specs.Prelude.{◌≡◌, map, IfOk, IfErr};
 ghost use Rattle.trac_rules.specs.Session.{Answers, Run};
 ghost use Rattle.trac_session.specs.Commands.{command_of};
@@ -9,28 +10,32 @@ use std::alloc::{Allocator, Global};
 use trac_rules::refusal::Refusal;
 pub use trac_rules::reply::Reply;
 
-/// What a session can be told to do by `perform`. A refused command changes nothing.
+/// A command that `Session::perform` carries out. A refused command changes nothing.
 #[derive(Clone, Copy, Debug, PartialEq, Eq)]
 pub enum Command<'a> {
     /// Add these bytes to the end of the tape. Refused as `Closed` after `End`, as `TooLong` if the tape would pass
-    /// 33,554,432 bytes, and as `Memory`.
+    /// 33,554,432 bytes, and as `Memory` if the tape cannot grow.
     Feed(&'a [u8]),
     /// End the input after what was fed. Never refused.
     End,
-    /// Go forward by one step. Refused as `JournalFull` if the journal holds as many records as it may, else as
-    /// `Machine::step` is.
+    /// Go forward by one step. Refused as `JournalFull` if the session keeps as many earlier states as its limit
+    /// allows. Else as `NeedInput`, or after `End` as `Ended`, if the step reads input that is not there, and as
+    /// `Ended` if it performs `hl`. Else as `TooLong` if the next state passes a limit, and as `Memory` if there is not
+    /// enough.
     Step,
     /// Go back over the last step. Refused as `AtStart` if no earlier state is kept.
     Back,
-    /// Keep the last state and so many before it, and forget those before. What the first kept state has printed is
-    /// released from all of them, and what it has read of the tape is dropped. Never refused.
+    /// Keep the last state and this many before it, or all if there are fewer, and forget the older ones. Each kept
+    /// state loses from its output what the first kept state had printed, and the tape loses what that state had read.
+    /// To save that output, carry out the commands before in a list of their own, and then call
+    /// `Session::pending_before`. Never refused.
     Commit(usize),
 }
 
 /// The replies to a list of commands, one for each, in their order.
 pub type Replies<A = Global> = Vec<Reply, A>;
 
-// The reply to a command that went so.
+// Turns the result of a call of the session into a reply.
 fn reply_to(outcome: Result<(), Refusal>) -> Reply
     ensures { result ≡ reply_of outcome }
 {
@@ -41,6 +46,7 @@ fn reply_to(outcome: Result<(), Refusal>) -> Reply
 }
 
 impl<A: Allocator + Copy> Session<A> {
+    // Carries out one command, and gives its reply.
     fn carry_out(&mut self, command: Command<'_>) -> Reply
         ensures { Answers (command_of command.entry) self.old result self.new }
     {
@@ -60,13 +66,14 @@ impl<A: Allocator + Copy> Session<A> {
     }
 
     /// Carries out these commands one after another, and gives the reply to each. A refused one changes nothing, and
-    /// those after it are carried out.
+    /// those after it are tried.
     ///
-    /// After any list of commands, from any session, the session's states are those of a plain list. Each accepted
-    /// step adds the next state by T-64's rules to it, and each step back takes the last away. Each commit takes away
-    /// the first ones, and from those kept what the first kept one has printed and read.
+    /// Whatever the commands are, the session keeps its states as a plain list would. An accepted `Step` appends the
+    /// next state by T-64's rules, and an accepted `Back` takes the last state away. `Feed` and `End` change the tape
+    /// alone. `Command::Commit` says what a commit takes away.
     ///
-    /// Refused with `Memory`, with nothing done, if there is no memory for the replies, which is taken first.
+    /// Gives `Err(Memory)`, and carries out no command, if there is no memory for the replies: it is taken first. A
+    /// command that itself lacks memory gets the reply `Refused(Memory)`.
     pub fn perform(&mut self, commands: &[Command<'_>]) -> Result<Replies<A>, Refusal>
         ensures done { IfOk result (λ replies. Run (map command_of commands.now) replies.items self.old self.new) }
         ensures nothing_done { IfErr result (λ e. (e ≡ Refusal.Memory) × (self.new ≡ self.old)) }

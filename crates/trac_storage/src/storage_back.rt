@@ -59,8 +59,8 @@ fn swap<A: Allocator + Copy>(store: &mut Store<A>, name: &[u8], old: Option<Form
     };
 }
 
-// Takes the last block off the list. Under the name that the arguments give it puts the earlier form again, or, if there
-// was none, leaves no form. Then it puts back what the block holds.
+// Takes the last block off the list. Under the name that the arguments give it puts the earlier form again, or, if
+// there was none, leaves no form. Then it puts back what the block holds.
 fn move_out<A: Allocator + Copy>(store: &mut Store<A>, arguments: &Args<'_>, old: Option<Form<A>>)
     requires { KnowsBefore store.old.known (storage_before arguments.now (MoveOut old) (storage_in store.old)) }
     ensures storage { storage_before arguments.now (MoveOut old) (storage_in store.old) ≡ Some (storage_in store.new) }
@@ -71,7 +71,8 @@ fn move_out<A: Allocator + Copy>(store: &mut Store<A>, arguments: &Args<'_>, old
         unreachable!()
     };
     swap(store, name, old);
-    // `len` is called for its clause that no name stands twice in a block. So its forms may be put from the last one on.
+    // `len` is called for its clause that no name stands twice in a block. So its forms may be put from the last one
+    // on.
     let _len = block.len();
     while let Some((name, form)) = block.pop() {
         store.put(name.as_slice(), form);

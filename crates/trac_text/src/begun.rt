@@ -67,7 +67,8 @@ impl<'a> Iterator for BegunFunctions<'a> {
             return None;
         }
         self.next = next_function(self.marks, self.next);
-        // The next one is the innermost of the text before the mark at which the one after it begins.
+        // The next one is the innermost of the text before the mark at which the one after it begins. If there is no
+        // such mark, it is the innermost of the whole text.
         let place = end_at(self.text.len(), self.marks, self.next);
         let innermost = innermost_in(
             self.text.split_at(place).0,

@@ -138,8 +138,8 @@ impl<'a> NeutralText<'a> {
     }
 }
 
-// The innermost function of a text with these marks, which begins at the last mark that begins one; none if no function
-// is begun.
+// The innermost function of a text with these marks. It begins at the last mark that begins one, and each mark after
+// that begins an argument of it. None if no function is begun.
 pub(crate) fn innermost_in<'a>(text: &'a [u8], marks: &'a [Mark]) -> Option<Innermost<'a>>
     requires { IsOrdered (record { text = text.now; marks = marks.now }) }
     ensures { MatchOption result ((neutral_of (record { text = text.now; marks = marks.now })).frames ≡ [])

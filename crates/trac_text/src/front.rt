@@ -66,8 +66,9 @@ pub fn plain_front(text: &[u8], most: usize) -> usize
     n
 }
 
-// Where the plain bytes end that go on from one place, up to another: many at a time, and one by one where one of them
-// is low. It is called once for a long run, and kept out of the way of the short ones.
+// Where the plain bytes end that go on from one place, up to another. Many are looked at together. If one of them is
+// low, or fewer are left, they are looked at one by one. It is called once for a long run, and kept out of the way of
+// the short ones.
 #[inline(never)]
 fn far_plain_end(text: &[u8], from: usize, end: usize) -> usize
     requires from { from ≤ end }
