@@ -2,7 +2,7 @@
 #![tactic(auto)]
 
 ghost use Rattle.std.specs.Prelude.{◌≤◌, IfOk};
-ghost use Rattle.trac_program.specs.Words.{IsLine};
+ghost use Rattle.trac_words.specs.Words.{IsLine};
 
 use std::alloc::{AllocError, Global};
 use std::env::Args;
@@ -10,9 +10,12 @@ use std::io::IsTerminal;
 use std::process::ExitCode;
 use std::rt::Env;
 use std::{env, io};
-use trac_program::{
-    Ending, JOURNAL_LIMIT, Line, NOT_TEXT, Options, debug, read_line, run, say, tape_in,
-};
+use trac_debug::debug;
+use trac_rules::limit::JOURNAL_LIMIT;
+use trac_run::run;
+use trac_streams::{Ending, Options, say, tape_in};
+use trac_words::help::NOT_TEXT;
+use trac_words::words::{Line, read_line};
 
 /// The status of a command line that is not understood.
 const NOT_UNDERSTOOD: u8 = 2;

@@ -2,12 +2,13 @@
 //! runs, the debugger and the command line, as the program `trac` has them.
 #![tactic(auto)]
 
+pub use trac_debug::debug;
 pub use trac_follow::{End, Followed, Place, Source, Traced, Witness, follow, trace};
-pub use trac_program::{
-    BUDGET_LIMIT, DEFAULT_BUDGET, DEFAULT_JOURNAL, Ending, JOURNAL_LIMIT, Line, Options, debug,
-    read_line, run,
-};
+pub use trac_rules::limit::JOURNAL_LIMIT;
+pub use trac_run::run;
 pub use trac_session::{
     Args, Block, Command, Form, Goal, Item, Kind, Machine, Refusal, Replies, Reply, Return,
     Session, Store, Texts, Walk, Width,
 };
+pub use trac_streams::{BUDGET_LIMIT, DEFAULT_BUDGET, Ending, Options};
+pub use trac_words::words::{DEFAULT_JOURNAL, Line, read_line};

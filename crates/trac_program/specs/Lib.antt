@@ -1,2 +1,0 @@
--- What a command line may ask for.
-pub use Rattle.trac_words.specs.Words
