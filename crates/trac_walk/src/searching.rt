@@ -112,19 +112,12 @@ impl<A: Allocator + Copy> Walker<A> {
         ensures weight { result.weight ≡ self.now.weight }
         ensures light { result.light ≡ near_weight self.now.weight self.now.window.session }
     {
-        Room {
-            steps: self.limit() as u64,
-            weight: self.weight(),
-            light: self.near_weight(),
-        }
-    }
-
-    // How much the records may weigh over more steps than are kept.
-    fn near_weight(&self) -> u64
-        ensures { result ≡ near_weight self.now.weight self.now.window.session }
-    {
         let now = self.window.session.weight();
-        self.weight().min(now.saturating_add(NEAR_WEIGHT))
+        Room {
+            steps: self.limit as u64,
+            weight: self.weight,
+            light: self.weight.min(now.saturating_add(NEAR_WEIGHT)),
+        }
     }
 
     /// The same after so many steps on which nothing was met, in a run of the program anew. What that keeps takes the
