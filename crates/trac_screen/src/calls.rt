@@ -94,15 +94,10 @@ impl Before {
         if active.len() > self.active {
             return active.split_at(active.len() - self.active).0;
         }
-        let around = current_in(sight);
+        let around = match &sight.begun {
+            Some((_, arguments)) => last_of(arguments),
+            None => sight.around,
+        };
         around.split_at(around.len().min(self.around)).1
-    }
-}
-
-// The text that is gathered.
-fn current_in<'m, A: Allocator + Copy>(sight: &Sight<'m, A>) -> &'m [u8] {
-    match &sight.begun {
-        Some((_, arguments)) => last_of(arguments),
-        None => sight.around,
     }
 }

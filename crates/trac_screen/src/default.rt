@@ -31,21 +31,17 @@ pub fn takes_default<A: Allocator + Copy>(
 
 /// Whether the call that the next step performs is one of a primitive whose value is always empty.
 pub fn gives_nothing<A: Allocator + Copy>(sight: &Sight<'_, A>) -> bool {
-    match performed_in(sight) {
-        Some(arguments) => never_gives(primitive_named(arguments.get(0))),
-        None => false,
-    }
-}
-
-// Whether the value of a primitive is empty whatever it is given. An unknown name is no primitive's.
-fn never_gives(primitive: Primitive) -> bool {
-    match primitive {
+    let Some(arguments) = performed_in(sight) else {
+        return false;
+    };
+    match primitive_named(arguments.get(0)) {
         Primitive::PrintString | Primitive::SetMeta | Primitive::SetTrace(_) => true,
         Primitive::HandleBlock(_) => true,
         Primitive::Handle(action) => !matches!(
             action,
             FormAction::Call | FormAction::Read(_) | FormAction::ListNames
         ),
+        // an unknown name is no primitive's
         _ => false,
     }
 }

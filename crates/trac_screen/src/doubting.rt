@@ -29,7 +29,14 @@ pub fn doubt_into<A: Allocator + Copy>(
                 Words(b" calls were begun and never ended"),
             ])
         }
-        doubt => plain_into(sight, doubt, line),
+        doubt => {
+            let (before, number, after) = words_of(doubt);
+            line.say(before)?;
+            if let Some(number) = number {
+                text_into(argument_of(sight, number), line)?;
+            }
+            line.say(after)
+        }
     }
 }
 
@@ -50,20 +57,6 @@ pub fn argument_doubted<A: Allocator + Copy>(sight: &Sight<'_, A>, doubt: Doubt)
         return None;
     }
     Some(0)
-}
-
-// A doubt that shows one argument at most.
-fn plain_into<A: Allocator + Copy>(
-    sight: &Sight<'_, A>,
-    doubt: Doubt,
-    line: &mut ScreenLine<A>,
-) -> Result<(), AllocError> {
-    let (before, number, after) = words_of(doubt);
-    line.say(before)?;
-    if let Some(number) = number {
-        text_into(argument_of(sight, number), line)?;
-    }
-    line.say(after)
 }
 
 // What is said of a doubt that shows one argument at most: the words before it, its number, the words after it.

@@ -15,17 +15,12 @@ pub fn list_into<A: Allocator + Copy>(
     store: &Store<A>,
     out: &mut Vec<u8, A>,
 ) -> Result<(), AllocError> {
-    let Ok(names) = store.names() else {
-        return Err(AllocError);
-    };
+    let names = store.names().map_err(|_| AllocError)?;
     if names.is_empty() {
         return out.extend_from_slice(b"there are no forms\n");
     }
     for name in &names {
-        let len = match store.get(name) {
-            Some(form) => form.len(),
-            None => 0,
-        };
+        let len = store.get(name).map_or(0, |form| form.len());
         let parts = [
             Words(b"length "),
             Number(len as u64),
@@ -59,24 +54,18 @@ fn items_into<A: Allocator + Copy>(form: &Form<A>, out: &mut Vec<u8, A>) -> Resu
         if place == pointer {
             out.extend_from_slice(b"[^]")?;
         }
-        if let Some(item) = form.item(place) {
-            item_into(item, out)?;
+        match form.item(place) {
+            Some(Item::Byte(byte)) => escaped_into(&[byte], out)?,
+            Some(Item::Gap { ordinal, width: _ }) => {
+                out.extend_from_slice(b"[")?;
+                number_into(u64::from(ordinal), out)?;
+                out.extend_from_slice(b"]")?
+            }
+            None => {}
         }
     }
     if pointer == form.len() {
         out.extend_from_slice(b"[^]")?;
     }
     Ok(())
-}
-
-// Puts an item at the end of a text.
-fn item_into<A: Allocator + Copy>(item: Item, out: &mut Vec<u8, A>) -> Result<(), AllocError> {
-    match item {
-        Item::Byte(byte) => escaped_into(&[byte], out),
-        Item::Gap { ordinal, width: _ } => {
-            out.extend_from_slice(b"[")?;
-            number_into(u64::from(ordinal), out)?;
-            out.extend_from_slice(b"]")
-        }
-    }
 }

@@ -47,7 +47,10 @@ fn say_given<A: Allocator + Copy>(
         let len = arguments.get(i).len();
         if len > 0 {
             line.say(if count == 0 { b"which byte? " } else { b"; " })?;
-            say_bytes(i as u64, len as u64, line)?;
+            line.put(&[Words(b"y . "), Number(i as u64), Words(b" 1")])?;
+            if len > 1 {
+                line.put(&[Words(b" to "), Number(len as u64)])?;
+            }
             count = count.saturating_add(1);
         }
     }
@@ -55,17 +58,4 @@ fn say_given<A: Allocator + Copy>(
         return line.say(b"this call was given no byte");
     }
     Ok(())
-}
-
-// The bytes of an argument.
-fn say_bytes<A: Allocator + Copy>(
-    argument: u64,
-    len: u64,
-    line: &mut ScreenLine<A>,
-) -> Result<(), AllocError> {
-    line.put(&[Words(b"y . "), Number(argument), Words(b" 1")])?;
-    match len {
-        1 => Ok(()),
-        len => line.put(&[Words(b" to "), Number(len)]),
-    }
 }

@@ -33,16 +33,11 @@ fn glance_of<E: TwoEnds<u8, A>, M: TwoEnds<Mark, A>, A: Allocator + Copy>(
     Glance {
         depth: machine.depth(),
         rest: active.len(),
-        beginning: beginning_len(active),
+        beginning: match front_at(active) {
+            Front::ActiveCall => 2,
+            Front::NeutralCall => 3,
+            _ => 0,
+        },
         performs: machine.at_call().is_some(),
-    }
-}
-
-// How many bytes at the front of these begin a function.
-fn beginning_len(active: &[u8]) -> usize {
-    match front_at(active) {
-        Front::ActiveCall => 2,
-        Front::NeutralCall => 3,
-        _ => 0,
     }
 }

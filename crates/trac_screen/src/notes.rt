@@ -93,11 +93,8 @@ pub fn stop_into<A: Allocator + Copy>(
         Stop::NoForm => out.extend_from_slice(NO_FORM),
         Stop::UnmetUpTo(_, step) | Stop::SpentUpTo(step) => {
             let ended = b", where the search ended";
-            put_line(
-                alloc,
-                &[Words(b"m goes to step "), Number(step), Words(ended)],
-                out,
-            )
+            let parts = [Words(b"m goes to step "), Number(step), Words(ended)];
+            put_line(alloc, &parts, out)
         }
         _ => Ok(()),
     }
@@ -244,15 +241,9 @@ pub fn window_into<A: Allocator + Copy>(
     why: Forgetting,
     out: &mut Vec<u8, A>,
 ) -> Result<(), AllocError> {
-    put_line(
-        alloc,
-        &[
-            Words(b"steps before "),
-            Number(first_step),
-            Words(forgotten(why)),
-        ],
-        out,
-    )
+    let why = Words(forgotten(why));
+    let parts = [Words(b"steps before "), Number(first_step), why];
+    put_line(alloc, &parts, out)
 }
 
 // That steps are forgotten, and why.
@@ -273,9 +264,6 @@ pub fn no_end_into<A: Allocator + Copy>(
     out: &mut Vec<u8, A>,
 ) -> Result<(), AllocError> {
     let reads_on = b" in this line: rs reads on until one comes";
-    put_line(
-        alloc,
-        &[Words(b"no "), Shown(&[meta]), Words(reads_on)],
-        out,
-    )
+    let parts = [Words(b"no "), Shown(&[meta]), Words(reads_on)];
+    put_line(alloc, &parts, out)
 }

@@ -28,27 +28,17 @@ pub fn piece_into<A: Allocator + Copy>(
         return Ok(());
     }
     let (before, from) = program.split_at(number as usize);
-    let mark = line_into(alloc, end_after_line(before), line_before_end(from), out)?;
-    let mut line = ScreenLine::new(alloc);
-    line.pad(mark)?;
-    line.say(b"^")?;
-    line.end_into(out)
-}
-
-// The line that is made of these two texts, cut. Returns the column in which the second begins.
-fn line_into<A: Allocator + Copy>(
-    alloc: A,
-    before: &[u8],
-    from: &[u8],
-    out: &mut Vec<u8, A>,
-) -> Result<usize, AllocError> {
+    let from = line_before_end(from);
     let mut line = ScreenLine::new(alloc);
     line.say(LABEL)?;
-    before_into(alloc, before, from, &mut line)?;
-    let mark = line.columns();
+    before_into(alloc, end_after_line(before), from, &mut line)?;
+    let column = line.columns();
     line.show(from)?;
     line.end_into(out)?;
-    Ok(mark)
+    let mut mark = ScreenLine::new(alloc);
+    mark.pad(column)?;
+    mark.say(b"^")?;
+    mark.end_into(out)
 }
 
 // The first of two texts, cut if there is no room for both.
@@ -74,21 +64,12 @@ fn before_into<A: Allocator + Copy>(
 
 // What stands after the last line feed of a text.
 fn end_after_line(text: &[u8]) -> &[u8] {
-    for back in 0..text.len() {
-        let place = text.len() - back;
-        if text[place - 1] == LINE_FEED {
-            return text.split_at(place).1;
-        }
-    }
-    text
+    let len = text.iter().rev().position(|byte| *byte == LINE_FEED);
+    tail(text, len.unwrap_or(text.len()))
 }
 
 // What stands before the first line feed of a text.
 fn line_before_end(text: &[u8]) -> &[u8] {
-    for (place, byte) in text.iter().enumerate() {
-        if *byte == LINE_FEED {
-            return text.split_at(place).0;
-        }
-    }
-    text
+    let len = text.iter().position(|byte| *byte == LINE_FEED);
+    front(text, len.unwrap_or(text.len()))
 }

@@ -7,7 +7,7 @@ use crate::standing_line::begun_into;
 use std::alloc::{AllocError, Allocator};
 use trac_gap::TwoEnds;
 use trac_rules::byte::LINE_FEED;
-use trac_step::{Args, Core, Kind, Machine, Mark};
+use trac_step::{Core, Machine, Mark};
 use trac_streams::escaped_into;
 use trac_text::front::beginning_of;
 
@@ -87,22 +87,13 @@ fn functions_into<E: TwoEnds<u8, A>, M: TwoEnds<Mark, A>, A: Allocator + Copy>(
         return rows_into(alloc, machine, 0, depth, out);
     }
     rows_into(alloc, machine, 0, OUTER_ROWS, out)?;
-    more_into(alloc, depth - OUTER_ROWS - INNER_ROWS, out)?;
+    let mut line = labelled(alloc, b"begun   ")?;
+    line.say_left_out(depth - OUTER_ROWS - INNER_ROWS)?;
+    line.end_into(out)?;
     rows_into(alloc, machine, depth - INNER_ROWS, depth, out)
 }
 
-// A line for so many begun functions that are left out.
-fn more_into<A: Allocator + Copy>(
-    alloc: A,
-    count: usize,
-    out: &mut Vec<u8, A>,
-) -> Result<(), AllocError> {
-    let mut line = labelled(alloc, b"begun   ")?;
-    line.say_left_out(count)?;
-    line.end_into(out)
-}
-
-// The begun functions from one number up to another.
+// The begun functions from one number up to another, each in a line.
 fn rows_into<E: TwoEnds<u8, A>, M: TwoEnds<Mark, A>, A: Allocator + Copy>(
     alloc: A,
     machine: &Core<E, M, A>,
@@ -112,22 +103,12 @@ fn rows_into<E: TwoEnds<u8, A>, M: TwoEnds<Mark, A>, A: Allocator + Copy>(
 ) -> Result<(), AllocError> {
     for i in from..to {
         if let Some((kind, arguments)) = machine.frame(i) {
-            row_into(alloc, kind, &arguments, out)?;
+            let mut line = labelled(alloc, b"begun   ")?;
+            begun_into(kind, &arguments, &mut line)?;
+            line.end_into(out)?;
         }
     }
     Ok(())
-}
-
-// A begun function, in a line.
-fn row_into<A: Allocator + Copy>(
-    alloc: A,
-    kind: Kind,
-    arguments: &Args<'_>,
-    out: &mut Vec<u8, A>,
-) -> Result<(), AllocError> {
-    let mut line = labelled(alloc, b"begun   ")?;
-    begun_into(kind, arguments, &mut line)?;
-    line.end_into(out)
 }
 
 // The text around the place that scanning has reached.
@@ -193,19 +174,26 @@ fn frame_end_into<E: TwoEnds<u8, A>, M: TwoEnds<Mark, A>, A: Allocator + Copy>(
     Ok(())
 }
 
-// The last lines of the output.
+// The last lines of the output, the end of each.
 fn output_into<A: Allocator + Copy>(
     alloc: A,
     output: &[u8],
     out: &mut Vec<u8, A>,
 ) -> Result<(), AllocError> {
     let mut rest = last_lines(tail(output, OUTPUT_BYTES));
-    let is_cut = begins_within_line(output, rest.len());
+    // whether they begin within a line
+    let start = output.len() - output.len().min(rest.len());
+    let before = output.split_at(start).0;
+    let is_cut = before.last().is_some_and(|byte| *byte != LINE_FEED);
     for row in 0..OUTPUT_ROWS {
         let label: &[u8] = if row == 0 { b"output  " } else { b"        " };
-        let len = line_len(rest);
-        let (shown, others) = rest.split_at(len);
-        output_line_into(alloc, label, shown, row == 0 && is_cut, out)?;
+        let mut line = labelled(alloc, label)?;
+        let (text, others) = rest.split_at(line_len(rest));
+        let mut shown = Vec::new(alloc);
+        escaped_into(text, &mut shown)?;
+        let is_cut = row == 0 && is_cut;
+        end_of_into(shown.as_slice(), OUTPUT_WIDTH, is_cut, &mut line)?;
+        line.end_into(out)?;
         if others.is_empty() {
             return Ok(());
         }
@@ -214,47 +202,14 @@ fn output_into<A: Allocator + Copy>(
     Ok(())
 }
 
-// The end of a line of the output, after this label, and after `..` if it is cut already.
-fn output_line_into<A: Allocator + Copy>(
-    alloc: A,
-    label: &[u8],
-    text: &[u8],
-    is_cut: bool,
-    out: &mut Vec<u8, A>,
-) -> Result<(), AllocError> {
-    let mut line = labelled(alloc, label)?;
-    escaped_end_into(alloc, text, is_cut, &mut line)?;
-    line.end_into(out)
-}
-
-// The end of a text, shown.
-fn escaped_end_into<A: Allocator + Copy>(
-    alloc: A,
-    text: &[u8],
-    is_cut: bool,
-    line: &mut ScreenLine<A>,
-) -> Result<(), AllocError> {
-    let mut shown = Vec::new(alloc);
-    escaped_into(text, &mut shown)?;
-    end_of_into(shown.as_slice(), OUTPUT_WIDTH, is_cut, line)
-}
-
-// Whether the last bytes of a text, so many, begin within a line.
-fn begins_within_line(text: &[u8], count: usize) -> bool {
-    let before = text.split_at(text.len() - text.len().min(count)).0;
-    before.last().is_some_and(|byte| *byte != LINE_FEED)
-}
-
 // How long the first line of a text is, with its line feed.
 fn line_len(text: &[u8]) -> usize
     ensures { result ≤ length text.now }
 {
-    for (place, byte) in text.iter().enumerate() {
-        if *byte == LINE_FEED {
-            return place + 1;
-        }
+    match text.iter().position(|byte| *byte == LINE_FEED) {
+        Some(place) => place + 1,
+        None => text.len(),
     }
-    text.len()
 }
 
 // The last lines of a text, as many as are shown.

@@ -109,7 +109,7 @@ impl<A: Allocator + Copy> ScreenLine<A> {
     /// written, so that it is not taken for several. Of a long one what can be seen decides.
     pub fn show_argument(&mut self, text: &[u8]) -> Result<(), AllocError> {
         let seen = front(text, self.width.saturating_add(1));
-        if !has_marks(seen) {
+        if !seen.iter().any(|byte| matches!(*byte, b',' | b'(' | b')')) {
             return self.show(seen);
         }
         self.put(&[Part::Words(b"("), Part::Shown(seen), Part::Words(b")")])
@@ -129,7 +129,8 @@ impl<A: Allocator + Copy> ScreenLine<A> {
         if self.bytes.len() <= columns {
             return Ok(());
         }
-        let place = cut_place(&self.bytes, columns.saturating_sub(CUT.len()));
+        let most = columns.saturating_sub(CUT.len());
+        let place = shown_by_four(self.bytes.as_slice(), most).unwrap_or(most);
         self.bytes.truncate(place);
         self.bytes.extend_from_slice(CUT)
     }
@@ -184,25 +185,16 @@ pub fn tail(text: &[u8], most: usize) -> &[u8] {
 /// The end of a text of shown bytes, of so many columns at most, where no byte is cut that is shown by four.
 pub fn shown_tail(shown: &[u8], most: usize) -> &[u8] {
     let place = shown.len() - shown.len().min(most);
-    for back in 1..4 {
-        if back <= place && shown[place - back] == b'\\' {
-            return shown.split_at(shown.len().min(place - back + 4)).1;
-        }
-    }
-    shown.split_at(place).1
+    let from = shown_by_four(shown, place).map_or(place, |start| start.saturating_add(4));
+    shown.split_at(shown.len().min(from)).1
 }
 
-// Whether a text has a byte that would end an argument, or begin or end a protected text.
-fn has_marks(text: &[u8]) -> bool {
-    text.iter().any(|byte| matches!(*byte, b',' | b'(' | b')'))
-}
-
-// Where a line of shown bytes can be cut, at this place at the latest: not within a byte that is shown by four.
-fn cut_place<A: Allocator>(bytes: &Vec<u8, A>, most: usize) -> usize {
+// Where the byte begins that is shown by four, if a text of shown bytes is cut within one at this place.
+fn shown_by_four(shown: &[u8], place: usize) -> Option<usize> {
     for back in 1..4 {
-        if back <= most && bytes.as_slice().get(most - back) == Some(&b'\\') {
-            return most - back;
+        if back <= place && shown.get(place - back) == Some(&b'\\') {
+            return Some(place - back);
         }
     }
-    most
+    None
 }

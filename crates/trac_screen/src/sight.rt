@@ -48,10 +48,7 @@ fn sight_in<E: TwoEnds<u8, A>, M: TwoEnds<Mark, A>, A: Allocator + Copy>(
 /// How many arguments the begun function of this number has so far, its name among them, the outermost function being
 /// number 0.
 pub fn argument_count<A: Allocator + Copy>(machine: &Machine<A>, number: usize) -> usize {
-    match arguments_in(machine, number) {
-        Some(arguments) => arguments.count(),
-        None => 0,
-    }
+    arguments_in(machine, number).map_or(0, |arguments| arguments.count())
 }
 
 /// Whether the begun function of this number, the outermost being number 0, has an empty name.
@@ -64,10 +61,8 @@ fn arguments_in<E: TwoEnds<u8, A>, M: TwoEnds<Mark, A>, A: Allocator + Copy>(
     machine: &Core<E, M, A>,
     number: usize,
 ) -> Option<Args<'_>> {
-    match machine.frame(number) {
-        Some((_, arguments)) => Some(arguments),
-        None => None,
-    }
+    let (_, arguments) = machine.frame(number)?;
+    Some(arguments)
 }
 
 // The text that is gathered at this depth.

@@ -69,21 +69,13 @@ pub fn treatment_into<A: Allocator + Copy>(
     out: &mut Vec<u8, A>,
 ) -> Result<(), AllocError> {
     let mut line = step_line(alloc, step, sight)?;
-    say_treatment(treatment, &mut line)?;
-    line.end_into(out)
-}
-
-// What was done, in words.
-fn say_treatment<A: Allocator + Copy>(
-    treatment: Treatment,
-    line: &mut ScreenLine<A>,
-) -> Result<(), AllocError> {
     line.say(words_of(treatment))?;
     match treatment {
-        Treatment::Ends(origin) => read_into(origin, line),
-        Treatment::LeavesGap(number) => line.put(&[Number(number), Words(b" empty")]),
-        _ => Ok(()),
+        Treatment::Ends(origin) => read_into(origin, &mut line)?,
+        Treatment::LeavesGap(number) => line.put(&[Number(number), Words(b" empty")])?,
+        _ => {}
     }
+    line.end_into(out)
 }
 
 // The place of a byte that was read; nothing of another one.

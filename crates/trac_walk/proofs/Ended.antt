@@ -1,20 +1,13 @@
 -- How a walk ends, by how its dialogue does.
 use Rattle.std.proofs.Common.{◌≡◌, inl, inr, ℕ, ◌<◌, ◌≤◌, List, length, sym, subst, arith}
-use Rattle.std.specs.Prelude.{Option, ◌↔◌}
+use Rattle.std.specs.Prelude.{◌↔◌}
 use Rattle.trac_rules.specs.declared.limit.TheConstants.{TAPE_LIMIT}
 use Rattle.trac_streams.specs.declared.ending.Ending.{Ending}
 use Rattle.trac_streams.specs.declared.ending.Ending.TheVariants.{Ended, Budget, Limit, Memory, Read, Write, NotUnderstood}
-use Rattle.trac_dialogue.specs.Talks.{Gives, IsStop, Takes}
-use Rattle.trac_dialogue.proofs.Talked as talked
+use Rattle.trac_dialogue.specs.Talks.{IsStop}
+use Rattle.trac_dialogue.proofs.Talked.{gives_none, takes_none}
 use Rattle.trac_streams.specs.Tape.{MayRefuseTape}
 use Rattle.trac_walk.specs.Ends.{MayEnd}
-
--- nothing is read, and nothing is written
-pub takes_none : (a : Option (List ℕ)) → Takes a a
-takes_none = talked.takes_none
-
-pub gives_none : (a : Option (List ℕ)) → Gives a a
-gives_none = talked.gives_none
 
 -- what ends a dialogue that was begun may end one
 pub stop_may_end : (e : Ending) → IsStop e → MayEnd e

@@ -1,7 +1,7 @@
 -- What a search within the room that there is answers.
 use Rattle.std.proofs.Common.{◌≡◌, ℕ, ◌+◌, ◌-◌, ◌<◌, ◌≤◌, refl, subst, arith, ⊎_elim}
 use Rattle.std.proofs.lemmas.Bool.{cases_lt}
-use Rattle.std.specs.Prelude.{Option, None, Some, min}
+use Rattle.std.specs.Prelude.{Option, None, Some}
 use Rattle.trac_rules.specs.declared.refusal.Refusal.{Refusal}
 use Rattle.trac_rules.specs.declared.refusal.Refusal.TheVariants.{JournalFull, NotMet}
 use Rattle.trac_rules.specs.Session.{PlainSession, Goal}
@@ -124,9 +124,6 @@ pub near_at : {most_weight w : ℕ} {goal : Goal} {most : ℕ} {old new : PlainS
 near_at {most_weight} {w} {goal} {most} {old} {new} {found} same near light =
     subst (λ n. IsAsNear n goal most most old found new) same (near (omega (arith, light, same)))
 
-pub kept_at : {weight w steps limit light : ℕ} {goal : Goal} {most : ℕ} {old new : PlainSession} {found : Search} → w ≡ weight → steps ≡ limit → light ≡ near_weight weight old →
-    (weights_from old.earlier ≤ light → IsAsNear w goal (min most steps) most old found new) → weights_from old.earlier ≤ weight →
-    IsAsNear weight goal (min most limit) most old found new
-kept_at {weight} {w} {steps} {limit} {light} {goal} {most} {old} {new} {found} same all less kept within =
-    subst (λ n. IsAsNear n goal (min most limit) most old found new) same
-    (subst (λ k. IsAsNear w goal (min most k) most old found new) all (kept (omega (arith, within, less))))
+pub kept_at : {weight w room : ℕ} {goal : Goal} {most : ℕ} {old new : PlainSession} {found : Search} → w ≡ near_weight weight old →
+    (weights_from old.earlier ≤ w → IsAsNear weight goal room most old found new) → weights_from old.earlier ≤ weight → IsAsNear weight goal room most old found new
+kept_at less kept within = kept (omega (arith, within, less))

@@ -75,12 +75,11 @@ unmet_why (Some other) is = absurd (cc)
 pub other_why : (why : Option Refusal) → is_unmet why ≡ false → why ≡ Some NotMet → ⊥
 other_why why is met = let no : true ≡ false = sym (ap is_unmet met) ∙ is in cc
 
--- however the numbers are said
-pub unmet : {w weight k n m : ℕ} {goal : Goal} {old now : PlainSession} {why : Option Refusal} → w ≡ weight → k ≡ n → why ≡ Some NotMet → IsSearchWithin w goal k old m why now →
-    IsUnmet weight goal n old m now
-unmet {w} {weight} {k} {n} {m} {goal} {old} {now} {why} same all is search =
-    let not_met : IsSearchWithin w goal k old m (Some NotMet) now = subst (λ r. IsSearchWithin w goal k old m r now) is search in
-    subst (λ v. IsUnmet v goal n old m now) same (subst (λ j. IsUnmet w goal j old m now) all (unmet_by w goal k m old now not_met.0 not_met.1 not_met.2))
+-- however their number is said
+pub unmet : {weight k n m : ℕ} {goal : Goal} {old now : PlainSession} {why : Option Refusal} → k ≡ n → why ≡ Some NotMet → IsSearchWithin weight goal k old m why now → IsUnmet weight goal n old m now
+unmet {weight} {k} {n} {m} {goal} {old} {now} {why} all is search =
+    let not_met : IsSearchWithin weight goal k old m (Some NotMet) now = subst (λ r. IsSearchWithin weight goal k old m r now) is search in
+    subst (λ j. IsUnmet weight goal j old m now) all (unmet_by weight goal k m old now not_met.0 not_met.1 not_met.2)
 
 -- ---- on from there, while the records weigh no more than this
 

@@ -1,5 +1,5 @@
 //! The calls that passed a byte on, of which a reply is made.
-ghost use Rattle.std.specs.Prelude.{◌≡◌, length, IfOk};
+ghost use Rattle.std.specs.Prelude.{◌≡◌, length};
 ghost use Rattle.trac_follow.specs.Places.{place_of};
 ghost use Rattle.trac_follow.specs.Tracing.{way_of};
 ghost use Rattle.trac_walk.specs.Ways.{AreTold, Tells, deed_at, number_of_step};
@@ -68,26 +68,13 @@ impl<A: Allocator + Copy> Witness<A> for Way<A> {
             return Ok(());
         }
         let step = self.step.saturating_sub(steps);
-        let told = told_at(self.alloc, machine, step, deed_at(from))?;
-        self.told.push(told)?;
+        let deed = deed_at(from);
+        let mut line = Vec::new(self.alloc);
+        treatment_into(self.alloc, step, &sight_of(machine), deed, &mut line)?;
+        self.told.push(Told { step, deed, line })?;
         self.count = count;
         Ok(())
     }
-}
-
-// What is told of the call that a machine performs next, which is this step. The error is that memory was refused.
-fn told_at<A: Allocator + Copy>(
-    alloc: A,
-    machine: &Machine<A>,
-    step: u64,
-    deed: Treatment,
-) -> Result<Told<A>, AllocError>
-    ensures step { IfOk result (λ told. told.step ≡ step) }
-    ensures deed { IfOk result (λ told. told.deed ≡ deed) }
-{
-    let mut line = Vec::new(alloc);
-    treatment_into(alloc, step, &sight_of(machine), deed, &mut line)?;
-    Ok(Told { step, deed, line })
 }
 
 // What a call did to a byte that is here after it.

@@ -7,7 +7,7 @@ use crate::searching::Search;
 use crate::walker::Walker;
 use std::alloc::Allocator;
 use trac_orders::Move;
-use trac_screen::{Glance, SEARCH_LIMIT, Stop};
+use trac_screen::{SEARCH_LIMIT, Stop};
 use trac_session::Refusal;
 
 /// Carries out a move, and says why it stopped before its goal, if it did. It takes no memory but for steps, and for a
@@ -24,7 +24,7 @@ pub fn carry_out<A: Allocator + Copy>(
         Move::Back(steps) => stop_back(walker.back(steps)),
         Move::ToEnd => to_end(walker),
         Move::ToStart => to_start(walker),
-        Move::To(step) => go_to(walker, step),
+        Move::To(step) => stop_back(walker.go_to(step)),
         Move::Over => over(walker),
         Move::OverBack => over_back(walker),
         Move::Out => out(walker),
@@ -119,11 +119,6 @@ fn to_change<A: Allocator + Copy>(walker: &mut Walker<A>, name: &[u8]) -> Option
     stopped
 }
 
-// To a step, forward or back.
-fn go_to<A: Allocator + Copy>(walker: &mut Walker<A>, step: u64) -> Option<Stop> {
-    stop_back(walker.go_to(step))
-}
-
 // Over the function that begins or is performed next: until its value is scanned too.
 fn over<A: Allocator + Copy>(walker: &mut Walker<A>) -> Option<Stop> {
     if let Some(stop) = to_function(walker) {
@@ -176,20 +171,24 @@ fn over_back<A: Allocator + Copy>(walker: &mut Walker<A>) -> Option<Stop> {
 }
 
 // Back to the beginning of a function whose value ends at this step, that of the earliest if there are several. What is
-// left to scan here was left after the `)` that ended it, and until here no less was left.
+// left to scan here was left after the `)` that ended it, and until here no less was left. If none is met, that is
+// known from the first step on that is kept.
 fn to_beginning<A: Allocator + Copy>(walker: &mut Walker<A>, here: u64) -> Option<Stop> {
     let rest = walker.glance().rest;
     let unmet = match walker.return_to(Aim::Rest(rest)) {
         None => Stop::NoValue,
         Some(Refusal::NotMet) => {
             let _ = walker.back(u64::MAX);
-            no_value_since(walker.first_step())
+            match walker.first_step() {
+                0 => Stop::NoValue,
+                _ => Stop::NoValueSince,
+            }
         }
         Some(refusal) => return Some(Stop::Refused(refusal)),
     };
     for _ in walker.step()..here {
         let now = walker.glance();
-        if is_call_before(now, rest) {
+        if now.performs && now.rest.saturating_sub(1) == rest {
             return stop_back(walker.return_to(Aim::Shallower(now.depth)));
         }
         let stopped = stop_ahead(walker.forward(1));
@@ -198,20 +197,6 @@ fn to_beginning<A: Allocator + Copy>(walker: &mut Walker<A>, here: u64) -> Optio
         }
     }
     Some(unmet)
-}
-
-// That the value of no call ends here, as far as is known from this step on.
-fn no_value_since(first_step: u64) -> Stop {
-    if first_step == 0 {
-        Stop::NoValue
-    } else {
-        Stop::NoValueSince
-    }
-}
-
-// Whether the next step performs a call, with so many bytes left after its `)`.
-fn is_call_before(now: Glance, rest: usize) -> bool {
-    now.performs && now.rest.saturating_sub(1) == rest
 }
 
 // To the end of the innermost begun function; from there to that of the one around it.

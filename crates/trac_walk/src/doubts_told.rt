@@ -22,27 +22,17 @@ pub fn doubts_into<A: Allocator + Copy>(
 ) -> Result<(), AllocError> {
     let doubts = walker.doubts(alloc)?;
     for number in 0..doubts.len().min(LINE_COUNT) {
-        line_into(alloc, walker, program, doubts[number], out)?;
+        let doubt = doubts[number];
+        let mut line = ScreenLine::new(alloc);
+        doubt_into(&walker.sight(), doubt, &mut line)?;
+        let mut place = ScreenLine::new(alloc);
+        place_into(walker, program, doubt, &mut place)?;
+        line.end_before(place, out)?;
     }
     match doubts.len().saturating_sub(LINE_COUNT) {
         0 => Ok(()),
         others => left_out_into(alloc, others, out),
     }
-}
-
-// A line for a doubt.
-fn line_into<A: Allocator + Copy>(
-    alloc: A,
-    walker: &mut Walker<A>,
-    program: &[u8],
-    doubt: Doubt,
-    out: &mut Vec<u8, A>,
-) -> Result<(), AllocError> {
-    let mut line = ScreenLine::new(alloc);
-    doubt_into(&walker.sight(), doubt, &mut line)?;
-    let mut place = ScreenLine::new(alloc);
-    place_into(walker, program, doubt, &mut place)?;
-    line.end_before(place, out)
 }
 
 // Where the byte comes from that a doubt is about, after a sign; nothing if there is none.
@@ -105,31 +95,17 @@ fn first_byte<'p>(function: usize, argument: usize) -> Place<'p> {
 }
 
 // Where a byte comes from, to which the walker has gone back. For a byte of the idle program that is the text that it
-// reads.
+// reads, from the first byte on that is no blank and no line end.
 fn written_at<A: Allocator + Copy>(walker: &Walker<A>, program: &[u8], end: End) -> Origin {
-    if is_idle(walker, &end) {
-        read_as(text_begins(walker), program)
-    } else {
-        origin_of(walker, program, end)
+    if !is_idle(walker, &end) {
+        return origin_of(walker, program, end);
     }
-}
-
-// The number of the byte of all input with which the text begins that is read next: the first one
-// that is no blank and no line end.
-fn text_begins<A: Allocator + Copy>(walker: &Walker<A>) -> u64 {
-    walker
-        .input_number(walker.sight().position)
-        .saturating_add(layout_len(walker.unread()) as u64)
-}
-
-// How many blanks and line ends stand at the front of a text; 0 if nothing else is in it.
-fn layout_len(text: &[u8]) -> usize {
-    for (place, byte) in text.iter().enumerate() {
-        if !matches!(*byte, b' ' | b'\t' | b'\r' | b'\n') {
-            return place;
-        }
-    }
-    0
+    let read = walker.input_number(walker.sight().position);
+    let skipped = walker
+        .unread()
+        .iter()
+        .position(|byte| !matches!(*byte, b' ' | b'\t' | b'\r' | b'\n'));
+    read_as(read.saturating_add(skipped.unwrap_or(0) as u64), program)
 }
 
 // What stands between a doubt and its place.

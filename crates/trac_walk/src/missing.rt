@@ -80,7 +80,7 @@ impl<A: Allocator + Copy> Telling<'_, A> {
 
     // Goes back to the call that made the gap which is this item of the form that the call names which comes next.
     fn gap_into(&mut self, item: usize) -> Result<(), AllocError> {
-        let name = named_here(self.alloc, self.walker)?;
+        let name = self.walker.argument(self.alloc, 1)?;
         let place = Place::Form(name.as_slice(), item);
         let end = self.walker.trace(place, &mut Unsaid).end;
         is_told(end)?;
@@ -160,13 +160,5 @@ fn is_told(end: End) -> Result<(), AllocError> {
     match end {
         End::Unkept | End::Untold => Err(AllocError),
         _ => Ok(()),
-    }
-}
-
-// A copy of argument 1 of the innermost begun function.
-fn named_here<A: Allocator + Copy>(alloc: A, walker: &Walker<A>) -> Result<Vec<u8, A>, AllocError> {
-    match walker.sight().begun {
-        Some((_, arguments)) => Vec::from_slice(alloc, arguments.get(1)),
-        None => Ok(Vec::new(alloc)),
     }
 }

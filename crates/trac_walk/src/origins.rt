@@ -72,7 +72,11 @@ impl<A: Allocator + Copy> Telling<'_, A> {
         for told in way.told.iter() {
             self.say(told.line.as_slice())?;
         }
-        self.end_into(way.left_out(), origin)?;
+        let left_out = way.left_out();
+        if left_out > 0 {
+            left_out_into(self.alloc, left_out, self.out)?;
+        }
+        self.tell(Treatment::Ends(origin))?;
         self.source_into(read)?;
         self.stand_here()
     }
@@ -109,12 +113,13 @@ impl<A: Allocator + Copy> Telling<'_, A> {
     // Says why nothing stands where a byte is wanted: of an empty argument or form also what left it so.
     fn missing_into(&mut self, spot: Spot<'_>) -> Result<(), AllocError> {
         match spot {
-            Spot::OfForm(name, _) if is_empty_form(self.walker, name) => self.empty_form_into(name),
+            Spot::Next => self.stay(Stop::NoName),
             Spot::OfArgument(argument, _) => self.argument_into(argument, false),
-            spot => {
-                let stop = absent(self.walker, spot);
-                self.stay(stop)
+            Spot::OfForm(name, _) if self.walker.sight().store.get(name).is_none() => {
+                self.stay(Stop::NoSuchForm)
             }
+            Spot::OfForm(name, _) if self.walker.form_len(name) == 0 => self.empty_form_into(name),
+            _ => self.stay(Stop::NoByte),
         }
     }
 
@@ -136,14 +141,6 @@ impl<A: Allocator + Copy> Telling<'_, A> {
             self.printed_later_into(text)?;
         }
         self.stand()
-    }
-
-    // The last lines of a way: how many are left out before it, and the step at which it ends.
-    fn end_into(&mut self, left_out: usize, origin: Origin) -> Result<(), AllocError> {
-        if left_out > 0 {
-            left_out_into(self.alloc, left_out, self.out)?;
-        }
-        self.tell(Treatment::Ends(origin))
     }
 
     // The line of the program that has the byte of this number of the input, if one was read.
@@ -169,10 +166,10 @@ pub fn is_idle<A: Allocator + Copy>(walker: &Walker<A>, end: &End) -> bool {
 fn stands_at<A: Allocator + Copy>(walker: &Walker<A>, spot: Spot<'_>) -> bool {
     let sight = walker.sight();
     match (spot, &sight.begun) {
-        (Spot::OfForm(name, number), _) => match sight.store.get(name) {
-            Some(form) => number <= form.len() as u64,
-            None => false,
-        },
+        (Spot::OfForm(name, number), _) => {
+            let form = sight.store.get(name);
+            form.is_some_and(|form| number <= form.len() as u64)
+        }
         (Spot::OfArgument(argument, number), Some((_, arguments))) => {
             argument < arguments.count() as u64
                 && number <= arguments.get(argument as usize).len() as u64
@@ -192,14 +189,6 @@ fn argument_meant<A: Allocator + Copy>(walker: &Walker<A>, spot: Spot<'_>) -> Op
     }
 }
 
-// Whether there is a form of this name, with nothing in it.
-fn is_empty_form<A: Allocator + Copy>(walker: &Walker<A>, name: &[u8]) -> bool {
-    match walker.sight().store.get(name) {
-        Some(form) => form.len() == 0,
-        None => false,
-    }
-}
-
 // ---- where a byte stands
 
 // Where the byte stands that is wanted.
@@ -214,15 +203,6 @@ fn place_of<'s, A: Allocator + Copy>(
         Spot::OfForm(name, number) => Ok(Place::Form(name, counted(number)?)),
         Spot::OfArgument(argument, number) => of_argument(walker, argument, number),
         Spot::Next => of_next(walker),
-    }
-}
-
-// Why nothing stands where a byte is wanted.
-fn absent<A: Allocator + Copy>(walker: &Walker<A>, spot: Spot<'_>) -> Stop {
-    match spot {
-        Spot::Next => Stop::NoName,
-        Spot::OfForm(name, _) if walker.sight().store.get(name).is_none() => Stop::NoSuchForm,
-        _ => Stop::NoByte,
     }
 }
 

@@ -6,7 +6,7 @@ use crate::places::Places;
 use crate::telling::Telling;
 use std::alloc::{AllocError, Allocator};
 use trac_orders::{
-    HELP, Move, Order, Spot, UNQUOTED, Word, has_words, is_second_quoted, misunderstood, order_of,
+    HELP, Move, Order, Spot, UNQUOTED, has_words, is_second_quoted, misunderstood, order_of,
     texts_of, words_of,
 };
 use trac_prims::primitive_named;
@@ -108,18 +108,8 @@ impl<A: Allocator + Copy> Telling<'_, A> {
             self.say(UNQUOTED)?;
             return Ok(true);
         };
-        self.obey_words(memo, line, &words)
-    }
-
-    // Does what the words of a line ask for; whether the dialogue goes on.
-    fn obey_words(
-        &mut self,
-        memo: &mut Memo<A>,
-        line: &[u8],
-        words: &Vec<Word<A>, A>,
-    ) -> Result<bool, AllocError> {
-        let texts = texts_of(self.alloc, words)?;
-        match order_of(texts.as_slice(), is_second_quoted(words)) {
+        let texts = texts_of(self.alloc, &words)?;
+        match order_of(texts.as_slice(), is_second_quoted(&words)) {
             Some(order) => self.obey(memo, line, order),
             None => {
                 self.say(misunderstood(texts.as_slice()))?;
@@ -142,17 +132,20 @@ impl<A: Allocator + Copy> Telling<'_, A> {
             Order::Follow(spot) => self.follow(memo, line, spot)?,
             Order::Locate => self.written_into()?,
             Order::Feed(text) => self.feed(text)?,
-            Order::EndInput => self.end_input()?,
-            Order::Calls(count, is_whole) => self.list_calls(count, is_whole)?,
-            Order::Print => {
-                screen_into(
-                    self.alloc,
-                    self.walker.machine(),
-                    self.walker.reach(),
-                    self.out,
-                )?
+            Order::EndInput => {
+                self.walker.end_input();
+                self.stand()?
             }
-            Order::PrintAll => self.print_all()?,
+            Order::Calls(count, is_whole) => self.calls_into(count, is_whole)?,
+            Order::Print => {
+                let reach = self.walker.reach();
+                screen_into(self.alloc, self.walker.machine(), reach, self.out)?
+            }
+            Order::PrintAll => {
+                let steps_back = self.walker.steps_back();
+                let lines = machine_lines(self.alloc, self.walker.machine(), steps_back)?;
+                self.say(lines.as_slice())?
+            }
             Order::Forms => list_into(self.alloc, self.walker.sight().store, self.out)?,
             Order::Form(name) => form_into(self.walker.sight().store, name, self.out)?,
             Order::Help => self.say(HELP)?,
@@ -182,10 +175,8 @@ impl<A: Allocator + Copy> Telling<'_, A> {
     // Goes back to where the last move began of those that are kept, and says where it has come to.
     fn recall(&mut self, memo: &mut Memo<A>, line: &[u8]) -> Result<(), AllocError> {
         memo.keep_line(self.alloc, line)?;
-        match memo
-            .places
-            .take(self.walker.step(), self.walker.first_step())
-        {
+        let (step, first_step) = (self.walker.step(), self.walker.first_step());
+        match memo.places.take(step, first_step) {
             None => self.say(NO_PLACE)?,
             Some(place) => {
                 let stop = carry_out(self.walker, Move::To(place), 0);
@@ -205,7 +196,11 @@ impl<A: Allocator + Copy> Telling<'_, A> {
         memo.keep_line(self.alloc, line)?;
         let start = self.walker.step();
         self.way_into(spot)?;
-        memo.follows_on = is_printed(spot) && self.walker.step() != start;
+        let is_printed = matches!(
+            spot,
+            Spot::Printed(_) | Spot::LastPrinted | Spot::PrintedText(_)
+        );
+        memo.follows_on = is_printed && self.walker.step() != start;
         memo.places.keep(start, self.walker.step())
     }
 
@@ -249,35 +244,6 @@ impl<A: Allocator + Copy> Telling<'_, A> {
         }
         self.stand()
     }
-
-    // Ends the input, and says where it stands.
-    fn end_input(&mut self) -> Result<(), AllocError> {
-        self.walker.end_input();
-        self.stand()
-    }
-
-    // Lists the last calls, and says where it stands.
-    fn list_calls(&mut self, count: u64, is_whole: bool) -> Result<(), AllocError> {
-        if let Some(refusal) = self.calls_into(count, is_whole)? {
-            self.stop(Stop::Refused(refusal))?;
-        }
-        self.stand()
-    }
-
-    // Shows all of the state.
-    fn print_all(&mut self) -> Result<(), AllocError> {
-        let steps_back = self.walker.steps_back();
-        let lines = machine_lines(self.alloc, self.walker.machine(), steps_back)?;
-        self.say(lines.as_slice())
-    }
-}
-
-// Whether a byte is meant that was printed.
-fn is_printed(spot: Spot<'_>) -> bool {
-    matches!(
-        spot,
-        Spot::Printed(_) | Spot::LastPrinted | Spot::PrintedText(_)
-    )
 }
 
 // Whether a move stopped because what it looked for is not met.

@@ -38,20 +38,8 @@ struct Leg {
 }
 
 impl Room {
-    // Where a search by so many steps at most begins: while the records weigh little there is no difference between
-    // the steps that are kept and others.
-    fn first_leg(self, most: u64) -> Leg
-        ensures most { result.most ≡ min most self.steps }
-        ensures weight { result.weight ≡ self.light }
-    {
-        Leg {
-            most: most.min(self.steps),
-            weight: self.light,
-        }
-    }
-
-    // How it goes on after so many steps: over those that are left of the steps that are kept, whose records may weigh
-    // more, or else over all that are left.
+    // How a search by so many steps at most goes on after so many: over those that are left of the steps that are kept,
+    // whose records may weigh more, or else over all that are left.
     fn second_leg(self, done: u64, most: u64) -> Leg
         requires { done ≤ most }
         ensures kept { done < min most self.steps →
@@ -98,33 +86,17 @@ impl<A: Allocator + Copy> Walker<A> {
             self.old.weight (goal_of_aim aim.entry) (min most self.old.limit) most
             self.old.window.session result self.new.window.session }
     {
-        let room = self.search_room();
+        let now = self.window.session.weight();
+        let room = Room {
+            steps: self.limit as u64,
+            weight: self.weight,
+            light: self.weight.min(now.saturating_add(NEAR_WEIGHT)),
+        };
         match search_near(&mut self.window.session, aim, most, room) {
             Search::Met => Search::Met,
             Search::Unmet(Refusal::JournalFull, done) => self.search_far(aim, done, most),
             Search::Unmet(refusal, done) => Search::Unmet(refusal, done),
         }
-    }
-
-    // How far a search goes before the program is run anew.
-    fn search_room(&self) -> Room
-        ensures steps { result.steps ≡ self.now.limit }
-        ensures weight { result.weight ≡ self.now.weight }
-        ensures light { result.light ≡ near_weight self.now.weight self.now.window.session }
-    {
-        Room {
-            steps: self.limit() as u64,
-            weight: self.weight(),
-            light: self.near_weight(),
-        }
-    }
-
-    // How much the records may weigh over more steps than are kept.
-    fn near_weight(&self) -> u64
-        ensures { result ≡ near_weight self.now.weight self.now.window.session }
-    {
-        let now = self.window.session.weight();
-        self.weight().min(now.saturating_add(NEAR_WEIGHT))
     }
 
     /// The same after so many steps on which nothing was met, in a run of the program anew. What that keeps takes the
@@ -202,7 +174,12 @@ fn walk_near<A: Allocator + Copy>(
     ensures kept { weights_from session.old.earlier ≤ room.light → IsAsNear room.weight
         (goal_of_aim aim.entry) (min most room.steps) most session.old (found_by result.done result.why) session.new }
 {
-    let first = walk_leg(session, aim, room.first_leg(most));
+    // while the records weigh little there is no difference between the steps that are kept and others
+    let leg = Leg {
+        most: most.min(room.steps),
+        weight: room.light,
+    };
+    let first = walk_leg(session, aim, leg);
     if has_met_nothing(first) {
         let leg = room.second_leg(first.done, most);
         let second = walk_leg(session, aim, leg);

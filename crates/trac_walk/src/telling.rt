@@ -22,12 +22,8 @@ impl<A: Allocator + Copy> Telling<'_, A> {
 
     /// Says where the walker stands.
     pub(crate) fn stand(&mut self) -> Result<(), AllocError> {
-        standing_into(
-            self.alloc,
-            self.walker.step(),
-            &self.walker.sight(),
-            self.out,
-        )
+        let step = self.walker.step();
+        standing_into(self.alloc, step, &self.walker.sight(), self.out)
     }
 
     /// The same, at the end of what is told.

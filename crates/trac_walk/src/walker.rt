@@ -10,7 +10,6 @@ ghost use Rattle.trac_walk.specs.Ways.{number_of_step};
 use crate::aim::{Aim, goal_for};
 use std::alloc::{AllocError, Allocator};
 use trac_follow::{Followed, Place, Traced, Witness, follow, trace};
-use trac_forms::{Form, FormError, Store};
 use trac_rules::byte::LINE_FEED;
 use trac_rules::limit::{JOURNAL_LIMIT, TAPE_LIMIT};
 use trac_rules::width::Width;
@@ -31,9 +30,9 @@ pub struct Walker<A: Allocator + Copy> {
     // the session, and what of it is forgotten
     pub(crate) window: Window<A>,
     // how many steps are kept; a search may go further before it has to run the program anew
-    limit: usize,
+    pub(crate) limit: usize,
     // how much the records may weigh
-    weight: u64,
+    pub(crate) weight: u64,
     // why some were forgotten first; not said if the journal was full
     pub(crate) reason: Option<Forgetting>,
     // all input so far, which begins with the program
@@ -84,20 +83,6 @@ impl<A: Allocator + Copy> Walker<A> {
         Ok(window)
     }
 
-    /// How many steps are kept.
-    pub(crate) fn limit(&self) -> usize
-        ensures { result ≡ self.now.limit }
-    {
-        self.limit
-    }
-
-    /// How much the records may weigh.
-    pub(crate) fn weight(&self) -> u64
-        ensures { result ≡ self.now.weight }
-    {
-        self.weight
-    }
-
     /// The machine, which shows the state.
     pub fn machine(&self) -> &Machine<A> {
         self.window.session.machine()
@@ -132,9 +117,8 @@ impl<A: Allocator + Copy> Walker<A> {
     pub fn step(&self) -> u64
         ensures { result ≡ number_of_step self.now.window.forgotten (length self.now.window.session.earlier) }
     {
-        self.window
-            .forgotten
-            .saturating_add(self.window.session.len() as u64)
+        let kept = self.window.session.len() as u64;
+        self.window.forgotten.saturating_add(kept)
     }
 
     /// The first step that one can go back to.
@@ -167,19 +151,13 @@ impl<A: Allocator + Copy> Walker<A> {
             step: self.step(),
             first_step: self.window.forgotten,
             unread: self.unread().len() as u64,
-            printed: self
-                .window
-                .released
-                .saturating_add(self.window.session.pending().len() as u64),
+            printed: self.released().saturating_add(self.pending().len() as u64),
         }
     }
 
     /// The doubts of the next step. The error is that memory was refused.
     pub fn doubts(&self, alloc: A) -> Result<Vec<Doubt, A>, AllocError> {
-        match self.window.session.doubts(alloc) {
-            Ok(doubts) => Ok(doubts),
-            Err(_) => Err(AllocError),
-        }
+        self.window.session.doubts(alloc).map_err(|_| AllocError)
     }
 
     /// Adds a line to the input.
@@ -226,10 +204,7 @@ impl<A: Allocator + Copy> Walker<A> {
 
     /// How many items the form of this name has; 0 if there is none.
     pub fn form_len(&self, name: &[u8]) -> usize {
-        match self.sight().store.get(name) {
-            Some(form) => form.len(),
-            None => 0,
-        }
+        self.sight().store.get(name).map_or(0, |form| form.len())
     }
 
     /// A copy of an argument of the function that was begun last; null if there is none. The error is that memory was
@@ -332,10 +307,11 @@ impl<A: Allocator + Copy> Walker<A> {
     /// Goes back to the call that changed the form of this name last, as `return_to` does. `Memory` also if there is
     /// none for a copy of the form, and then it does not move.
     pub fn return_to_change(&mut self, name: &[u8]) -> Option<Refusal> {
-        let Ok(form) = form_of(self.sight().store, name) else {
+        let copy = self.sight().store.get(name).map(|form| form.copy());
+        let Ok(form) = copy.transpose() else {
             return Some(Refusal::Memory);
         };
-        refusal_of(self.window.session.return_to(other_form(name, &form)))
+        refusal_of(self.window.session.return_to(Goal::OtherForm(name, &form)))
     }
 
     /// Forgets all but the last steps, so many as are kept.
@@ -389,22 +365,6 @@ fn walk_on<A: Allocator + Copy>(
         Some(aim) => session.forward_to_within(goal_for(aim), most, weight),
         None => session.forward_within(most, weight),
     }
-}
-
-// A copy of the form of this name, if there is one. The error is that memory was refused.
-fn form_of<A: Allocator + Copy>(
-    store: &Store<A>,
-    name: &[u8],
-) -> Result<Option<Form<A>>, FormError> {
-    match store.get(name) {
-        Some(form) => Ok(Some(form.copy()?)),
-        None => Ok(None),
-    }
-}
-
-// The goal that the form of this name is another one than this.
-fn other_form<'a, A: Allocator + Copy>(name: &'a [u8], form: &'a Option<Form<A>>) -> Goal<'a, A> {
-    Goal::OtherForm(name, form)
 }
 
 // Why a walk back did not meet its goal.
