@@ -1,20 +1,21 @@
 //! Where bytes come from by the rules of scanning that move on.
-ghost use Rattle.std.specs.Prelude.{◌≡◌, length, true, Ok, Some};
-ghost use Rattle.trac_origins.specs.Lengths.{is_outside};
+ghost use Rattle.std.specs.Prelude.{◌≡◌, ◌≤◌, false, length, true, IfSome, MatchOption, Ok, Some};
+ghost use Rattle.trac_origins.specs.Lengths.{first_moved, is_outside, moves_bytes};
 ghost use Rattle.trac_origins.specs.Places.{InActive, found_at};
 ghost use Rattle.trac_origins.specs.Stepping.{origin};
 ghost use Rattle.trac_rules.specs.declared.item.Item.{Item};
-ghost use Rattle.trac_rules.specs.Scanning.{Moves, scan};
+ghost use Rattle.trac_rules.specs.Scanning.{Moves, front_of, scan};
 ghost use Rattle.trac_rules.specs.State.{Environment, State};
 ghost use Rattle.trac_rules.specs.Stepping.{step};
 ghost use Rattle.trac_follow.specs.Places.{IsBare, IsTakenOut, Tells, place_of};
 
-use crate::front::first_moved_at;
 use crate::place::{Origin, Place};
 use crate::standing::{past_current, stands};
 use std::alloc::Allocator;
 use trac_gap::TwoEnds;
+use trac_rules::scan::Front;
 use trac_step::{Core, Mark};
+use trac_text::front::front_at;
 
 // Where what stands at a place comes from, after a step by which scanning moves on and which leaves
 // so much of the active text.
@@ -76,4 +77,17 @@ fn gathered<'a, E: TwoEnds<u8, A>, M: TwoEnds<Mark, A>, A: Allocator + Copy>(
         return Origin::Nothing;
     }
     Origin::Carried(Place::Active(first + n))
+}
+
+// Where the first byte stands in the active text that the rule moves to the current text, if the rule moves any.
+fn first_moved_at(active: &[u8]) -> Option<usize>
+    ensures moves { MatchOption result (moves_bytes (front_of active.now) ≡ false)
+        (λ n. (moves_bytes (front_of active.now) ≡ true) × (n ≡ first_moved (front_of active.now))) }
+    ensures small { IfSome result (λ n. n ≤ 1) }
+{
+    match front_at(active) {
+        Front::Opening => Some(1),
+        Front::Sharp | Front::Plain => Some(0),
+        _ => None,
+    }
 }

@@ -1,5 +1,5 @@
 use Rattle.std.proofs.Common.{◌-◌, inl, inr, arith}
-use Rattle.trac_follow.proofs.ShownTold.{shown_before, shown_past}
+use Rattle.trac_follow.proofs.FormsTold.{shown_before, shown_past}
 use Rattle.trac_follow.proofs.formed.shown_item.Goals as goal
 
 pub returns-in-Here-clause-tells : goal.returns-in-Here-clause-tells

@@ -8,16 +8,14 @@ use Rattle.trac_follow.proofs.history.measured.Goals as goal
 
 pub returns-in-Form : goal.returns-in-Form
 returns-in-Form g c = λ stands.
-    let s = c.args.machine.now.state in
-    subst (λ p. IsPlaced c.measured_in.result.0 c.measured_in.result.1 s (place_of p)) (sym c.in-Form.is)
-    (aside c.measured_in.result.0 c.measured_in.result.1 s (place_of (code_place.TheVariants.Form c.in-Form.name c.in-Form.i)) refl c.measured_in.ensures)
+    subst (λ p. IsPlaced c.measured_in.result.0 c.measured_in.result.1 c.args.machine.now.state (place_of p)) (sym c.in-Form.is)
+    (aside c.measured_in.result.0 c.measured_in.result.1 c.args.machine.now.state (place_of (code_place.TheVariants.Form c.in-Form.name c.in-Form.i)) refl c.measured_in.ensures)
 
 pub returns-in-Argument : goal.returns-in-Argument
 returns-in-Argument g c = λ stands.
-    let s = c.args.machine.now.state in
-    subst (λ p. IsPlaced c.argument_offset.result false s (place_of p)) (sym c.in-Argument.is) (record {
+    subst (λ p. IsPlaced c.argument_offset.result false c.args.machine.now.state (place_of p)) (sym c.in-Argument.is) (record {
       measured = tt;
-      before = λ text. c.argument_offset.ensures (subst (λ p. Stands s (place_of p)) c.in-Argument.is stands);
+      before = λ text. c.argument_offset.ensures (subst (λ p. Stands c.args.machine.now.state (place_of p)) c.in-Argument.is stands);
     })
 
 others : (s : State) (p : code_place.Place) → ((i : ℕ) → p ≡ code_place.TheVariants.Base i → ⊥) → ((f k i : ℕ) → p ≡ code_place.TheVariants.Argument f k i → ⊥) →
