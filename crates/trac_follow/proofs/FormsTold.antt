@@ -1,5 +1,5 @@
 -- Bytes that calls take out of forms, print of them and cut in them, as the code tells them.
-use Rattle.std.proofs.Common.{◌≡◌, ℕ, ◌+◌, ◌-◌, ◌<◌, ◌≤◌, min, Bool, true, false, cond, List, length, take, drop, refl, sym, ap, ap₂, subst, ◌∙◌, ⊎_elim, arith}
+use Rattle.std.proofs.Common.{◌≡◌, ℕ, ◌+◌, ◌-◌, ◌<◌, ◌≤◌, min, true, List, length, take, drop, refl, sym, ap, ap₂, subst, ◌∙◌, ⊎_elim, arith}
 use Rattle.std.specs.Prelude.{◌⊎◌, ◌++◌, codes, Option, None, Some, IfSome, Ok, bytes_eq, option_map, slice_get, ◌&&◌, nat_le}
 use Rattle.std.specs.FinMap as finite
 use Rattle.std.specs.List.{flat_map}

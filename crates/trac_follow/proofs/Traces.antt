@@ -4,7 +4,7 @@ use Rattle.std.specs.Prelude.{Some}
 use Rattle.std.proofs.lemmas.List.{append-nil, append_assoc}
 use Rattle.trac_rules.specs.declared.width.Width.{Width}
 use Rattle.trac_rules.specs.Session.{PlainSession, Back, over, repeated}
-use Rattle.trac_rules.specs.State.{Environment, State}
+use Rattle.trac_rules.specs.State.{State}
 use Rattle.trac_rules.specs.Trails.{AreSteps, IsTrail}
 use Rattle.trac_rules.proofs.TakenAgain.{repeated_trail}
 use Rattle.trac_origins.specs.Accounts.{IsSource as IsOriginOf}

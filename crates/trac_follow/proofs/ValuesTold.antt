@@ -1,6 +1,6 @@
 -- Bytes of values, and of what `ps` prints, as the code tells them.
 use Rattle.std.proofs.Common.{◌≡◌, ℕ, ◌+◌, ◌-◌, ◌<◌, ◌≤◌, Bool, true, false, List, [], ◌∷◌, ◌++◌, length, take, refl, sym, ap, ap₂, subst, ◌∙◌, ℤ, not, ⊎_elim, arith}
-use Rattle.std.specs.Prelude.{Option, None, Some, Ok, ◌⊎◌, bytes_eq, is_none, is_some}
+use Rattle.std.specs.Prelude.{Option, None, Some, Ok, ◌⊎◌, is_none, is_some}
 use Rattle.std.specs.List.{flat_map}
 use Rattle.std.proofs.lemmas.List.{length-append}
 use Rattle.trac_rules.specs.declared.primitive.Computation.{Computation}
@@ -14,7 +14,7 @@ use Rattle.trac_rules.specs.declared.width.Width.{Width}
 use Rattle.trac_rules.specs.Computing.{computed, number_argument, result_of}
 use Rattle.trac_rules.specs.Effect.{Effect, argument, gives_or_forces}
 use Rattle.trac_rules.specs.Listing.{names_of}
-use Rattle.trac_rules.specs.Number.{after_prefix, calculated, is_greater, numeral_of, on_both, prefix_of}
+use Rattle.trac_rules.specs.Number.{after_prefix, calculated, on_both, prefix_of}
 use Rattle.trac_rules.specs.Performing.{after_call, primitive_of, trace_line}
 use Rattle.trac_rules.specs.Scanning.{Call, Calls, scan}
 use Rattle.trac_rules.specs.State.{Environment, Forms, State, Storage, storage_of}
