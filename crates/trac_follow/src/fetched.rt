@@ -27,13 +27,10 @@ pub(crate) fn before_fetch<'a, A: Allocator + Copy>(
     ensures { place_of result
         ≡ place_fetched (block_named given.now (storage_in store.now)) name.now i (storage_in store.now) }
 {
-    let Some(number) = named_block(store, given) else {
-        return Place::Form(name, i);
-    };
-    if held_in(store, number, name).is_some() {
-        return Place::Held(number, name, i);
+    match named_block(store, given) {
+        Some(number) if held_in(store, number, name).is_some() => Place::Held(number, name, i),
+        _ => Place::Form(name, i),
     }
-    Place::Form(name, i)
 }
 
 // ---- the block that a form names

@@ -35,9 +35,7 @@ pub(crate) fn before_run<'a, E: TwoEnds<u8, A>, M: TwoEnds<Mark, A>, A: Allocato
             // A byte past the end of this machine's neutral text was that far into its active text.
             in_active(measure.0.checked_sub(before.neutral_len()), place)
         }
-        Place::Form(_, _) => place,
-        Place::Held(_, _, _) => place,
-        Place::Output(_) => place,
+        Place::Form(_, _) | Place::Held(_, _, _) | Place::Output(_) => place,
     }
 }
 

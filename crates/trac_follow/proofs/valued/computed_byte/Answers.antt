@@ -1,4 +1,4 @@
-use Rattle.std.proofs.Common.{◌≡◌, sym, ap, subst, ◌∙◌}
+use Rattle.std.proofs.Common.{◌≡◌, sym, ap, ap₂, subst, ◌∙◌}
 use Rattle.std.specs.Str.{bytes_eq}
 use Rattle.trac_rules.specs.declared.primitive.Computation.{Computation}
 use Rattle.trac_rules.specs.declared.primitive.Computation.TheVariants.{Equal, Greater}
@@ -19,9 +19,12 @@ returns-in-Equal-clause-tells c =
 
 pub returns-in-Greater-clause-tells : goal.returns-in-Greater-clause-tells
 returns-in-Greater-clause-tells c =
+    let same : c.greater.result ≡ is_greater (numeral_of (argument 1 c.args.arguments.now)) (numeral_of (argument 2 c.args.arguments.now)) =
+    c.greater.ensures
+    ∙ ap₂ is_greater (c.read_tail.ensures.numeral ∙ ap numeral_of c.get-in-Greater.ensures) (c.read_tail-in-Greater.ensures.numeral ∙ ap numeral_of c.get-in-Greater-2.ensures) in
     subst (λ (k : Computation). TellsComputed k c.args.arguments.now c.args.asked.function c.args.asked.width c.args.asked.byte c.argument_byte-in-Greater.result) (sym c.in-Greater.is)
     (subst (λ told. TellsComputed Greater c.args.arguments.now c.args.asked.function c.args.asked.width c.args.asked.byte told) (sym c.argument_byte-in-Greater.ensures)
-    (decision_is c.args.arguments.now c.args.asked.function c.args.asked.width c.args.asked.byte Greater (λ texts. is_greater (numeral_of (argument 1 texts)) (numeral_of (argument 2 texts))) greater_told c.has_greater.result c.has_greater.ensures c.chosen-in-Greater.result c.chosen-in-Greater.ensures))
+    (decision_is c.args.arguments.now c.args.asked.function c.args.asked.width c.args.asked.byte Greater (λ texts. is_greater (numeral_of (argument 1 texts)) (numeral_of (argument 2 texts))) greater_told c.greater.result same c.chosen-in-Greater.result c.chosen-in-Greater.ensures))
 
 pub returns-in_default-clause-tells : goal.returns-in_default-clause-tells
 returns-in_default-clause-tells c =
