@@ -1,8 +1,6 @@
 -- Bytes that calls take out of forms, print of them and cut in them, as the code tells them.
-use Rattle.std.proofs.Common.{◌≡◌, ℕ, ◌+◌, ◌-◌, ◌<◌, ◌≤◌, min, true, List, length, take, drop, refl, sym, ap, ap₂, subst, ◌∙◌, ⊎_elim, arith}
-use Rattle.std.specs.Prelude.{◌⊎◌, ◌++◌, codes, Option, None, Some, IfSome, Ok, bytes_eq, option_map, slice_get, ◌&&◌, nat_le}
+use Rattle.std.proofs.Common.{◌≡◌, ℕ, ◌+◌, ◌-◌, ◌<◌, ◌≤◌, min, true, List, length, take, drop, refl, sym, ap, ap₂, subst, ◌∙◌, ⊎_elim, arith, ◌⊎◌, ◌++◌, codes, Option, None, Some, IfSome, Ok, bytes_eq, option_map, slice_get, ◌&&◌, nat_le, flat_map}
 use Rattle.std.specs.FinMap as finite
-use Rattle.std.specs.List.{flat_map}
 use Rattle.std.specs.Cmp.Lexicographic.{nat_list_cmp_total}
 use Rattle.std.proofs.lemmas.Bool.{cond-true, and_parts, leb-true}
 use Rattle.std.proofs.lemmas.List.{length-append, length-take, take-append-le, take_at}
@@ -160,12 +158,6 @@ module _ (form : Form) (pointer i : ℕ) (begins : pointer ≡ length form.befor
         within = is.within;
         shows = shows ∙ ap (of_shown given.item) number;
       }
-
-  -- past it
-  pub shown_past : (rest : ℕ) → length (flat_map shown_item (take (pointer - 0) (drop 0 (all_items form)))) + rest ≡ i → i ≡ length (shown_items form.before) + rest
-  shown_past rest sum =
-      let all : pointer - 0 ≡ length form.before = omega (arith, begins) in
-      sym sum ∙ ap (λ k. length (shown_items (take k (all_items form))) + rest) all ∙ ap (λ (xs : List Item). length (shown_items xs) + rest) (take_at form.before form.after (length form.before) refl)
 
 module _ (environment : Environment) (s t : State) (call : Call) (e : Effect) (form : Form) (scans : scan s ≡ Calls call) (after : t ≡ after_call call e) where
   -- ---- `pf`

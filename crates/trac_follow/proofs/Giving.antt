@@ -1,6 +1,5 @@
 -- What calls give.
-use Rattle.std.proofs.Common.{◌≡◌, ℕ, ◌<◌, Bool, true, false, cond, List, [], drop, length, refl, sym, ap, ◌∙◌, arith}
-use Rattle.std.specs.Prelude.{Option, None, Some, Ok, Err}
+use Rattle.std.proofs.Common.{◌≡◌, ℕ, ◌<◌, Bool, true, false, cond, List, [], drop, length, refl, sym, ap, ◌∙◌, arith, Option, None, Some, Ok, Err}
 use Rattle.trac_rules.specs.declared.primitive.BlockAction.TheVariants.{FetchBlock}
 use Rattle.trac_rules.specs.declared.primitive.Computation.{Computation}
 use Rattle.trac_rules.specs.declared.primitive.FormAction.{FormAction}

@@ -1,6 +1,5 @@
 -- How far into the neutral text what stands in it stands, before and after a step, and as the code counts it.
-use Rattle.std.proofs.Common.{◌≡◌, ℕ, zero, suc, ◌+◌, ◌<◌, ◌≤◌, Bool, true, false, List, [], ◌∷◌, ◌++◌, length, take, drop, get_or, refl, sym, ap, ap₂, ◌∙◌, ⊎_elim, arith, ◌-◌, reverse}
-use Rattle.std.specs.Prelude.{Some, ◌==◌, slice_get}
+use Rattle.std.proofs.Common.{◌≡◌, ℕ, zero, suc, ◌+◌, ◌<◌, ◌≤◌, Bool, true, false, List, [], ◌∷◌, ◌++◌, length, take, drop, get_or, refl, sym, ap, ap₂, ◌∙◌, ⊎_elim, arith, ◌-◌, reverse, Some, ◌==◌, slice_get}
 use Rattle.std.proofs.lemmas.Bool.{cases_Bool, cond-true, cond-false, eq-eqb, ne_eqb, cases_lt}
 use Rattle.std.proofs.lemmas.List.{take-append-le, drop-append-le, drop-drop, drop_all, length-drop, length-reverse, reverse-append}
 use Rattle.trac_rules.specs.declared.item.Item.{Item}

@@ -1,6 +1,5 @@
 -- What a step leaves as it is, and where what stands after a run of bytes stood before it, as the code tells them.
-use Rattle.std.proofs.Common.{◌≡◌, ℕ, ◌+◌, ◌-◌, ◌<◌, ◌≤◌, eqb, Bool, true, false, List, length, take, drop, refl, sym, ap, subst, ◌∙◌, ⊎_elim, arith}
-use Rattle.std.specs.Prelude.{Option, None, Some, SomeIff, Ok, slice_get}
+use Rattle.std.proofs.Common.{◌≡◌, ℕ, ◌+◌, ◌-◌, ◌<◌, ◌≤◌, eqb, Bool, true, false, List, length, take, drop, refl, sym, ap, subst, ◌∙◌, ⊎_elim, arith, Option, None, Some, SomeIff, Ok, slice_get}
 use Rattle.std.specs.FinMap as finite
 use Rattle.std.specs.List.{concat}
 use Rattle.std.proofs.lemmas.Bool.Decides.{nat_tests}

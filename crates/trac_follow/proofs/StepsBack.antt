@@ -1,7 +1,5 @@
 -- A byte that is followed back, step by step.
-use Rattle.std.proofs.Common.{◌≡◌, ℕ, zero, suc, ◌+◌, ◌-◌, ◌^◌, ◌<◌, Bool, true, false, List, [], ◌∷◌, ◌++◌, length, take, refl, sym, ap, ap₂, subst, ◌∙◌, ⊎_elim, arith}
-use Rattle.std.specs.Prelude.{◌⊎◌, Option, None, Some, Ok, is_some}
-use Rattle.std.proofs.lemmas.List.{append-nil, append_assoc, length-append}
+use Rattle.std.proofs.Common.{◌≡◌, ℕ, zero, suc, ◌+◌, ◌-◌, ◌^◌, ◌<◌, Bool, true, false, List, [], ◌∷◌, ◌++◌, length, take, refl, sym, ap, ap₂, subst, ◌∙◌, ⊎_elim, arith, ◌⊎◌, Option, None, Some, Ok, is_some, append-nil, append_assoc, length-append}
 use Rattle.std.proofs.lemmas.Option.{option_and_then_some}
 use Rattle.std.proofs.Math.Seq.{take-append-add}
 use Rattle.trac_rules.specs.declared.refusal.Refusal.{Refusal}
@@ -186,14 +184,6 @@ pub record Stood (old cur : PlainSession) (place here : Place) (steps bytes : �
 pub record GoesBack (width : Width) (old cur : PlainSession) (place here : Place) (steps bytes : ℕ) (gap : Bool) : Type 0 where
   pub walked : repeated Back steps old ≡ Some cur
   pub stood : IsKnown width old place → Stood old cur place here steps bytes gap
-
-pub begins : (width : Width) (old : PlainSession) (place : Place) (bytes : ℕ) (gap : Bool) (s : State) → s ≡ old.last → (Stands s place → IsPlaced bytes gap s place) → GoesBack width old old place place 0 bytes gap
-begins width old place bytes gap s last measured = record {
-  walked = refl;
-  stood = λ trail.
-      let placed = subst (λ (t : State). Stands t place → IsPlaced bytes gap t place) last measured trail.2 in
-      record { taken = trail.1.steps; carried = refl; stands = trail.2; unpassed = tt; placed = placed };
-}
 
 -- so many steps carried it
 carried_so : (width : Width) (old cur : PlainSession) (place here : Place) (steps bytes : ℕ) (gap : Bool) → GoesBack width old cur place here steps bytes gap → IsKnown width old place →

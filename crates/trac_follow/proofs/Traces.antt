@@ -1,7 +1,5 @@
 -- A byte that is followed back leg by leg.
-use Rattle.std.proofs.Common.{◌≡◌, ℕ, ◌+◌, ◌-◌, ◌<◌, ◌≤◌, List, [], ◌∷◌, ◌++◌, length, take, refl, sym, ap, ap₂, subst, ◌∙◌, arith, inl, inr, ⊎_elim}
-use Rattle.std.specs.Prelude.{Some}
-use Rattle.std.proofs.lemmas.List.{append-nil, append_assoc}
+use Rattle.std.proofs.Common.{◌≡◌, ℕ, ◌+◌, ◌-◌, ◌<◌, ◌≤◌, List, [], ◌∷◌, ◌++◌, length, take, refl, sym, ap, ap₂, subst, ◌∙◌, arith, inl, inr, ⊎_elim, Some, append-nil, append_assoc}
 use Rattle.trac_rules.specs.declared.width.Width.{Width}
 use Rattle.trac_rules.specs.Session.{PlainSession, Back, over, repeated}
 use Rattle.trac_rules.specs.State.{State}
@@ -44,9 +42,6 @@ pub record Way (width : Width) (old cur : PlainSession) (place here : Place) (st
   -- the calls on it, and after them those that are on the way further back
   pub calls : IsKnown width old place → (post : List State) →
       passings (over old.width old.tape) (take steps old.earlier ++ post) 0 place place ≡ way_of old place steps ++ passings (over old.width old.tape) post steps here here
-
-pub way_begins : (width : Width) (old : PlainSession) (place : Place) → Way width old old place place 0 0
-way_begins width old place = record { walked = refl; known = λ known. (omega arith, refl); calls = λ known post. refl }
 
 module _ (width : Width) (old cur : PlainSession) (place here : Place) (steps legs : ℕ) (way : Way width old cur place here steps legs) where
   went : WentSo steps old cur

@@ -1,8 +1,5 @@
 -- Bytes of values, and of what `ps` prints, as the code tells them.
-use Rattle.std.proofs.Common.{◌≡◌, ℕ, ◌+◌, ◌-◌, ◌<◌, ◌≤◌, Bool, true, false, List, [], ◌∷◌, ◌++◌, length, take, refl, sym, ap, ap₂, subst, ◌∙◌, ℤ, not, ⊎_elim, arith}
-use Rattle.std.specs.Prelude.{Option, None, Some, Ok, ◌⊎◌, is_none, is_some}
-use Rattle.std.specs.List.{flat_map}
-use Rattle.std.proofs.lemmas.List.{length-append}
+use Rattle.std.proofs.Common.{◌≡◌, ℕ, ◌+◌, ◌-◌, ◌<◌, ◌≤◌, Bool, true, false, List, [], ◌∷◌, ◌++◌, length, take, refl, sym, ap, ap₂, subst, ◌∙◌, ℤ, not, ⊎_elim, arith, Option, None, Some, Ok, ◌⊎◌, is_none, is_some, flat_map, length-append}
 use Rattle.trac_rules.specs.declared.primitive.Computation.{Computation}
 use Rattle.trac_rules.specs.declared.primitive.Computation.TheVariants.{Equal, Greater, Calculate}
 use Rattle.trac_rules.specs.declared.primitive.FormAction.{FormAction}

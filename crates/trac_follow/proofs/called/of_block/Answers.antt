@@ -1,5 +1,4 @@
-use Rattle.std.proofs.Common.{◌≡◌, length, refl, ap, subst, ◌∙◌, arith}
-use Rattle.std.specs.Prelude.{MatchBool}
+use Rattle.std.proofs.Common.{◌≡◌, length, refl, ap, subst, ◌∙◌, arith, MatchBool}
 use Rattle.trac_rules.specs.declared.primitive.BlockAction.TheVariants.{StoreBlock}
 use Rattle.trac_rules.specs.declared.primitive.Primitive.TheVariants.{HandleBlock}
 use Rattle.trac_rules.specs.Effect.{argument}

@@ -5,16 +5,10 @@ use Rattle.trac_rules.specs.State.{State}
 use Rattle.trac_session.proofs.Walked.{repeated-from}
 use Rattle.trac_follow.specs.Places.{place_of}
 use Rattle.trac_follow.proofs.RunsBack.{run_on, same_session}
-use Rattle.trac_follow.proofs.StepsBack.{begins, GoesBack, HasTold, WentBack, has_told, no_way_back, none_by_test, some_by_test, step_to, stops, turned_end, turned_on, went_back}
+use Rattle.trac_follow.proofs.StepsBack.{GoesBack, HasTold, WentBack, has_told, no_way_back, none_by_test, some_by_test, step_to, stops, turned_end, turned_on, went_back}
 use Rattle.trac_follow.proofs.history.follow_from.Given.{Over}
 use Rattle.trac_follow.proofs.history.follow_from.Goals as goal
 use Rattle.trac_follow.proofs.history.follow_from.Goals.{After-machine-in-loop-steps-2, After-turn_of, else-loop-steps-test, then-loop-steps-test+else-count-gt0+then-is_some}
-
-pub loop-steps-init : goal.loop-steps-init
-loop-steps-init g c = (
-  omega arith,
-  begins c.args.width c.args.session.now (place_of c.args.place) c.measured-measure.result.0 c.measured-measure.result.1 c.machine.result.now.state c.machine.ensures.last c.measured-measure.ensures,
-)
 
 pub loop-steps-preserved-then-count-gt0 : goal.loop-steps-preserved-then-count-gt0
 loop-steps-preserved-then-count-gt0 g c = (
@@ -93,8 +87,3 @@ returns-clause-followed g c = λ known.
           stops c.args.width c.args.session.now c.loop-steps.session c.loop-steps-test.session (place_of c.args.place) c.loop-steps.here c.loop-steps.steps _ _ c.args.most _
           c.loop-steps.invariant.1 (inr (ap (λ (p : PlainSession). p.earlier) (same ∙ sym nowhere.0) ∙ nowhere.1)) (w.session-is ∙ nowhere.0 ∙ sym same) refl refl known
     ]
-
-pub returns-in-Found-clause-back : goal.returns-in-Found-clause-back
-returns-in-Found-clause-back g c =
-    let known = came g (goal.at.returns-in-Found-clause-back g c).After-machine-in-loop-steps-2 in
-    repeated-from Back c.loop-steps.steps 1 c.args.session.now c.pass_back-count.new.self known.0.walked ∙ known.1.walked

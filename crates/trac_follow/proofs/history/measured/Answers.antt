@@ -10,17 +10,3 @@ pub returns-in-Form : goal.returns-in-Form
 returns-in-Form g c = λ stands.
     subst (λ p. IsPlaced c.measured_in.result.0 c.measured_in.result.1 c.args.machine.now.state (place_of p)) (sym c.in-Form.is)
     (aside c.measured_in.result.0 c.measured_in.result.1 c.args.machine.now.state (place_of (code_place.TheVariants.Form c.in-Form.name c.in-Form.i)) refl c.measured_in.ensures)
-
-pub returns-in-Argument : goal.returns-in-Argument
-returns-in-Argument g c = λ stands.
-    subst (λ p. IsPlaced c.argument_offset.result false c.args.machine.now.state (place_of p)) (sym c.in-Argument.is) (record {
-      measured = tt;
-      before = λ text. c.argument_offset.ensures (subst (λ p. Stands c.args.machine.now.state (place_of p)) c.in-Argument.is stands);
-    })
-
-others : (s : State) (p : code_place.Place) → ((i : ℕ) → p ≡ code_place.TheVariants.Base i → ⊥) → ((f k i : ℕ) → p ≡ code_place.TheVariants.Argument f k i → ⊥) →
-    ((name : _) (i : ℕ) → p ≡ code_place.TheVariants.Form name i → ⊥) → IsPlaced 0 false s (place_of p)
-others s (code_place.TheVariants.Base i) base argument form = absurd (base i refl)
-others s (code_place.TheVariants.Argument f k i) base argument form = absurd (argument f k i refl)
-others s (code_place.TheVariants.Form name i) base argument form = absurd (form name i refl)
-others s p base argument form = aside 0 false s (place_of p) refl tt

@@ -1,7 +1,5 @@
 -- A run of bytes is passed, and then the gap that ends it; or the byte is found.
-use Rattle.std.proofs.Common.{◌≡◌, ℕ, ◌+◌, ◌-◌, ◌≤◌, drop, length, take, refl, ap, ◌∙◌, arith}
-use Rattle.std.specs.List.{flat_map}
-use Rattle.std.specs.Prelude.{Some, slice_get}
+use Rattle.std.proofs.Common.{◌≡◌, ℕ, ◌+◌, ◌-◌, ◌≤◌, drop, length, take, refl, ap, ◌∙◌, arith, flat_map, Some, slice_get}
 use Rattle.trac_rules.specs.declared.item.Item.TheVariants.{Byte}
 use Rattle.trac_rules.specs.Form.{all_items}
 use Rattle.trac_follow.specs.declared.items.Giving.{Giving}

@@ -1,5 +1,4 @@
-use Rattle.std.proofs.Common.{◌≡◌, ◌+◌, List, [], drop, length, reverse, ap, sym, subst, ◌∙◌, arith}
-use Rattle.std.specs.Prelude.{MatchBool}
+use Rattle.std.proofs.Common.{◌≡◌, ◌+◌, List, [], drop, length, reverse, ap, sym, subst, ◌∙◌, arith, MatchBool}
 use Rattle.std.proofs.lemmas.List.{drop-drop, length-reverse}
 use Rattle.trac_rules.specs.Limits.{argument_bytes}
 use Rattle.trac_rules.specs.State.{Frame}

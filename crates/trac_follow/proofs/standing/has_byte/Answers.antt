@@ -1,5 +1,4 @@
-use Rattle.std.proofs.Common.{length, ltb-false, arith}
-use Rattle.std.proofs.lemmas.Bool.{ltb-true}
+use Rattle.std.proofs.Common.{length, ltb-false, arith, ltb-true}
 use Rattle.trac_origins.proofs.Told.{byte_within}
 use Rattle.trac_follow.proofs.Found.{byte_there}
 use Rattle.trac_follow.proofs.standing.has_byte.Goals as goal
