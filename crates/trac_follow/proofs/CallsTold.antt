@@ -52,22 +52,13 @@ moves_done environment s t none h =
     (step_scans environment s t h)
 
 -- it performs this one
-pub record HasDone (environment : Environment) (t : State) (call : Call) : Type 0 where
-  pub effect : Effect
-  pub does : performed environment call ≡ Ok effect
-  pub after : t ≡ after_call call effect
-
-module _ (environment : Environment) (s t : State) (call : Call) (h : step environment s ≡ Ok t) (scans : scan s ≡ Calls call) where
-  pub has_done : HasDone environment t call
-  unfolding step
-  has_done =
-      let out : carried_out environment (Calls call) ≡ Ok t =
-      ap (carried_out environment) (sym scans) ∙ (limited_Ok texts_fit (carried_out environment (scan s)) t h).0 in
-      let at = seen_as-Ok (after_call call) (performed environment call) t out in
-      record { effect = at.0; does = at.1; after = at.2 }
-
-  pub call_does : (primitive : Primitive) → primitive_of (argument 0 call.arguments) ≡ primitive → (e : Effect) × IsCallOf environment s call primitive e × (t ≡ after_call call e)
-  call_does primitive named = (has_done.effect, record { scans = scans; named = named; does = has_done.does }, has_done.after)
+pub call_does : (environment : Environment) (s t : State) (call : Call) → step environment s ≡ Ok t → scan s ≡ Calls call → (primitive : Primitive) → primitive_of (argument 0 call.arguments) ≡ primitive →
+    (e : Effect) × IsCallOf environment s call primitive e × (t ≡ after_call call e)
+unfolding step
+call_does environment s t call h scans primitive named =
+    let out : carried_out environment (Calls call) ≡ Ok t = ap (carried_out environment) (sym scans) ∙ (limited_Ok texts_fit (carried_out environment (scan s)) t h).0 in
+    let at = seen_as-Ok (after_call call) (performed environment call) t out in
+    (at.0, record { scans = scans; named = named; does = at.1 }, at.2)
 
 -- the call of a reader is the one that is performed
 pub call_is : (environment : Environment) (s : State) (call : Call) (e : Effect) (arguments : List (List ℕ)) (primitive : Primitive) → IsCalling s arguments → primitive_of (argument 0 arguments) ≡ primitive →
@@ -166,32 +157,32 @@ module _ (environment : Environment) (s t : State) (call : Call) (item : Item) (
   pub tells_active : (told : code_origin.Origin) (i len : ℕ) → TellsValue s width (Some len) i told → t.position < 2 ^ 64 → len ≡ length t.active - (length s.active - 1) → i < len →
       found_at t (InActive i) ≡ Some item → Tells s told (origin environment s (InActive i))
   tells_active told i len tells readable long l stands =
-      let done = has_done environment s t call h is in
-      let e : Effect = done.effect in
+      let done = call_does environment s t call h is (primitive_of (argument 0 call.arguments)) refl in
+      let e : Effect = done.0 in
       let at = value_before call.kind e.forced e.value (changed_by e call.state) call.state i
-      (omega (arith, l, long, ap (λ (u : State). length u.active) done.after, active_left s call is)) in
+      (omega (arith, l, long, ap (λ (u : State). length u.active) done.2, active_left s call is)) in
       subst (λ p. Tells s told (origin environment s p)) (sym at.0)
-      (tells environment t call e item wide h readable is done.does
-      (omega (arith, l, long, at.2, ap (λ (u : State). length u.active) done.after, active_left s call is))
+      (tells environment t call e item wide h readable is done.1.does
+      (omega (arith, l, long, at.2, ap (λ (u : State). length u.active) done.2, active_left s call is))
       (subst (λ p. found_at t p ≡ Some item) at.0 stands) at.1)
 
   pub tells_current : (told : code_origin.Origin) (place : Place) (n : ℕ) → TellsValue s width None n told → t.position < 2 ^ 64 →
       place ≡ in_current call.state.frames (length (current_text call.state.frames call.state) + n) → found_at t place ≡ Some item → Tells s told (origin environment s place)
   tells_current told place n tells readable here stands =
-      let done = has_done environment s t call h is in
-      let e : Effect = done.effect in
+      let done = call_does environment s t call h is (primitive_of (argument 0 call.arguments)) refl in
+      let e : Effect = done.0 in
       let p = in_current call.state.frames (length (current_text call.state.frames call.state) + n) in
       let at = value_after call.kind e.forced e.value e call.state n item
-      (subst (λ (u : State). found_at u p ≡ Some item) done.after (subst (λ q. found_at t q ≡ Some item) here stands)) in
+      (subst (λ (u : State). found_at u p ≡ Some item) done.2 (subst (λ q. found_at t q ≡ Some item) here stands)) in
       subst (λ q. Tells s told (origin environment s q)) (sym (here ∙ at.0))
-      (tells environment t call e item wide h readable is done.does at.2 (subst (λ q. found_at t q ≡ Some item) (here ∙ at.0) stands) at.1)
+      (tells environment t call e item wide h readable is done.1.does at.2 (subst (λ q. found_at t q ≡ Some item) (here ∙ at.0) stands) at.1)
 
   -- what was left is left then
   pub active_kept : length s.active - 1 ≤ length t.active
   active_kept =
-      let done = has_done environment s t call h is in
-      let e : Effect = done.effect in
-      omega (arith, ap (λ (u : State). length u.active) done.after, active_left s call is, go call.kind e.forced e.value (changed_by e call.state))
+      let done = call_does environment s t call h is (primitive_of (argument 0 call.arguments)) refl in
+      let e : Effect = done.0 in
+      omega (arith, ap (λ (u : State). length u.active) done.2, active_left s call is, go call.kind e.forced e.value (changed_by e call.state))
     where
       go : (kind : Kind) (forced : Bool) (value : List ℕ) (u : State) → length u.active ≤ length (placed kind forced value u).active
       go Neutral false value u = omega (arith, ap (λ (text : List ℕ). length text) (active-gathered u.frames value u))
@@ -201,13 +192,13 @@ module _ (environment : Environment) (s t : State) (call : Call) (item : Item) (
   pub text_new : (place : Place) (function : ℕ) → function + 1 ≡ length s.frames → is_in_text place ≡ true → (IsOutside function place → IsBare s place) → found_at t place ≡ Some item →
       IsNew call.state.frames call.state place
   text_new place function number text bare stands =
-      let done = has_done environment s t call h is in
+      let done = call_does environment s t call h is (primitive_of (argument 0 call.arguments)) refl in
       ⊎_elim
       (λ (old : found_at call.state place ≡ Some item).
       let around = around_it s call place item is text old in
       absurd (bare (subst (λ n. IsOutside n place) (number_is s call is function number) around.1) item around.0))
       (λ (new : IsNew call.state.frames call.state place). new)
-      (called_new call done.effect place item text (subst (λ (u : State). found_at u place ≡ Some item) done.after stands))
+      (called_new call done.0 place item text (subst (λ (u : State). found_at u place ≡ Some item) done.2 stands))
 
   -- as far as the code finds it
   pub text_past : (place : Place) (function n : ℕ) → function + 1 ≡ length s.frames → IsNew call.state.frames call.state place →

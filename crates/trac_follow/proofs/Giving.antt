@@ -53,12 +53,10 @@ action_empty other d none = refl
 
 -- without a form all but `ln` give nothing
 formless_empty : (a : FormAction) (d : Performed) → (a ≡ action.ListNames → ⊥) → named_form d.call.arguments (storage_of d.call.state) ≡ None → (handled_from a d).value ≡ []
-formless_empty action.Segment d other none = on_form_none value_in d refl (named_form d.call.arguments (storage_of d.call.state)) _ (λ form. refl)
 formless_empty action.Call d other none = ap (λ (found : Option Form). (on_form_from found (λ form. gives_from (called_from form d) d) d).value) none
 formless_empty (action.Read reading) d other none = ap (λ (found : Option Form). (on_form_from found (λ form. gives_from (reading_from reading form d) d) d).value) none
 formless_empty action.ListNames d other none = absurd (other refl)
-formless_empty action.PrintForm d other none = on_form_none value_in d refl (named_form d.call.arguments (storage_of d.call.state)) _ (λ form. refl)
-formless_empty rest d other none = refl
+formless_empty a d other none = action_empty a d (λ gives. gives)
 
 module _ (environment : Environment) (s : State) (call : Call) (e : Effect) where
   pub action_gives_none : (a : FormAction) → (gives_form a → ⊥) → IsCallOf environment s call (Handle a) e → (i : ℕ) → i < length e.value → ⊥

@@ -28,7 +28,7 @@ use Rattle.trac_follow.specs.Items.{IsMeasured}
 use Rattle.trac_follow.specs.Offsets.{IsPlaced, bytes_left, left_by, neutral_bytes, offset}
 use Rattle.trac_follow.specs.Places.{IsCalling, IsOutside, IsPassed, calls, is_in_text}
 use Rattle.trac_follow.specs.Running.{CameFrom, StaysAt}
-use Rattle.trac_follow.proofs.CallsTold.{active_kept, functions_left, given_call, has_done, output_carried, rest_carried, step_scans, text_carried}
+use Rattle.trac_follow.proofs.CallsTold.{active_kept, call_does, functions_left, given_call, output_carried, rest_carried, step_scans, text_carried}
 use Rattle.trac_follow.proofs.Found.{byte_there}
 use Rattle.trac_follow.proofs.Offsets.{around_offset, called_offset, moved_offset, new_past, offset_before, stands_within}
 use Rattle.trac_follow.proofs.Renewed.{IsNew, around_it, called_new, moved_new}
@@ -125,9 +125,9 @@ module _ (environment : Environment) (s t : State) (bytes : ℕ) (p : Place) (it
   -- by a call
   calling : (call : Call) → scan s ≡ Calls call → (origin environment s p ≡ Carried p) × (bytes ≡ offset s p) × (IsPassed s p p → ⊥)
   calling call calls =
-      let done = has_done environment s t call h calls in
-      let after : found_at (after_call call done.effect) p ≡ Some item = subst (λ (u : State). found_at u p ≡ Some item) done.after stands in
-      let there : bytes ≡ offset call.state p = at ∙ ap (λ (u : State). offset u p) done.after ∙ called_offset call done.effect p item text after in
+      let done = call_does environment s t call h calls (primitive_of (argument 0 call.arguments)) refl in
+      let after : found_at (after_call call done.0) p ≡ Some item = subst (λ (u : State). found_at u p ≡ Some item) done.2 stands in
+      let there : bytes ≡ offset call.state p = at ∙ ap (λ (u : State). offset u p) done.2 ∙ called_offset call done.0 p item text after in
       let within : bytes < neutral_bytes call.state = subst (λ x. bytes < left_by x s) calls less in
       ⊎_elim
       (λ (old : found_at call.state p ≡ Some item).
@@ -138,7 +138,7 @@ module _ (environment : Environment) (s t : State) (bytes : ℕ) (p : Place) (it
       ))
       (λ (new : IsNew call.state.frames call.state p).
       absurd (omega (arith, within, there, ap (offset call.state) new.at, new_past call.state.frames call.state new.number refl)))
-      (called_new call done.effect p item text after)
+      (called_new call done.0 p item text after)
 
 pub text_stays : (s : State) (bytes : ℕ) (gap : Bool) (p : Place) → is_in_text p ≡ true → bytes < bytes_left s → StaysAt s bytes gap p
 text_stays s bytes gap p text less environment t item h stands placed =

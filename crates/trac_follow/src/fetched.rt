@@ -1,6 +1,5 @@
 //! Forms that `fb` brings back from a block.
-ghost use Rattle.std.specs.Option.{option_copied};
-ghost use Rattle.std.specs.Prelude.{◌≡◌, ◌++◌, bytes_eq, false, List, MatchOption, option_to_list};
+ghost use Rattle.std.specs.Prelude.{◌≡◌, ◌++◌, bytes_eq, false, List, MatchOption, option_copied, option_to_list};
 ghost use Rattle.trac_follow.specs.Fetched.{block_named, place_fetched};
 ghost use Rattle.trac_follow.specs.Places.{place_of};
 ghost use Rattle.trac_forms.specs.Stored.{storage_in};

@@ -1,7 +1,6 @@
 //! What stands at a place, and what is past the current text.
 ghost use Rattle.std.specs.Prelude.{◌≡◌, ◌+◌, ◌-◌, ◌<◌, ◌≤◌, drop, false, length, true, Some, IsTrue};
-ghost use Rattle.std.specs.Prelude.{slice_get, ℕ};
-ghost use Rattle.std.specs.Option.{option_copied};
+ghost use Rattle.std.specs.Prelude.{option_copied, slice_get, ℕ};
 ghost use Rattle.trac_origins.specs.Lengths.{current_text, in_current, is_of_text};
 ghost use Rattle.trac_origins.specs.Places.{byte_at, items_of, InArgument};
 ghost use Rattle.trac_rules.specs.declared.item.Item.{Item};
