@@ -3,7 +3,7 @@ use Rattle.std.proofs.Common.{◌≡◌, ℕ, ◌+◌, ◌-◌, ◌<◌, ◌≤�
 use Rattle.std.specs.FinMap as finite
 use Rattle.std.specs.Cmp.Lexicographic.{nat_list_cmp_total}
 use Rattle.std.proofs.lemmas.Bool.{cond-true, and_parts, leb-true}
-use Rattle.std.proofs.lemmas.List.{length-append, length-take, take-append-le, take_at}
+use Rattle.std.proofs.lemmas.List.{length-append, length-take, take-append-le}
 use Rattle.std.proofs.lemmas.Map.Text.{is_eq-slice_cmp}
 use Rattle.std.proofs.lemmas.Slice.Eq.{bytes_eq-Decides}
 use Rattle.trac_rules.specs.declared.item.Item.{Item}

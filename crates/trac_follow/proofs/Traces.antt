@@ -3,7 +3,7 @@ use Rattle.std.proofs.Common.{◌≡◌, ℕ, ◌+◌, ◌-◌, ◌<◌, ◌≤�
 use Rattle.trac_rules.specs.declared.width.Width.{Width}
 use Rattle.trac_rules.specs.Session.{PlainSession, Back, over, repeated}
 use Rattle.trac_rules.specs.State.{State}
-use Rattle.trac_rules.specs.Trails.{AreSteps, IsTrail}
+use Rattle.trac_rules.specs.Trails.{AreSteps}
 use Rattle.trac_rules.proofs.TakenAgain.{repeated_trail}
 use Rattle.trac_origins.specs.Accounts.{IsSource as IsOriginOf}
 use Rattle.trac_origins.specs.Following.{Followed, followed, state_back}
@@ -17,7 +17,7 @@ use Rattle.trac_follow.specs.declared.tracing.Onward as onwards
 use Rattle.trac_follow.specs.declared.tracing.Traced.{Traced}
 use Rattle.trac_follow.specs.Following.{IsFollowed, IsKnown, IsOrigin, IsSource}
 use Rattle.trac_follow.specs.Passing.{Passing, passings}
-use Rattle.trac_follow.specs.Places.{Stands, place_of}
+use Rattle.trac_follow.specs.Places.{place_of}
 use Rattle.trac_follow.specs.Tracing.{AllCarried, EndsAs, IsEnd, IsTold, IsTraced, LeadsTo, LeadsToLong, ToldAll, source_of, way_of}
 use Rattle.trac_follow.proofs.Legs.{HadFrom, call_of_leg, had_from, had_somewhere, no_call_of_leg, told_more}
 use Rattle.trac_follow.proofs.RunsBack.{last_steps}
@@ -215,11 +215,6 @@ pub told_so : {W : Type 0} (passes refuses : W → Passing → W → Type 0) (ol
     IsTold passes refuses (way_of old place steps) steps end first last → IsTold passes refuses (way_of old place found.steps) found.steps found.end first last
 told_so passes refuses old place steps end first last found count is h =
     subst (λ n. IsTold passes refuses (way_of old place n) n found.end first last) (sym count) (subst (λ e. IsTold passes refuses (way_of old place steps) steps e first last) (sym is) h)
-
--- ---- as the code finds it
-
-pub known_so : (width : Width) (old : PlainSession) (place : Place) (s : State) → s ≡ old.last → Stands s place → width ≡ old.width → IsTrail old → IsKnown width old place
-known_so width old place s last stands wide trail = (wide, trail, subst (λ (t : State). Stands t place) last stands)
 
 -- after as many legs as steps were wanted
 pub way_is_long : (width : Width) (old cur : PlainSession) (place here : Place) (steps most : ℕ) → Way width old cur place here steps most → steps ≤ most → IsKnown width old place →

@@ -1,4 +1,4 @@
-use Rattle.std.proofs.Common.{◌-◌, inl, inr, arith}
+use Rattle.std.proofs.Common.{inl}
 use Rattle.trac_follow.proofs.FormsTold.{shown_before}
 use Rattle.trac_follow.proofs.formed.shown_item.Goals as goal
 

@@ -1,8 +1,7 @@
 -- Each end of the loop is that of a byte that was carried so far.
 use Rattle.std.proofs.Common.{length, refl, sym, ◌∙◌, inl, inr, ap, subst, arith}
-use Rattle.trac_rules.specs.Session.{PlainSession, Back}
+use Rattle.trac_rules.specs.Session.{PlainSession}
 use Rattle.trac_rules.specs.State.{State}
-use Rattle.trac_session.proofs.Walked.{repeated-from}
 use Rattle.trac_follow.specs.Places.{place_of}
 use Rattle.trac_follow.proofs.RunsBack.{run_on, same_session}
 use Rattle.trac_follow.proofs.StepsBack.{GoesBack, HasTold, WentBack, has_told, no_way_back, none_by_test, some_by_test, step_to, stops, turned_end, turned_on, went_back}

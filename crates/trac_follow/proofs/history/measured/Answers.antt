@@ -1,7 +1,6 @@
-use Rattle.std.proofs.Common.{◌≡◌, ℕ, false, refl, sym, subst}
-use Rattle.trac_rules.specs.State.{State}
+use Rattle.std.proofs.Common.{refl, sym, subst}
 use Rattle.trac_follow.specs.Offsets.{IsPlaced}
-use Rattle.trac_follow.specs.Places.{Stands, place_of}
+use Rattle.trac_follow.specs.Places.{place_of}
 use Rattle.trac_follow.specs.declared.place.Place as code_place
 use Rattle.trac_follow.proofs.Staying.{aside}
 use Rattle.trac_follow.proofs.history.measured.Goals as goal
