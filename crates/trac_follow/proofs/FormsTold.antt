@@ -1,66 +1,64 @@
 -- Bytes that calls take out of forms, print of them and cut in them, as the code tells them.
-use Rattle.std.proofs.Common.{◌≡◌, ℕ, ◌+◌, ◌-◌, ◌<◌, ◌≤◌, min, Bool, true, false, cond, List, length, take, drop, refl, sym, ap, ap₂, subst, ◌∙◌, ⊎_elim, arith}
-use Rattle.std.specs.Prelude.{◌⊎◌, ◌++◌, codes, Option, None, Some, IfSome, Ok, Err, bytes_eq, option_map, slice_get}
+use Rattle.std.proofs.Common.{◌≡◌, ℕ, ◌+◌, ◌-◌, ◌<◌, ◌≤◌, min, true, List, length, take, drop, refl, sym, ap, ap₂, subst, ◌∙◌, ⊎_elim, arith, ◌⊎◌, ◌++◌, codes, Option, None, Some, IfSome, Ok, bytes_eq, option_map, slice_get, ◌&&◌, nat_le, flat_map}
 use Rattle.std.specs.FinMap as finite
-use Rattle.std.specs.List.{flat_map}
 use Rattle.std.specs.Cmp.Lexicographic.{nat_list_cmp_total}
-use Rattle.std.proofs.lemmas.Bool.{cond-true}
-use Rattle.std.proofs.lemmas.List.{length-append, length-take}
+use Rattle.std.proofs.lemmas.Bool.{cond-true, and_parts, leb-true}
+use Rattle.std.proofs.lemmas.List.{length-append, length-take, take-append-le}
 use Rattle.std.proofs.lemmas.Map.Text.{is_eq-slice_cmp}
 use Rattle.std.proofs.lemmas.Slice.Eq.{bytes_eq-Decides}
 use Rattle.trac_rules.specs.declared.item.Item.{Item}
 use Rattle.trac_rules.specs.declared.item.Item.TheVariants.{Byte, Gap}
-use Rattle.trac_rules.specs.declared.limit.TheConstants.{OUTPUT_LIMIT}
+use Rattle.trac_rules.specs.declared.limit.TheConstants.{OUTPUT_LIMIT, TEXT_LIMIT, MARK_LIMIT}
 use Rattle.trac_rules.specs.declared.primitive.FormAction.TheVariants as action
 use Rattle.trac_rules.specs.declared.primitive.FormReading.{FormReading}
 use Rattle.trac_rules.specs.declared.primitive.Primitive.TheVariants.{Handle}
-use Rattle.trac_rules.specs.declared.refusal.Refusal.TheVariants.{TooLong}
 use Rattle.trac_rules.specs.declared.width.Width.{Width}
-use Rattle.trac_rules.specs.Effect.{Effect, argument, leaves, prints}
+use Rattle.trac_rules.specs.Effect.{Effect, argument, prints}
 use Rattle.trac_rules.specs.Filling.{all_filled, filled}
 use Rattle.trac_rules.specs.Form.{Form, all_items, extent}
-use Rattle.trac_rules.specs.Handling.{keeping, named_form, on_form, piece_read, putting}
-use Rattle.trac_rules.specs.Limits.{may_be_put}
-use Rattle.trac_rules.specs.Outcomes.{seen_as}
-use Rattle.trac_rules.specs.Performing.{after_call, changed_by, printed_after, trace_line}
+use Rattle.trac_rules.specs.Handling.{named_form, on_form, piece_read, putting}
+use Rattle.trac_rules.specs.Limits.{may_be_put, marks, text_bytes, texts_fit}
+use Rattle.trac_rules.specs.Performing.{after_call, trace_line, primitive_of}
 use Rattle.trac_rules.specs.Pieces.{Piece, bytes_in, is_gap}
 use Rattle.trac_rules.specs.Scanning.{Call, Calls, scan}
 use Rattle.trac_rules.specs.Segmenting.{segmented}
 use Rattle.trac_rules.specs.Showing.{shown, shown_item, shown_items}
-use Rattle.trac_rules.specs.State.{Environment, State, Storage, storage_of}
-use Rattle.trac_rules.proofs.ProperStates.{storage-placed}
+use Rattle.trac_rules.specs.State.{Environment, State, storage_of, Forms}
 use Rattle.trac_forms.specs.declared.piece.Piece.{Piece as Measured}
 use Rattle.trac_forms.specs.Taken.{IsThere, items_from, taken}
 use Rattle.trac_origins.specs.Lengths.{IsCallOf, cut_from, number_of_default, of_form, printed_at, value_at}
 use Rattle.trac_origins.specs.Places.{Place, InArgument, InForm, InOutput, Origin, Carried, Made, found_at, items_of}
 use Rattle.trac_origins.specs.Stepping.{origin}
-use Rattle.trac_origins.proofs.ToldEffects.{line_told}
+use Rattle.trac_text.proofs.Peeling.{slice_get-front}
+use Rattle.trac_origins.proofs.ToldEffects.{line_told, unshown_told}
 use Rattle.trac_origins.proofs.ToldPut.{segmented_told}
 use Rattle.trac_origins.proofs.ToldValues.{after_printed, before_printed, called_told, filled_told, mark_after_printed, mark_before_printed, other_told, piece_told, pointer_printed}
-use Rattle.trac_follow.proofs.CallsTold.{output_is, output-placed}
+use Rattle.trac_follow.proofs.CallsTold.{output_is, output_past, output_then, call_does, call_is, number_is}
 use Rattle.trac_follow.specs.declared.items.Given.{Given}
 use Rattle.trac_follow.specs.declared.place.Origin as told
 use Rattle.trac_follow.specs.declared.place.Place as code_place
 use Rattle.trac_follow.specs.declared.place.After.{After}
-use Rattle.trac_follow.specs.Formed.{CarriedFrom, IsAfter, IsShown, TellsOfForm, ToldAsCut, ToldAsPiece, ToldAsShown, ToldAsShownAfter, ToldAsShownAt, ToldFrom, is_cut, of_shown, told_of}
+use Rattle.trac_follow.specs.Formed.{CarriedFrom, IsAfter, IsShown, TellsOfForm, ToldAsCut, ToldAsPiece, ToldAsShown, ToldAsShownAfter, ToldAsShownAt, ToldFrom, is_cut, of_shown, told_of, ToldAsFormCut, ToldAsFormShown}
 use Rattle.trac_follow.specs.Items.{IsGiven, IsMeasured}
-use Rattle.trac_follow.specs.Places.{Tells}
-use Rattle.trac_follow.proofs.Giving.{called_gives, done_by, piece_gives}
-use Rattle.trac_follow.proofs.Spans.{after_those, same_place, whole_span}
+use Rattle.trac_follow.specs.Places.{Tells, IsCalling, TellsValue}
+use Rattle.trac_follow.proofs.Giving.{called_gives, does_so, forms_kept, piece_gives, action_gives_none, formless_gives_none, forms_left, gives_form}
+use Rattle.trac_follow.proofs.Spans.{after_pointer, same_place, whole_after}
+use Rattle.trac_rules.specs.declared.primitive.FormAction.{FormAction}
+use Rattle.trac_rules.specs.declared.primitive.Primitive.{Primitive}
+use Rattle.trac_rules.specs.Stepping.{carried_out, step}
+use Rattle.trac_rules.proofs.Outcomes.{limited_Ok}
+use Rattle.trac_origins.proofs.ToldCalls.{ended}
 
 -- ---- `cl`
 
 module _ (form : Form) (arguments : List (List ℕ)) (function i start : ℕ) (given : Given) (begins : start ≡ length form.before) (is : IsGiven (filled (drop 2 arguments)) (drop start (all_items form)) i given) where
-  after_pointer : drop start (all_items form) ≡ form.after
-  after_pointer = ap (λ k. drop k (all_items form)) begins ∙ after_those form.before form.after
-
   there_after : slice_get form.after given.at ≡ Some given.item
-  there_after = ap (λ (xs : List Item). slice_get xs given.at) (sym after_pointer) ∙ is.there
+  there_after = ap (λ (xs : List Item). slice_get xs given.at) (sym (after_pointer form start begins)) ∙ is.there
 
   given_so_far : (call : Call) → call.arguments ≡ arguments → length (all_filled (drop 2 call.arguments) (take given.at form.after)) + given.byte ≡ i
   given_so_far call same =
       ap (λ (texts : List (List ℕ)). length (all_filled (drop 2 texts) (take given.at form.after)) + given.byte) same
-      ∙ ap (λ (xs : List Item). length (flat_map (filled (drop 2 arguments)) (take given.at xs)) + given.byte) (sym after_pointer) ∙ is.place
+      ∙ ap (λ (xs : List Item). length (flat_map (filled (drop 2 arguments)) (take given.at xs)) + given.byte) (sym (after_pointer form start begins)) ∙ is.place
 
   pub called_item : (b n : ℕ) → given.item ≡ Byte b → n ≡ start + given.at → (width : Width) (seen : Option ℕ) → TellsOfForm (Handle action.Call) form arguments function width seen i (told.TheVariants.OfForm n)
   called_item b n byte place width seen environment s call e wide of same number names is_seen l =
@@ -89,15 +87,13 @@ pub called_past : (form : Form) (arguments : List (List ℕ)) (function i start 
     length (flat_map (filled (drop 2 arguments)) (take (to - start) (drop start (all_items form)))) + rest ≡ i →
     (width : Width) (seen : Option ℕ) → TellsOfForm (Handle action.Call) form arguments function width seen i told.TheVariants.Nothing
 called_past form arguments function i start to rest begins ends past width seen environment s call e wide of same number names is_seen l =
-    let span : take (to - start) (drop start (all_items form)) ≡ form.after =
-    whole_span (all_items form) start to ends ∙ ap (λ k. drop k (all_items form)) begins ∙ after_those form.before form.after in
     absurd (omega (
       arith,
       l,
       past,
       ap (λ (text : List ℕ). length text) (called_gives environment s call e form of names),
       ap (λ (texts : List (List ℕ)). length (all_filled (drop 2 texts) form.after)) same,
-      ap (λ (xs : List Item). length (flat_map (filled (drop 2 arguments)) xs)) span,
+      ap (λ (xs : List Item). length (flat_map (filled (drop 2 arguments)) xs)) (whole_after form start begins to ends),
     ))
 
 -- ---- `cs`, `cc`, `cn` and `in`
@@ -145,6 +141,24 @@ module _ (reading : FormReading) (form : Form) (arguments : List (List ℕ)) (fu
 
 -- ---- `pf` and `ss`
 
+-- what is printed of a form, as the code finds it
+module _ (form : Form) (pointer i : ℕ) (begins : pointer ≡ length form.before) where
+  -- before the pointer
+  pub shown_before : (given : Given) (o : told.Origin) → given.at < pointer - 0 → IsGiven shown_item (drop 0 (all_items form)) i given → o ≡ of_shown given.item given.at →
+      IsShown form.before 0 i o
+  shown_before given o less is shows =
+      let within : given.at < length form.before = omega (arith, less, begins) in
+      let number : given.at ≡ 0 + given.at = omega arith in
+      record {
+        item = given.item;
+        at = given.at;
+        byte = given.byte;
+        there = sym (slice_get-front form.before form.after given.at within) ∙ is.there;
+        place = ap (λ (xs : List Item). length (shown_items xs) + given.byte) (sym (take-append-le given.at form.before form.after (omega (arith, within)))) ∙ is.place;
+        within = is.within;
+        shows = shows ∙ ap (of_shown given.item) number;
+      }
+
 module _ (environment : Environment) (s t : State) (call : Call) (e : Effect) (form : Form) (scans : scan s ≡ Calls call) (after : t ≡ after_call call e) where
   -- ---- `pf`
 
@@ -155,23 +169,13 @@ module _ (environment : Environment) (s t : State) (call : Call) (e : Effect) (f
     -- how much is printed
     printed_is : length e.printed ≡ line + length (shown form)
     printed_is =
-        let text = trace_line call.state.trace call.kind call.arguments in
         let storage = storage_of call.state in
-        let done : Ok (printed_after text (prints (shown form) storage)) ≡ Ok e =
-        ap (λ (found : Option Form). seen_as (printed_after text) (on_form found (λ f. Ok (prints (shown f) storage)) storage)) (sym names) ∙ done_by environment s call e (Handle action.PrintForm) of in
-        let same : printed_after text (prints (shown form) storage) ≡ e = cc in
-        ap (λ (f : Effect). length f.printed) (sym same) ∙ length-append text (shown form)
+        ap (λ (f : Effect). length f.printed) (sym (does_so environment s call e (Handle action.PrintForm) (prints (shown form) storage) of
+        (ap (λ (found : Option Form). on_form found (λ f. Ok (prints (shown f) storage)) storage) names)))
+        ∙ length-append (trace_line call.state.trace call.kind call.arguments) (shown form)
 
-    output_then : length t.output ≡ length s.output + (line + length (shown form))
-    output_then =
-        omega (
-          arith,
-          ap (λ (u : State). length u.output) after,
-          ap (λ (bytes : List ℕ). length bytes) (output-placed call.kind e.forced e.value (changed_by e call.state)),
-          length-append call.state.output e.printed,
-          ap (λ (bytes : List ℕ). length bytes) (output_is s call scans),
-          printed_is,
-        )
+    whole : length t.output ≡ length s.output + (line + length (shown form))
+    whole = output_then s t call e scans after ∙ ap (λ n. length s.output + n) printed_is
 
     -- an item that is printed
     item_shown : (place : ℕ → Place) (items : List Item) (first : ℕ) →
@@ -221,23 +225,21 @@ module _ (environment : Environment) (s t : State) (call : Call) (e : Effect) (f
     pub form_printed : (end i : ℕ) (o : told.Origin) → end ≡ length t.output → length s.output ≤ i → i < length t.output → length t.output ≤ OUTPUT_LIMIT → ToldAsShown form end i o →
         Tells s o (origin environment s (InOutput i))
     form_printed end i o ends past stands fits tells =
-        let before : length call.state.output ≡ length s.output = ap (λ (bytes : List ℕ). length bytes) (output_is s call scans) in
         ⊎_elim
         (λ (none : (o ≡ told.TheVariants.Nothing) × ((length (shown form) ≤ OUTPUT_LIMIT → ⊥) ⊎ ((end < length (shown form)) ⊎ (end ≤ i)))).
         absurd (⊎_elim
-        (λ (large : length (shown form) ≤ OUTPUT_LIMIT → ⊥). large (omega (arith, fits, output_then)))
+        (λ (large : length (shown form) ≤ OUTPUT_LIMIT → ⊥). large (omega (arith, fits, whole)))
         (⊎_elim
-        (λ (l : end < length (shown form)). absurd (omega (arith, l, ends, output_then)))
+        (λ (l : end < length (shown form)). absurd (omega (arith, l, ends, whole)))
         (λ (l : end ≤ i). absurd (omega (arith, l, ends, stands))))
         none.1))
         (⊎_elim
         (λ (early : (o ≡ told.TheVariants.Made) × (i + length (shown form) < end)).
-        let index : i ≡ length call.state.output + (i - length s.output) = omega (arith, past, before) in
         made_tells o (InOutput i) early.0
-        (ap (λ m. origin environment s (InOutput m)) index
-        ∙ line_told environment s call (Handle action.PrintForm) e of (i - length s.output) (omega (arith, early.1, ends, output_then, past))))
+        (ap (λ m. origin environment s (InOutput m)) (output_past s call scans i past)
+        ∙ line_told environment s call (Handle action.PrintForm) e of (i - length s.output) (omega (arith, early.1, ends, whole, past))))
         (λ (there : (j : ℕ) × (j + end ≡ i + length (shown form)) × ToldAsShownAt form j o).
-        let index : i ≡ length call.state.output + (line + there.0) = omega (arith, there.1, ends, output_then, before) in
+        let index : i ≡ length call.state.output + (line + there.0) = omega (arith, there.1, ends, whole, ap (λ (bytes : List ℕ). length bytes) (output_is s call scans)) in
         subst (λ m. Tells s o (origin environment s (InOutput m))) (sym index) (form_shown_at there.0 o (omega (arith, there.1, ends, stands)) there.2)))
         tells
 
@@ -252,31 +254,17 @@ module _ (environment : Environment) (s t : State) (call : Call) (e : Effect) (f
     cut_form =
         let storage = storage_of call.state in
         let name = argument 1 call.arguments in
-        let line = trace_line call.state.trace call.kind call.arguments in
-        let done : seen_as (printed_after line) (putting name (segmented texts form) storage) ≡ Ok e =
-        ap (λ (found : Option Form). seen_as (printed_after line) (on_form found (λ f. putting name (segmented texts f) storage) storage)) (sym names) ∙ done_by environment s call e (Handle action.Segment) of in
-        ap (λ (u : State). finite.get u.forms name) after
-        ∙ ap (λ (left : Storage). finite.get left.forms name) (storage-placed call.kind e.forced e.value (changed_by e call.state))
-        ∙ ap (λ forms. finite.get forms name) (put_by (may_be_put name (segmented texts form) storage.forms) done)
+        ap (λ forms. finite.get forms name)
+        (forms_kept environment s call e (Handle action.Segment) of t after (may_be_put name (segmented texts form) storage.forms) (finite.insert storage.forms name (segmented texts form))
+        (ap (λ (found : Option Form). on_form found (λ f. putting name (segmented texts f) storage) storage) names))
         ∙ finite.get-insert nat_list_cmp_total storage.forms name (segmented texts form) name
         ∙ cond-true _ (Some (segmented texts form)) (finite.get storage.forms name) (is_eq-slice_cmp name name ∙ (bytes_eq-Decides name name).1 refl)
-      where
-        put_by : (b : Bool) →
-            seen_as (printed_after (trace_line call.state.trace call.kind call.arguments))
-            (cond b (Ok (leaves (keeping (finite.insert call.state.forms (argument 1 call.arguments) (segmented texts form)) (storage_of call.state)))) (Err TooLong)) ≡ Ok e →
-            e.storage.forms ≡ finite.insert call.state.forms (argument 1 call.arguments) (segmented texts form)
-        put_by true done =
-            let put = finite.insert call.state.forms (argument 1 call.arguments) (segmented texts form) in
-            let same : printed_after (trace_line call.state.trace call.kind call.arguments) (leaves (keeping put (storage_of call.state))) ≡ e = cc in
-            ap (λ (f : Effect). f.storage.forms) (sym same)
-        put_by false done = absurd (cc)
 
     -- the item of a place, and the item that stood there
     pub item_cut : (name : List ℕ) (seen : After) (i : ℕ) (item : Item) (o : told.Origin) → bytes_eq name (argument 1 call.arguments) ≡ true → IsMeasured seen.extent seen.is_gap t (InForm name i) →
         found_at t (InForm name i) ≡ Some item → ToldAsCut form name seen o → Tells s o (origin environment s (InForm name i))
     item_cut name seen i item o same measured stands tells =
-        let is_name : name ≡ argument 1 call.arguments = (bytes_eq-Decides name (argument 1 call.arguments)).0 same in
-        let found : finite.get t.forms name ≡ Some (segmented texts form) = ap (finite.get t.forms) is_name ∙ cut_form in
+        let found : finite.get t.forms name ≡ Some (segmented texts form) = ap (finite.get t.forms) named_so ∙ cut_form in
         let there : slice_get (all_items (segmented texts form)) i ≡ Some item = ap (λ (f : Option Form). slice_get (items_of f) i) (sym found) ∙ stands in
         let told_item = segmented_told environment s call e of form names i item there in
         let number : ℕ = told_item.0 in
@@ -284,7 +272,7 @@ module _ (environment : Environment) (s t : State) (call : Call) (e : Effect) (f
         let bytes : seen.extent ≡ extent (take number (all_items form)) =
         (measured item stands).0 ∙ ap (λ (f : Option Form). extent (take i (items_of f))) found ∙ told_item.3 in
         let is_from : origin environment s (InForm name i) ≡ cut_from item was (of_form call number) =
-        ap (λ q. origin environment s (InForm q i)) is_name ∙ told_item.4 in
+        ap (λ q. origin environment s (InForm q i)) named_so ∙ told_item.4 in
         ⊎_elim
         (λ (none : (o ≡ told.TheVariants.Nothing) × ((n : ℕ) (stood : Item) → slice_get (all_items form) n ≡ Some stood → extent (take n (all_items form)) ≡ seen.extent → ⊥)).
         absurd (none.1 number was told_item.2 (sym bytes)))
@@ -296,18 +284,89 @@ module _ (environment : Environment) (s t : State) (call : Call) (e : Effect) (f
         (is_from ∙ ap₂ (λ k (x : Item). cut_from item x (of_form call k)) place same_item) o at.3)
         tells
       where
-        is_carried : (n : ℕ) (p : told.Origin) (r : Origin) → name ≡ argument 1 call.arguments → r ≡ of_form call n → CarriedFrom p name n → Tells s p r
-        is_carried n (told.TheVariants.Carried place) r is_name is at = is ∙ ap (λ q. Carried (InForm q n)) (sym is_name) ∙ ap Carried (sym at)
-        is_carried n other r is_name is at = absurd at
-
         named_so : name ≡ argument 1 call.arguments
         named_so = (bytes_eq-Decides name (argument 1 call.arguments)).0 same
 
+        is_carried : (n : ℕ) (p : told.Origin) (r : Origin) → r ≡ of_form call n → CarriedFrom p name n → Tells s p r
+        is_carried n (told.TheVariants.Carried place) r is at = is ∙ ap (λ q. Carried (InForm q n)) (sym named_so) ∙ ap Carried (sym at)
+        is_carried n other r is at = absurd at
+
         by_items : (x stood : Item) → seen.is_gap ≡ is_gap x → (n : ℕ) → origin environment s (InForm name i) ≡ cut_from x stood (of_form call n) →
             (p : told.Origin) → told_of (is_cut seen.is_gap stood) p name n → Tells s p (origin environment s (InForm name i))
-        by_items (Byte c) (Byte b) gap n is p at = is_carried n p (origin environment s (InForm name i)) named_so is (subst (λ g. told_of g p name n) gap at)
-        by_items (Byte c) (Gap k w) gap n is p at = is_carried n p (origin environment s (InForm name i)) named_so is at
+        by_items (Byte c) (Byte b) gap n is p at = is_carried n p (origin environment s (InForm name i)) is (subst (λ g. told_of g p name n) gap at)
+        by_items (Byte c) (Gap k w) gap n is p at = is_carried n p (origin environment s (InForm name i)) is at
         by_items (Gap k w) (Byte b) gap n is p at =
             let made : p ≡ told.TheVariants.Made = subst (λ g. told_of g p name n) gap at in
             subst (λ q. Tells s q (origin environment s (InForm name i))) (sym made) is
-        by_items (Gap k w) (Gap j v) gap n is p at = is_carried n p (origin environment s (InForm name i)) named_so is at
+        by_items (Gap k w) (Gap j v) gap n is p at = is_carried n p (origin environment s (InForm name i)) is at
+
+-- ---- the form of a name
+
+-- the form that a call names, if there is one
+names_so : (s : State) (call : Call) (name : List ℕ) (found : Option Form) → scan s ≡ Calls call → name ≡ argument 1 call.arguments → finite.get s.forms name ≡ found →
+    named_form call.arguments (storage_of call.state) ≡ found
+names_so s call name found scans same is =
+    ap (λ (u : State). finite.get u.forms (argument 1 call.arguments)) (ended s call scans).2.state ∙ ap (finite.get s.forms) (sym same) ∙ is
+
+module _ (s : State) (width : Width) (seen : Option ℕ) (i : ℕ) (arguments : List (List ℕ)) (is : IsCalling s arguments) where
+  -- of the value of a call on it
+  pub form_value_told : (primitive : Primitive) → primitive_of (argument 0 arguments) ≡ primitive → (function : ℕ) (o : told.Origin) (form : Form) → function + 1 ≡ length s.frames →
+      finite.get s.forms (argument 1 arguments) ≡ Some form → TellsOfForm primitive form arguments function width seen i o → TellsValue s width seen i o
+  form_value_told primitive named function o form number found tells environment t call e item wide h readable scans does is_seen stands l =
+      let of = call_is environment s call e arguments primitive is named scans does in
+      tells environment s call e wide of.1 of.0 (number_is s call scans function number) (names_so s call (argument 1 arguments) (Some form) scans (ap (argument 1) (sym of.0)) found) is_seen l
+
+  module _ (a : FormAction) (named : primitive_of (argument 0 arguments) ≡ Handle a) where
+    -- of one that has no value without a form
+    pub formless_told : (a ≡ action.ListNames → ⊥) → finite.get s.forms (argument 1 arguments) ≡ None → TellsValue s width seen i told.TheVariants.Nothing
+    formless_told other none environment t call e item wide h readable scans does is_seen stands l =
+        let of = call_is environment s call e arguments (Handle a) is named scans does in
+        formless_gives_none environment s call e a other of.1 (names_so s call (argument 1 arguments) None scans (ap (argument 1) (sym of.0)) none) i l
+
+    -- of one that has no value at all
+    pub silent_told : (gives_form a → ⊥) → TellsValue s width seen i told.TheVariants.Nothing
+    silent_told none environment t call e item wide h readable scans does is_seen stands l =
+        action_gives_none environment s call e a none (call_is environment s call e arguments (Handle a) is named scans does).1 i l
+
+-- the output is within its limit
+output_fits : (environment : Environment) (s t : State) → step environment s ≡ Ok t → length t.output ≤ OUTPUT_LIMIT
+unfolding step texts_fit
+output_fits environment s t h =
+    let fits = (limited_Ok texts_fit (carried_out environment (scan s)) t h).1 in
+    leb-true (length t.output) OUTPUT_LIMIT (and_parts (nat_le (text_bytes t) TEXT_LIMIT && nat_le (marks t.frames) MARK_LIMIT) (nat_le (length t.output) OUTPUT_LIMIT) fits).1
+
+module _ (environment : Environment) (s t : State) (call : Call) (h : step environment s ≡ Ok t) (scans : scan s ≡ Calls call) where
+  pub cut_tells : primitive_of (argument 0 call.arguments) ≡ Handle action.Segment → (name : List ℕ) (seen : After) (i : ℕ) (item : Item) (o : told.Origin) →
+      bytes_eq name (argument 1 call.arguments) ≡ true → IsMeasured seen.extent seen.is_gap t (InForm name i) → found_at t (InForm name i) ≡ Some item →
+      ToldAsFormCut s name seen o → Tells s o (origin environment s (InForm name i))
+  cut_tells named name seen i item o same measured stands tells =
+      let done = call_does environment s t call h scans (Handle action.Segment) named in
+      ⊎_elim
+      (λ (none : (o ≡ told.TheVariants.Nothing) × (finite.get s.forms name ≡ None)).
+      let is_name : name ≡ argument 1 call.arguments = (bytes_eq-Decides name (argument 1 call.arguments)).0 same in
+      let left : t.forms ≡ call.state.forms =
+      forms_left environment s call done.0 (Handle action.Segment) done.1 t done.2
+      (ap (λ (found : Option Form). on_form found (λ f. putting (argument 1 call.arguments) (segmented (drop 2 call.arguments) f) (storage_of call.state)) (storage_of call.state))
+      (names_so s call name None scans is_name none.1)) in
+      let missing : None ≡ Some item =
+      sym (ap (λ (forms : Forms). slice_get (items_of (finite.get forms name)) i) left
+      ∙ ap (λ (u : State). slice_get (items_of (finite.get u.forms name)) i) (ended s call scans).2.state ∙ ap (λ (f : Option Form). slice_get (items_of f) i) none.1)
+      ∙ stands in
+      absurd (cc))
+      (λ (of : (form : Form) × (finite.get s.forms name ≡ Some form) × ToldAsCut form name seen o).
+      item_cut environment s t call done.0 of.0 scans done.2 done.1
+      (names_so s call name (Some of.0) scans ((bytes_eq-Decides name (argument 1 call.arguments)).0 same) of.1) name seen i item o same measured stands of.2)
+      tells
+
+  pub shown_tells : primitive_of (argument 0 call.arguments) ≡ Handle action.PrintForm → (name : List ℕ) (end i : ℕ) (o : told.Origin) → name ≡ argument 1 call.arguments →
+      end ≡ length t.output → length s.output ≤ i → i < length t.output → ToldAsFormShown s name end i o → Tells s o (origin environment s (InOutput i))
+  shown_tells named name end i o same ends past stands tells =
+      let done = call_does environment s t call h scans (Handle action.PrintForm) named in
+      ⊎_elim
+      (λ (no_form : (o ≡ told.TheVariants.Made) × (finite.get s.forms name ≡ None)).
+      subst (λ p. Tells s p (origin environment s (InOutput i))) (sym no_form.0)
+      (ap (λ n. origin environment s (InOutput n)) (output_past s call scans i past)
+      ∙ unshown_told environment s call (Handle action.PrintForm) done.0 done.1 refl (names_so s call name None scans same no_form.1) (i - length s.output)))
+      (λ (of : (form : Form) × (finite.get s.forms name ≡ Some form) × ToldAsShown form end i o).
+      form_printed environment s t call done.0 of.0 scans done.2 done.1 (names_so s call name (Some of.0) scans same of.1) end i o ends past stands (output_fits environment s t h) of.2)
+      tells

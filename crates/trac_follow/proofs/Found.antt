@@ -1,8 +1,7 @@
 -- What stands at a place of a state.
-use Rattle.std.proofs.Common.{◌≡◌, ℕ, zero, suc, ◌+◌, ◌-◌, ◌<◌, ◌≤◌, true, false, List, [], ◌∷◌, length, drop, reverse, get_or, refl, sym, ap, ◌∙◌, ⊎_elim, arith}
-use Rattle.std.specs.Prelude.{Option, None, Some, ◌==◌, option_and_then, option_map, slice_get}
-use Rattle.std.proofs.lemmas.Bool.{cases_Bool, cond-true, cond-false, eqb-true, eqb-false}
-use Rattle.std.proofs.lemmas.List.{get_or-reverse, get_or_at, length-drop, length-reverse}
+use Rattle.std.proofs.Common.{◌≡◌, ℕ, zero, suc, ◌+◌, ◌-◌, ◌<◌, ◌≤◌, true, false, List, [], ◌∷◌, length, drop, reverse, get_or, refl, sym, ap, ◌∙◌, arith, Option, None, Some, ◌==◌, option_and_then, option_map, slice_get}
+use Rattle.std.proofs.lemmas.Bool.{cond-true, cond-false, eq-eqb, ne_eqb}
+use Rattle.std.proofs.lemmas.List.{drop_more, get_or-reverse, get_or_at, length-drop, length-reverse}
 use Rattle.std.proofs.lemmas.Option.{get_or_from_slice_get, slice_get-get_or, slice_get_within}
 use Rattle.trac_rules.specs.declared.item.Item.{Item}
 use Rattle.trac_rules.specs.declared.item.Item.TheVariants.{Byte}
@@ -11,7 +10,7 @@ use Rattle.trac_rules.specs.Effect.{argument}
 use Rattle.trac_rules.specs.State.{Frame, State}
 use Rattle.trac_origins.specs.Lengths.{current_text, in_current}
 use Rattle.trac_origins.specs.Places.{InArgument, arguments_of, byte_at, numbered}
-use Rattle.trac_origins.proofs.Told.{byte_within, is_in}
+use Rattle.trac_origins.proofs.Told.{is_in}
 use Rattle.trac_origins.proofs.Zips.{number_within}
 use Rattle.trac_follow.specs.Places.{IsBare, Stands}
 use Rattle.trac_text.specs.Frames.{IsFrame, all_arguments}
@@ -21,48 +20,33 @@ byte_there i text l = (Byte (get_or text i 0), ap (option_map Byte) (slice_get-g
 
 -- ---- functions by their numbers, counted from the innermost and from the outermost
 
--- one of a list, and those after it
 module _ {A : Type 0} where
-  split_at : (xs : List A) (k : ℕ) (x d : A) → k < length xs → get_or xs k d ≡ x → drop k xs ≡ x ∷ drop (suc k) xs
-  split_at [] k x d l e = absurd (omega (arith, l))
-  split_at (y ∷ xs) zero x d l e = ap (λ z. z ∷ xs) e
-  split_at (y ∷ xs) (suc k) x d l e = split_at xs k x d (omega (arith, l)) e
-
-  numbered_from_end : (xs : List A) (n : ℕ) (d : A) → n < length xs → numbered n xs ≡ Some (get_or xs (length xs - 1 - n) d)
-  numbered_from_end [] n d l = absurd (omega (arith, l))
-  numbered_from_end (x ∷ xs) n d l =
-      ⊎_elim
-      (λ (t : (n == length xs) ≡ true).
-      let first : length (x ∷ xs) - 1 - n ≡ 0 = omega (arith, eqb-true n (length xs) t) in
-      cond-true (n == length xs) (Some x) (numbered n xs) t ∙ ap (λ k. Some (get_or (x ∷ xs) k d)) (sym first))
-      (λ (t : (n == length xs) ≡ false).
-      let within : n < length xs = omega (arith, l, eqb-false n (length xs) t) in
-      let later : length (x ∷ xs) - 1 - n ≡ suc (length xs - 1 - n) = omega (arith, within) in
-      cond-false (n == length xs) (Some x) (numbered n xs) t ∙ numbered_from_end xs n d within ∙ ap (λ k. Some (get_or (x ∷ xs) k d)) (sym later))
-      (cases_Bool (n == length xs))
-
-  -- from the outermost
-  record IsFromOutside (xs : List A) (n : ℕ) (x : A) : Type 0 where
-    within : n < length xs
-    at : get_or xs (length xs - 1 - n) x ≡ x
-
-  from_outside : (xs : List A) (n : ℕ) (x : A) → slice_get (reverse xs) n ≡ Some x → IsFromOutside xs n x
-  from_outside xs n x e =
-      let within : n < length xs = omega (arith, slice_get_within (reverse xs) n x e, length-reverse xs) in
-      record { within = within; at = sym (get_or-reverse xs n x within) ∙ get_or_from_slice_get (reverse xs) n x x e }
-
-  pub numbered_there : (xs : List A) (n : ℕ) (x : A) → slice_get (reverse xs) n ≡ Some x → numbered n xs ≡ Some x
-  numbered_there xs n x e = let at = from_outside xs n x e in numbered_from_end xs n x at.within ∙ ap Some at.at
-
-  -- with those around it
+  -- the one of a number, with those around it
   pub around : (xs : List A) (n : ℕ) (x : A) → slice_get (reverse xs) n ≡ Some x →
       (rest : List A) × (drop (length xs - (n + 1)) xs ≡ x ∷ rest) × (length rest ≡ n)
   around xs n x e =
-      let at = from_outside xs n x e in
-      let k = length xs - 1 - n in
-      let place : length xs - (n + 1) ≡ k = omega arith in
-      let k_within : k < length xs = omega (arith, at.within) in
-      (drop (suc k) xs, ap (λ j. drop j xs) place ∙ split_at xs k x x k_within at.at, length-drop (suc k) xs ∙ omega (arith, at.within))
+      let within : n < length xs = omega (arith, slice_get_within (reverse xs) n x e, length-reverse xs) in
+      let k = length xs - (n + 1) in
+      let place : length xs - 1 - n ≡ k = omega arith in
+      let at : get_or xs k x ≡ x = ap (λ j. get_or xs j x) (sym place) ∙ sym (get_or-reverse xs n x within) ∙ get_or_from_slice_get (reverse xs) n x x e in
+      (drop (k + 1) xs, drop_more xs k x (omega (arith, within)) ∙ ap (λ y. y ∷ drop (k + 1) xs) at, length-drop (k + 1) xs ∙ omega (arith, within))
+
+  -- what is told of it, where that is told of those around each other one
+  pub at_number : {X : Type 0} (n : ℕ) (of : List A → X) (this : A → List A → X) → ((x : A) (xs : List A) → (n == length xs) ≡ true → of (x ∷ xs) ≡ this x xs) →
+      ((x : A) (xs : List A) → (n == length xs) ≡ false → of (x ∷ xs) ≡ of xs) →
+      (xs : List A) (m : ℕ) (x : A) (rest : List A) → drop m xs ≡ x ∷ rest → length rest ≡ n → of xs ≡ this x rest
+  at_number n of this first later [] zero x rest is number = absurd (cc)
+  at_number n of this first later [] (suc m) x rest is number = absurd (cc)
+  at_number n of this first later (y ∷ ys) zero x rest is number = ap of is ∙ first x rest (eq-eqb n (length rest) (sym number))
+  at_number n of this first later (y ∷ ys) (suc m) x rest is number =
+      let longer : n < length ys = omega (arith, number, ap (λ (zs : List A). length zs) is, length-drop m ys) in
+      later y ys (ne_eqb n (length ys) (λ same. absurd (omega (arith, same, longer)))) ∙ at_number n of this first later ys m x rest is number
+
+  pub numbered_there : (xs : List A) (n : ℕ) (x : A) → slice_get (reverse xs) n ≡ Some x → numbered n xs ≡ Some x
+  numbered_there xs n x e =
+      let at = around xs n x e in
+      at_number n (λ ys. numbered n ys) (λ y ys. Some y) (λ y ys. cond-true (n == length ys) (Some y) (numbered n ys)) (λ y ys. cond-false (n == length ys) (Some y) (numbered n ys))
+      xs (length xs - (n + 1)) x at.0 at.1 at.2
 
 -- the frame that a reader gives
 pub given_frame : (found : Option Frame) (kind : Kind) (arguments : List (List ℕ)) → IsFrame found kind arguments → (f : Frame) × (found ≡ Some f) × (all_arguments f ≡ arguments)
@@ -83,9 +67,6 @@ argument_stands s n k i kind arguments is l =
     )
 
 -- ---- what does not stand
-
-pub byte_missing : (i : ℕ) (text : List ℕ) (item : Item) → length text ≤ i → byte_at i text ≡ Some item → ⊥
-byte_missing i text item past stands = absurd (omega (arith, past, byte_within i text item stands))
 
 pub argument_bare : (s : State) (n k i : ℕ) (kind : Kind) (arguments : List (List ℕ)) → IsFrame (slice_get (reverse s.frames) n) kind arguments → length (get_or arguments k []) ≤ i →
     IsBare s (InArgument n k i)

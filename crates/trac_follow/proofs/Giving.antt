@@ -1,6 +1,5 @@
 -- What calls give.
-use Rattle.std.proofs.Common.{◌≡◌, ℕ, ◌<◌, true, List, [], drop, length, refl, sym, ap, ◌∙◌, arith}
-use Rattle.std.specs.Prelude.{Option, None, Some, Ok}
+use Rattle.std.proofs.Common.{◌≡◌, ℕ, ◌<◌, Bool, true, false, cond, List, [], drop, length, refl, sym, ap, ◌∙◌, arith, Option, None, Some, Ok, Err}
 use Rattle.trac_rules.specs.declared.primitive.BlockAction.TheVariants.{FetchBlock}
 use Rattle.trac_rules.specs.declared.primitive.Computation.{Computation}
 use Rattle.trac_rules.specs.declared.primitive.FormAction.{FormAction}
@@ -8,18 +7,18 @@ use Rattle.trac_rules.specs.declared.primitive.FormAction.TheVariants as action
 use Rattle.trac_rules.specs.declared.primitive.FormReading.{FormReading}
 use Rattle.trac_rules.specs.declared.primitive.Primitive.{Primitive}
 use Rattle.trac_rules.specs.declared.primitive.Primitive.TheVariants.{ReadString, ReadByte, Compute, Handle, HandleBlock}
+use Rattle.trac_rules.specs.declared.refusal.Refusal.TheVariants.{TooLong}
 use Rattle.trac_rules.specs.Blocks.{named_block_number}
 use Rattle.trac_rules.specs.Effect.{Effect, argument, gives, leaves}
 use Rattle.trac_rules.specs.Filling.{called}
 use Rattle.trac_rules.specs.Form.{Form}
-use Rattle.trac_rules.specs.Handling.{default_argument, form_read, gives_piece, named_form, on_form, piece_read, putting}
+use Rattle.trac_rules.specs.Handling.{default_argument, form_read, gives_piece, keeping, named_form, on_form, piece_read}
 use Rattle.trac_rules.specs.Listing.{listed}
 use Rattle.trac_rules.specs.Outcomes.{seen_as}
 use Rattle.trac_rules.specs.Performing.{after_call, changed_by, effect_of, performed, printed_after, trace_line}
 use Rattle.trac_rules.specs.Pieces.{Piece}
 use Rattle.trac_rules.specs.Scanning.{Call}
-use Rattle.trac_rules.specs.Segmenting.{segmented}
-use Rattle.trac_rules.specs.State.{Environment, State, Storage, storage_of}
+use Rattle.trac_rules.specs.State.{Environment, Forms, State, Storage, storage_of}
 use Rattle.trac_rules.proofs.ProperStates.{storage-placed}
 use Rattle.trac_origins.specs.Lengths.{IsCallOf}
 use Rattle.trac_origins.specs.Performing.{EffectOrigins, Performed, called_from, fetched_from, gives_from, handled_from, on_form_from, reading_from}
@@ -54,12 +53,10 @@ action_empty other d none = refl
 
 -- without a form all but `ln` give nothing
 formless_empty : (a : FormAction) (d : Performed) → (a ≡ action.ListNames → ⊥) → named_form d.call.arguments (storage_of d.call.state) ≡ None → (handled_from a d).value ≡ []
-formless_empty action.Segment d other none = on_form_none value_in d refl (named_form d.call.arguments (storage_of d.call.state)) _ (λ form. refl)
 formless_empty action.Call d other none = ap (λ (found : Option Form). (on_form_from found (λ form. gives_from (called_from form d) d) d).value) none
 formless_empty (action.Read reading) d other none = ap (λ (found : Option Form). (on_form_from found (λ form. gives_from (reading_from reading form d) d) d).value) none
 formless_empty action.ListNames d other none = absurd (other refl)
-formless_empty action.PrintForm d other none = on_form_none value_in d refl (named_form d.call.arguments (storage_of d.call.state)) _ (λ form. refl)
-formless_empty rest d other none = refl
+formless_empty a d other none = action_empty a d (λ gives. gives)
 
 module _ (environment : Environment) (s : State) (call : Call) (e : Effect) where
   pub action_gives_none : (a : FormAction) → (gives_form a → ⊥) → IsCallOf environment s call (Handle a) e → (i : ℕ) → i < length e.value → ⊥
@@ -91,32 +88,30 @@ module _ (environment : Environment) (s : State) (call : Call) (e : Effect) wher
   unfolding performed
   done_by primitive is = ap (λ p. seen_as (printed_after line) (effect_of p environment call.arguments call.state)) (sym is.named) ∙ is.does
 
+  -- and this, where it is not refused
+  pub does_so : (primitive : Primitive) (done : Effect) → IsCallOf environment s call primitive e → effect_of primitive environment call.arguments call.state ≡ Ok done → printed_after line done ≡ e
+  does_so primitive done is does =
+      let same : Ok (printed_after line done) ≡ Ok e = ap (seen_as (printed_after line)) (sym does) ∙ done_by primitive is in
+      cc
+
   pub called_gives : (form : Form) → IsCallOf environment s call (Handle action.Call) e → named_form call.arguments (storage_of call.state) ≡ Some form → e.value ≡ called (drop 2 call.arguments) form
   called_gives form is names =
       let storage : Storage = storage_of call.state in
-      let done : Ok (printed_after line (gives (called (drop 2 call.arguments) form) storage)) ≡ Ok e =
-      ap (λ (found : Option Form). seen_as (printed_after line) (on_form found (λ f. Ok (gives (called (drop 2 call.arguments) f) storage)) storage)) (sym names) ∙ done_by (Handle action.Call) is in
-      let same : printed_after line (gives (called (drop 2 call.arguments) form) storage) ≡ e = cc in
-      ap (λ (f : Effect). f.value) (sym same)
+      ap (λ (f : Effect). f.value) (sym (does_so (Handle action.Call) (gives (called (drop 2 call.arguments) form) storage) is
+      (ap (λ (found : Option Form). on_form found (λ f. Ok (gives (called (drop 2 call.arguments) f) storage)) storage) names)))
 
   pub names_given : IsCallOf environment s call (Handle action.ListNames) e → e.value ≡ listed (argument 1 call.arguments) call.state.forms
-  names_given is =
-      let done : Ok (printed_after line (gives (listed (argument 1 call.arguments) call.state.forms) (storage_of call.state))) ≡ Ok e = done_by (Handle action.ListNames) is in
-      let same : printed_after line (gives (listed (argument 1 call.arguments) call.state.forms) (storage_of call.state)) ≡ e = cc in
-      ap (λ (f : Effect). f.value) (sym same)
+  names_given is = ap (λ (f : Effect). f.value) (sym (does_so (Handle action.ListNames) (gives (listed (argument 1 call.arguments) call.state.forms) (storage_of call.state)) is refl))
 
   reads_form : (reading : FormReading) (form : Form) (found : Option Piece) → IsCallOf environment s call (Handle (action.Read reading)) e →
       named_form call.arguments (storage_of call.state) ≡ Some form → piece_read reading environment.width call.arguments form ≡ found →
       printed_after line (gives_piece found (default_argument reading call.arguments) (argument 1 call.arguments) form (storage_of call.state)) ≡ e
   reads_form reading form found is names read =
       let storage : Storage = storage_of call.state in
-      let name = argument 1 call.arguments in
       let other = default_argument reading call.arguments in
-      let done : Ok (printed_after line (gives_piece found other name form storage)) ≡ Ok e =
-      ap (λ (piece : Option Piece). Ok (printed_after line (gives_piece piece other name form storage))) (sym read)
-      ∙ ap (λ (f : Option Form). seen_as (printed_after line) (on_form f (λ g. Ok (form_read reading environment.width call.arguments g storage)) storage)) (sym names)
-      ∙ done_by (Handle (action.Read reading)) is in
-      cc
+      does_so (Handle (action.Read reading)) (gives_piece found other (argument 1 call.arguments) form storage) is
+      (ap (λ (f : Option Form). on_form f (λ g. Ok (form_read reading environment.width call.arguments g storage)) storage) names
+      ∙ ap (λ (piece : Option Piece). Ok (gives_piece piece other (argument 1 call.arguments) form storage)) read)
 
   pub piece_gives : (reading : FormReading) (form : Form) (piece : Piece) → IsCallOf environment s call (Handle (action.Read reading)) e →
       named_form call.arguments (storage_of call.state) ≡ Some form → piece_read reading environment.width call.arguments form ≡ Some piece → e.value ≡ piece.value
@@ -128,17 +123,15 @@ module _ (environment : Environment) (s : State) (call : Call) (e : Effect) wher
 
   -- ---- forms and blocks afterwards
 
-  pub parts_after : (t : State) → t ≡ after_call call e → (t.forms ≡ e.storage.forms) × (t.blocks ≡ e.storage.blocks)
-  parts_after t after =
-      let left : storage_of t ≡ e.storage = ap (λ (u : State). storage_of u) after ∙ storage-placed call.kind e.forced e.value (changed_by e call.state) in
-      (ap (λ (left : Storage). left.forms) left, ap (λ (left : Storage). left.blocks) left)
+  module _ (primitive : Primitive) (is : IsCallOf environment s call primitive e) (t : State) (after : t ≡ after_call call e) where
+    forms_after : t.forms ≡ e.storage.forms
+    forms_after = ap (λ (u : State). u.forms) after ∙ ap (λ (left : Storage). left.forms) (storage-placed call.kind e.forced e.value (changed_by e call.state))
 
-  -- `ss` of no form leaves all
-  pub segment_left : IsCallOf environment s call (Handle action.Segment) e → named_form call.arguments (storage_of call.state) ≡ None → (t : State) → t ≡ after_call call e → t.forms ≡ call.state.forms
-  segment_left is none t after =
-      let storage : Storage = storage_of call.state in
-      let done : Ok (printed_after line (leaves storage)) ≡ Ok e =
-      ap (λ (found : Option Form). seen_as (printed_after line) (on_form found (λ f. putting (argument 1 call.arguments) (segmented (drop 2 call.arguments) f) storage) storage)) (sym none)
-      ∙ done_by (Handle action.Segment) is in
-      let same : printed_after line (leaves storage) ≡ e = cc in
-      (parts_after t after).0 ∙ ap (λ (f : Effect). f.storage.forms) (sym same)
+    -- those from before
+    pub forms_left : effect_of primitive environment call.arguments call.state ≡ Ok (leaves (storage_of call.state)) → t.forms ≡ call.state.forms
+    forms_left does = forms_after ∙ ap (λ (f : Effect). f.storage.forms) (sym (does_so primitive (leaves (storage_of call.state)) is does))
+
+    -- these, if they are few enough
+    pub forms_kept : (few : Bool) (forms : Forms) → effect_of primitive environment call.arguments call.state ≡ cond few (Ok (leaves (keeping forms (storage_of call.state)))) (Err TooLong) → t.forms ≡ forms
+    forms_kept true forms does = forms_after ∙ ap (λ (f : Effect). f.storage.forms) (sym (does_so primitive (leaves (keeping forms (storage_of call.state))) is does))
+    forms_kept false forms does = absurd (let refused = ap (seen_as (printed_after line)) (sym does) ∙ done_by primitive is in cc)

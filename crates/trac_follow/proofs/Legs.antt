@@ -1,145 +1,183 @@
--- A session that went back over a leg, and the calls on the way of a byte there.
-use Rattle.std.proofs.Common.{◌≡◌, ℕ, zero, suc, ◌+◌, ◌-◌, ◌<◌, false, not, List, [], ◌∷◌, ◌++◌, length, take, refl, sym, ap, ap₂, subst, ◌∙◌, arith}
-use Rattle.std.specs.Prelude.{Some}
-use Rattle.std.proofs.lemmas.List.{append-nil, append_assoc, length-append}
-use Rattle.std.proofs.lemmas.Option.{option_and_then_some}
-use Rattle.std.proofs.Math.Seq.{take-append-add}
+-- The calls on the way of a byte over the steps of a leg.
+use Rattle.std.proofs.Common.{◌≡◌, ℕ, suc, ◌+◌, ◌-◌, ◌<◌, false, not, List, [], ◌∷◌, ◌++◌, length, take, refl, sym, ap, ap₂, subst, ◌∙◌, arith, Some, append-nil, append_assoc, length-append}
+use Rattle.std.proofs.lemmas.Bool.{cond-true, cond-false, false_from_ne_true, true≢false}
 use Rattle.trac_rules.specs.Effect.{argument}
-use Rattle.trac_rules.specs.Scanning.{scan}
-use Rattle.trac_rules.specs.Session.{PlainSession, Back, accepted_by, answer, over, repeated}
+use Rattle.trac_rules.specs.Scanning.{Call, Calls, scan}
+use Rattle.trac_rules.specs.Session.{PlainSession, Back, over, repeated}
 use Rattle.trac_rules.specs.State.{Environment, State}
-use Rattle.trac_rules.proofs.Replies.{accepted_done}
-use Rattle.trac_rules.proofs.TakenAgain.{Back_done}
-use Rattle.trac_origins.specs.Following.{Followed, followed, state_back}
+use Rattle.trac_origins.specs.Following.{Followed, followed, going_back}
 use Rattle.trac_origins.specs.Places.{Place, InHeld, InForm, Origin, Carried, Read, Made}
+use Rattle.trac_origins.specs.Stepping.{origin}
 use Rattle.trac_follow.specs.declared.history.Followed.{Followed as Found}
 use Rattle.trac_follow.specs.declared.history.Source as code
 use Rattle.trac_follow.specs.declared.tracing.End as ends
 use Rattle.trac_follow.specs.declared.tracing.Onward as onwards
 use Rattle.trac_follow.specs.Following.{IsFollowed, IsOrigin, IsSource, quiet_steps}
-use Rattle.trac_follow.specs.Passing.{IsUnpassed, passings}
-use Rattle.trac_follow.specs.Places.{IsPassed, is_in_form, is_in_storage, place_of}
-use Rattle.trac_follow.specs.Tracing.{EndsAs, LeadsTo, source_of}
-use Rattle.trac_follow.proofs.Passings.{last_of_all, one_call, quiet, silent}
+use Rattle.trac_follow.specs.Kept.{IsLong}
+use Rattle.trac_follow.specs.Passing.{IsUnpassed, Passing, UnpassedBy, passed_by, passings}
+use Rattle.trac_follow.specs.Places.{IsPassed, is_in_storage, is_passed, place_of}
+use Rattle.trac_follow.specs.Tracing.{EndsAs, LeadsTo, LeadsToLong, ToldAll, WasPassed, source_of}
+use Rattle.trac_follow.proofs.StepsBack.{followed_on, last_of_all, went_so}
 
--- ---- a session that went back
+-- ---- steps that pass nothing on
 
--- the last of so many states before one
-back_to_last : (pre : List State) (n : ℕ) → length pre ≡ n → (t s : State) → state_back (suc n) t (pre ++ s ∷ []) ≡ s
-back_to_last [] zero e t s = refl
-back_to_last [] (suc n) e t s = absurd (omega (arith, e))
-back_to_last (u ∷ pre) zero e t s = absurd (omega (arith, e))
-back_to_last (u ∷ pre) (suc n) e t s = back_to_last pre n (omega (arith, e)) u s
+-- no call is among them
+quiet : (environment : Environment) (pre post : List State) (k : ℕ) (from place here : Place) → (followed environment pre place).origin ≡ Carried here → IsUnpassed environment pre place →
+    passings environment (pre ++ post) k from place ≡ passings environment post (k + length pre) from here
+quiet environment [] post k from place here e unpassed =
+    let same : place ≡ here = cc in
+    ap (passings environment post k from) same ∙ ap (λ n. passings environment post n from here) (omega arith)
+quiet environment (s ∷ pre) post k from place here e unpassed = go (origin environment s place) e unpassed (λ r h less. quiet environment pre post (k + 1) from r here h less)
+  where
+    go : (o : Origin) → (going_back o (λ r. followed environment pre r)).origin ≡ Carried here → UnpassedBy s place o (λ r. IsUnpassed environment pre r) →
+        ((r : Place) → (followed environment pre r).origin ≡ Carried here → IsUnpassed environment pre r →
+        passings environment (pre ++ post) (k + 1) from r ≡ passings environment post (k + 1 + length pre) from here) →
+        passed_by s (k + 1) from place o (λ next r. passings environment (pre ++ post) (k + 1) next r) ≡ passings environment post (k + length (s ∷ pre)) from here
+    go (Carried r) h less further =
+        cond-false (is_passed s place r) (record { state = s; steps = k + 1; from = from } ∷ passings environment (pre ++ post) (k + 1) r r) (passings environment (pre ++ post) (k + 1) from r) (false_from_ne_true (is_passed s place r) less.0)
+        ∙ further r h less.1
+        ∙ ap (λ n. passings environment post n from here) (omega arith)
+    go other h less further = absurd (cc)
 
--- by so many steps
-pub record WentSo (n : ℕ) (old new : PlainSession) : Type 0 where
-  pub whole : old.earlier ≡ take n old.earlier ++ new.earlier
-  pub count : length (take n old.earlier) ≡ n
-  pub last : state_back n old.last (take n old.earlier) ≡ new.last
-  pub same_width : new.width ≡ old.width
-  pub same_tape : new.tape ≡ old.tape
+-- the step from which a byte comes is none
+no_more : (s : State) (k : ℕ) (from place : Place) (o p : Origin) (more : Place → Followed) (later : Place → Place → List Passing) → going_back o more ≡ record { carried = 0; origin = p } → passed_by s k from place o later ≡ []
+no_more s k from place (Carried q) p more later e = absurd (let n : suc (more q).carried ≡ 0 = ap (λ (f : Followed). f.carried) e in omega (arith, n))
+no_more s k from place other p more later e = refl
 
-one_more_back : (n : ℕ) (old m new : PlainSession) → WentSo n old m → (s : State) (rest : List State) → m.earlier ≡ s ∷ rest → new ≡ record m { earlier = rest; last = s } → WentSo (suc n) old new
-one_more_back n old m new so s rest earlier is =
-    let pre = take n old.earlier in
-    let split : old.earlier ≡ pre ++ s ∷ rest = so.whole ∙ ap (λ (states : List State). pre ++ states) earlier in
-    let one : suc n ≡ n + 1 = omega arith in
-    let longer : take (suc n) old.earlier ≡ pre ++ s ∷ [] =
-    ap (λ k. take k old.earlier) one ∙ ap (take (n + 1)) split ∙ ap (λ k. take (k + 1) (pre ++ s ∷ rest)) (sym so.count) ∙ take-append-add pre (s ∷ rest) 1 in
-    record {
-      whole = split ∙ sym (append_assoc pre (s ∷ []) rest)
-          ∙ ap₂ (λ (front back : List State). front ++ back) (sym longer) (sym (ap (λ (p : PlainSession). p.earlier) is));
-      count = ap (λ (states : List State). length states) longer ∙ length-append pre (s ∷ []) ∙ ap (λ k. k + 1) so.count ∙ sym one;
-      last = ap (λ (states : List State). state_back (suc n) old.last states) longer ∙ back_to_last pre n so.count old.last s ∙ sym (ap (λ (p : PlainSession). p.last) is);
-      same_width = ap (λ (p : PlainSession). p.width) is ∙ so.same_width;
-      same_tape = ap (λ (p : PlainSession). p.tape) is ∙ so.same_tape;
-    }
+-- nor are those after it that only carried the byte
+silent : (environment : Environment) (pre : List State) (s : State) (k : ℕ) (from place : Place) (o : Origin) → followed environment (pre ++ s ∷ []) place ≡ record { carried = length pre; origin = o } →
+    IsUnpassed environment pre place → passings environment (pre ++ s ∷ []) k from place ≡ []
+silent environment [] s k from place o e unpassed =
+    no_more s (k + 1) from place (origin environment s place) o (λ q. followed environment [] q) (λ next there. passings environment [] (k + 1) next there) e
+silent environment (u ∷ pre) s k from place o e unpassed = go (origin environment u place) e unpassed (λ r h less. silent environment pre s (k + 1) from r o h less)
+  where
+    go : (p : Origin) → going_back p (λ r. followed environment (pre ++ s ∷ []) r) ≡ record { carried = length (u ∷ pre); origin = o } → UnpassedBy u place p (λ r. IsUnpassed environment pre r) →
+        ((r : Place) → followed environment (pre ++ s ∷ []) r ≡ record { carried = length pre; origin = o } → IsUnpassed environment pre r → passings environment (pre ++ s ∷ []) (k + 1) from r ≡ []) →
+        passed_by u (k + 1) from place p (λ next r. passings environment (pre ++ s ∷ []) (k + 1) next r) ≡ []
+    go (Carried r) h less further =
+        let count : suc (followed environment (pre ++ s ∷ []) r).carried ≡ suc (length pre) = ap (λ (f : Followed). f.carried) h in
+        let here : (followed environment (pre ++ s ∷ []) r).origin ≡ o = ap (λ (f : Followed). f.origin) h in
+        let same : followed environment (pre ++ s ∷ []) r ≡ record { carried = length pre; origin = o } = ap₂ (λ n p. let f : Followed = record { carried = n; origin = p } in f) (omega (arith, count)) here in
+        cond-false (is_passed u place r) (record { state = u; steps = k + 1; from = from } ∷ passings environment (pre ++ s ∷ []) (k + 1) r r) (passings environment (pre ++ s ∷ []) (k + 1) from r) (false_from_ne_true (is_passed u place r) less.0)
+        ∙ further r same less.1
+    go other h less further = absurd (let n : 0 ≡ suc (length pre) = ap (λ (f : Followed). f.carried) h in omega (arith, n))
 
-pub went_so : (n : ℕ) (old new : PlainSession) → repeated Back n old ≡ Some new → WentSo n old new
-went_so zero old new h =
-    let same : old ≡ new = cc in
-    subst (λ (p : PlainSession). WentSo 0 old p) same (record { whole = refl; count = refl; last = refl; same_width = refl; same_tape = refl })
-went_so (suc n) old new h =
-    option_and_then_some (λ (m : PlainSession). accepted_by (answer Back m)) (repeated Back n old) new h
-    (λ m there next.
-    let at = Back_done m new (accepted_done (answer Back m) new next) in
-    one_more_back n old m new (went_so n old m there) at.0 at.1 at.2 at.3)
+-- ---- a leg to a call
+
+-- what one step carried came from there
+carried_once : (o : Origin) (q : Place) → (going_back o (λ r. record { carried = 0; origin = Carried r })).origin ≡ Carried q → o ≡ Carried q
+carried_once (Carried r) q e = e
+carried_once (Read n) q e = e
+carried_once Made q e = e
+
+-- after steps that pass nothing on comes one that does
+one_call : (environment : Environment) (pre post : List State) (s : State) (k : ℕ) (from place here there : Place) → (followed environment pre place).origin ≡ Carried here → IsUnpassed environment pre place →
+    (followed environment (pre ++ s ∷ []) place).origin ≡ Carried there → IsPassed s here there →
+    passings environment (pre ++ s ∷ post) k from place ≡ record { state = s; steps = k + length pre + 1; from = from } ∷ passings environment post (k + length pre + 1) there there
+one_call environment pre post s k from place here there e unpassed all passed =
+    let once : (followed environment (s ∷ []) here).origin ≡ Carried there = ap (λ (f : Followed). f.origin) (sym (followed_on environment pre (s ∷ []) place here e)) ∙ all in
+    let step : origin environment s here ≡ Carried there = carried_once (origin environment s here) there once in
+    let steps = k + length pre + 1 in
+    quiet environment pre (s ∷ post) k from place here e unpassed
+    ∙ ap (λ o. passed_by s steps from here o (λ next r. passings environment post steps next r)) step
+    ∙ cond-true (is_passed s here there) (record { state = s; steps = steps; from = from } ∷ passings environment post steps there there) (passings environment post steps from there) passed
+
+-- ---- from where a call passed it on
+
+-- what stands in no form and in no block was passed on, where a call took it out of a form
+taken_out : (s : State) (here : Place) (name : List ℕ) (i : ℕ) → is_in_storage here ≡ false → IsPassed s here (InForm name i)
+taken_out s (InForm other k) name i aside = absurd (true≢false aside)
+taken_out s (InHeld number other k) name i aside = refl
+taken_out s here name i aside = ap not aside
+
+-- the last of so many steps passed on what it had from this place, from where it is followed further
+pub record HadFrom (cur next : PlainSession) (here : Place) (steps : ℕ) (s : State) (from : onwards.Onward) (q : Place) : Type 0 where
+  pub leads : LeadsTo s from q
+  pub origin : IsOrigin cur here steps steps (Carried q)
+  pub long : LeadsToLong s from → IsLong q
+  pub passed : WasPassed cur here steps next q
+
+module _ (cur next : PlainSession) (here : Place) (most steps : ℕ) (s : State) (is : s ≡ next.last) where
+  -- there is such a place, and no other
+  pub had_somewhere : (from : onwards.Onward) → IsSource cur here most next steps (source_of from) →
+      (q : Place) × HadFrom cur next here steps s from q × ((p : Place) → LeadsTo s from p → p ≡ q)
+  had_somewhere (onwards.TheVariants.At p) told = (
+    place_of p,
+    record { leads = refl; origin = told.0; long = λ long. long; passed = (told.1.0, (told.1.1.0, told.1.1.1, told.1.1.2, told.1.1.3)) },
+    λ q leads. leads,
+  )
+  had_somewhere (onwards.TheVariants.OfForm i) told =
+      let call : Call = told.0.0 in
+      let asked : scan s ≡ Calls call = ap scan is ∙ told.0.1 in (
+        InForm (argument 1 call.arguments) i,
+        record {
+          leads = λ other asked_too.
+              let both : Calls call ≡ Calls other = sym asked ∙ asked_too in
+              let same : call ≡ other = cc in
+              ap (λ (c : Call). InForm (argument 1 c.arguments) i) same;
+          origin = told.0.2;
+          long = λ long. long call asked;
+          passed = (told.1.0, (told.1.1.0, told.1.1.1, told.1.1.2, taken_out next.last told.1.1.0 (argument 1 call.arguments) i told.1.1.3));
+        },
+        λ q leads. leads call asked,
+      )
+
+  pub had_from : (from : onwards.Onward) (q : Place) → IsSource cur here most next steps (source_of from) → LeadsTo s from q → HadFrom cur next here steps s from q
+  had_from from q told leads =
+      let had = had_somewhere from told in
+      subst (λ p. HadFrom cur next here steps s from p) (sym (had.2 q leads)) had.1
+
+-- no step before the last one passed it on
+quiet_before : (steps : ℕ) (from : onwards.Onward) → quiet_steps steps (source_of from) ≡ steps - 1
+quiet_before steps (onwards.TheVariants.At p) = refl
+quiet_before steps (onwards.TheVariants.OfForm i) = refl
 
 -- ---- the calls of a leg
 
--- what is in no form and no block is in no form
-in_neither : (p : Place) → is_in_storage p ≡ false → is_in_form p ≡ false
-in_neither (InHeld number name i) e = refl
-in_neither p e = e
-
 module _ (cur next : PlainSession) (here : Place) (most : ℕ) (found : Found) (h : repeated Back found.steps cur ≡ Some next) (leg : IsFollowed cur here most next found) where
-  environment : Environment
+  abbrev environment : Environment
   environment = over cur.width cur.tape
-
-  went : WentSo found.steps cur next
-  went = went_so found.steps cur next h
 
   -- the last step of the leg is from the state to which it leads
   split : (before : ℕ) → found.steps ≡ suc before → take found.steps cur.earlier ≡ take before cur.earlier ++ next.last ∷ []
-  split before is =
-      let there : WentSo (suc before) cur next = subst (λ n. WentSo n cur next) is went in
-      ap (λ n. take n cur.earlier) is
-      ∙ last_of_all cur.earlier before cur.last there.count
-      ∙ ap (λ (s : State). take before cur.earlier ++ s ∷ []) there.last
+  split before is = ap (λ n. take n cur.earlier) is ∙ last_of_all before cur next (subst (λ n. repeated Back n cur ≡ Some next) is h)
 
   count : (before : ℕ) → found.steps ≡ suc before → length (take before cur.earlier) ≡ before
   count before is =
-      let all : length (take before cur.earlier ++ next.last ∷ []) ≡ found.steps = ap (λ (states : List State). length states) (sym (split before is)) ∙ went.count in
+      let all : length (take before cur.earlier ++ next.last ∷ []) ≡ found.steps =
+      ap (λ (states : List State). length states) (sym (split before is)) ∙ (went_so found.steps cur next h).count in
       omega (arith, all, is, length-append (take before cur.earlier) (next.last ∷ []))
-
-  by_call : (k before : ℕ) (there q : Place) (post : List State) → found.steps ≡ suc before → IsOrigin cur here before before (Carried there) → IsOrigin cur here found.steps found.steps (Carried q) →
-      IsPassed next.last there q → IsUnpassed environment (take (found.steps - 1) cur.earlier) here →
-      passings environment (take found.steps cur.earlier ++ post) k here here ≡ record { state = next.last; steps = k + found.steps; from = here } ∷ passings environment post (k + found.steps) q q
-  unfolding environment
-  by_call k before there q post is first all passed unpassed =
-      let pre = take before cur.earlier in
-      let steps : k + length pre + 1 ≡ k + found.steps = omega (arith, is, count before is) in
-      ap (λ (states : List State). passings environment (states ++ post) k here here) (split before is)
-      ∙ ap (λ (states : List State). passings environment states k here here) (append_assoc pre (next.last ∷ []) post)
-      ∙ one_call environment pre post next.last k here here there q (ap (λ (f : Followed). f.origin) first)
-      (subst (λ n. IsUnpassed environment (take n cur.earlier) here) (omega (arith, is)) unpassed)
-      (ap (λ (states : List State). (followed environment states here).origin) (sym (split before is)) ∙ ap (λ (f : Followed). f.origin) all) passed
-      ∙ ap (λ n. record { state = next.last; steps = n; from = here } ∷ passings environment post n q q) steps
 
   -- one call, from where the byte is followed further
   pub call_of_leg : (s : State) (from : onwards.Onward) (q : Place) → s ≡ next.last → found.source ≡ source_of from → LeadsTo s from q → (k : ℕ) (post : List State) →
-      passings (over cur.width cur.tape) (take found.steps cur.earlier ++ post) k here here
-      ≡ record { state = next.last; steps = k + found.steps; from = here } ∷ passings (over cur.width cur.tape) post (k + found.steps) q q
-  unfolding environment
-  call_of_leg s from q is passed leads k post =
-      go from leads (subst (λ source. IsSource cur here most next found.steps source) passed leg.source)
-      (subst (λ source. IsUnpassed environment (take (quiet_steps found.steps source) cur.earlier) here) passed leg.unpassed)
-    where
-      go : (o : onwards.Onward) → LeadsTo s o q → IsSource cur here most next found.steps (source_of o) → IsUnpassed environment (take (quiet_steps found.steps (source_of o)) cur.earlier) here →
-          passings environment (take found.steps cur.earlier ++ post) k here here ≡ record { state = next.last; steps = k + found.steps; from = here } ∷ passings environment post (k + found.steps) q q
-      go (onwards.TheVariants.At there) at told unpassed =
-          subst (λ p. passings environment (take found.steps cur.earlier ++ post) k here here ≡ record { state = next.last; steps = k + found.steps; from = here } ∷ passings environment post (k + found.steps) p p)
-          (sym at)
-          (by_call k told.1.0 told.1.1.0 (place_of there) post (omega (arith, told.1.1.1)) told.1.1.2 told.0 told.1.1.3 unpassed)
-      go (onwards.TheVariants.OfForm i) at told unpassed =
-          let item = InForm (argument 1 told.0.0.arguments) i in
-          subst (λ p. passings environment (take found.steps cur.earlier ++ post) k here here ≡ record { state = next.last; steps = k + found.steps; from = here } ∷ passings environment post (k + found.steps) p p)
-          (sym (at told.0.0 (ap scan is ∙ told.0.1)))
-          (by_call k told.1.0 told.1.1.0 item post (omega (arith, told.1.1.1)) told.1.1.2 told.0.2 (ap not (in_neither told.1.1.0 told.1.1.3)) unpassed)
+      passings environment (take found.steps cur.earlier ++ post) k here here
+      ≡ record { state = next.last; steps = k + found.steps; from = here } ∷ passings environment post (k + found.steps) q q
+  call_of_leg s from q is source leads k post =
+      let had = had_from cur next here most found.steps s is from q (subst (λ source. IsSource cur here most next found.steps source) source leg.source) leads in
+      let before : ℕ = had.passed.0 in
+      let there : Place = had.passed.1.0 in
+      let last : found.steps ≡ suc before = omega (arith, had.passed.1.1) in
+      let pre = take before cur.earlier in
+      let steps : k + length pre + 1 ≡ k + found.steps = omega (arith, last, count before last) in
+      let unpassed : quiet_steps found.steps found.source ≡ before = ap (quiet_steps found.steps) source ∙ quiet_before found.steps from ∙ omega (arith, last) in
+      ap (λ (states : List State). passings environment (states ++ post) k here here) (split before last)
+      ∙ ap (λ (states : List State). passings environment states k here here) (append_assoc pre (next.last ∷ []) post)
+      ∙ one_call environment pre post next.last k here here there q (ap (λ (f : Followed). f.origin) had.passed.1.2)
+      (subst (λ n. IsUnpassed environment (take n cur.earlier) here) unpassed leg.unpassed)
+      (ap (λ (states : List State). (followed environment states here).origin) (sym (split before last)) ∙ ap (λ (f : Followed). f.origin) had.origin) had.passed.1.3
+      ∙ ap (λ n. record { state = next.last; steps = n; from = here } ∷ passings environment post n q q) steps
 
-  from_there : (k so : ℕ) (o : Origin) → 0 < found.steps → so ≡ found.steps - 1 → IsOrigin cur here found.steps so o → IsUnpassed environment (take (found.steps - 1) cur.earlier) here →
+  from_there : (k : ℕ) (o : Origin) → 0 < found.steps → IsOrigin cur here found.steps (found.steps - 1) o → IsUnpassed environment (take (found.steps - 1) cur.earlier) here →
       passings environment (take found.steps cur.earlier) k here here ≡ []
-  unfolding environment
-  from_there k so o some is told unpassed =
+  from_there k o some told unpassed =
       let before = found.steps - 1 in
       let one : found.steps ≡ suc before = omega (arith, some) in
       ap (λ (states : List State). passings environment states k here here) (split before one)
       ∙ silent environment (take before cur.earlier) next.last k here here o
-      (ap (λ (states : List State). followed environment states here) (sym (split before one)) ∙ told ∙ ap (λ n. record { carried = n; origin = o }) (is ∙ sym (count before one))) unpassed
+      (ap (λ (states : List State). followed environment states here) (sym (split before one)) ∙ told ∙ ap (λ n. record { carried = n; origin = o }) (sym (count before one))) unpassed
 
   -- none where it is followed no further
-  pub no_call_of_leg : (end : ends.End) → EndsAs found.source end → (k : ℕ) → passings (over cur.width cur.tape) (take found.steps cur.earlier) k here here ≡ []
-  unfolding environment
+  pub no_call_of_leg : (end : ends.End) → EndsAs found.source end → (k : ℕ) → passings environment (take found.steps cur.earlier) k here here ≡ []
   no_call_of_leg end ends_as k = go found.source ends_as leg.source leg.unpassed
     where
       go : (source : code.Source) → EndsAs source end → IsSource cur here most next found.steps source → IsUnpassed environment (take (quiet_steps found.steps source) cur.earlier) here →
@@ -148,6 +186,13 @@ module _ (cur next : PlainSession) (here : Place) (most : ℕ) (found : Found) (
       go (code.TheVariants.Here q) e told unpassed =
           ap (λ (states : List State). passings environment states k here here) (sym (append-nil (take found.steps cur.earlier)))
           ∙ quiet environment (take found.steps cur.earlier) [] k here here (place_of q) (ap (λ (f : Followed). f.origin) told.0) unpassed
-      go (code.TheVariants.Read n) e told unpassed = from_there k (found.steps - 1) (Read n) told.0 refl told.1 unpassed
-      go code.TheVariants.Made e told unpassed = from_there k (found.steps - 1) Made told.0 refl told.1 unpassed
+      go (code.TheVariants.Read n) e told unpassed = from_there k (Read n) told.0 told.1 unpassed
+      go code.TheVariants.Made e told unpassed = from_there k Made told.0 told.1 unpassed
       go other e told unpassed = absurd e
+
+-- ---- a witness
+
+-- that was told of some calls is told of one more
+pub told_more : {W : Type 0} (passes : W → Passing → W → Type 0) (way : List Passing) (p : Passing) (old m new : W) → ToldAll passes old way m → passes m p new → ToldAll passes old (way ++ p ∷ []) new
+told_more passes [] p old m new told one = (new, subst (λ w. passes w p new) told one, refl)
+told_more passes (q ∷ way) p old m new told one = (told.0, told.1, told_more passes way p told.0 m new told.2 one)

@@ -1,6 +1,5 @@
 -- What stands in a text after a step stood there before it, or is past what was the current text.
-use Rattle.std.proofs.Common.{◌≡◌, ℕ, zero, suc, ◌+◌, ◌<◌, Bool, true, false, List, [], ◌∷◌, ◌++◌, length, drop, get_or, refl, sym, ap, ap₂, subst, ◌∙◌, inl, inr, ⊎_elim, arith}
-use Rattle.std.specs.Prelude.{◌⊎◌, Option, None, Some, ◌==◌, option_and_then}
+use Rattle.std.proofs.Common.{◌≡◌, ℕ, zero, suc, ◌+◌, ◌<◌, Bool, true, false, List, [], ◌∷◌, ◌++◌, length, take, drop, get_or, refl, sym, ap, ap₂, subst, ◌∙◌, inl, inr, ⊎_elim, arith, ◌⊎◌, Option, None, Some, ◌==◌, option_and_then}
 use Rattle.std.proofs.lemmas.Bool.{cases_Bool, cond-true, cond-false, eqb-true, ne_eqb}
 use Rattle.std.proofs.lemmas.List.{get_or_at}
 use Rattle.trac_rules.specs.declared.item.Item.{Item}
@@ -8,11 +7,13 @@ use Rattle.trac_rules.specs.declared.kind.Kind.{Kind}
 use Rattle.trac_rules.specs.declared.kind.Kind.TheVariants.{Active, Neutral}
 use Rattle.trac_rules.specs.declared.scan.Front.{Front}
 use Rattle.trac_rules.specs.declared.scan.Front.TheVariants.{Nothing, Opening, Layout, Comma, ActiveCall, NeutralCall, Sharp, Closing, Plain}
+use Rattle.trac_rules.specs.Bytes.{idle_program}
 use Rattle.trac_rules.specs.Effect.{Effect, argument}
 use Rattle.trac_rules.specs.Matching.{protected}
 use Rattle.trac_rules.specs.Performing.{after_call, changed_by, placed}
-use Rattle.trac_rules.specs.Scanning.{Call, Calls, Moves, begun, closing_in, comma_in, deleted, front_of, gathered_in, scan, scan_at}
+use Rattle.trac_rules.specs.Scanning.{Call, Scanned, Calls, Moves, begun, closing_in, comma_in, deleted, front_of, gathered_in, scan, scan_at}
 use Rattle.trac_rules.specs.State.{Frame, State}
+use Rattle.trac_rules.proofs.Scans.{ScanShows, scan_shows}
 use Rattle.trac_origins.specs.Lengths.{current_text, in_current, moves_bytes}
 use Rattle.trac_origins.specs.Places.{Place, InBase, InArgument, arguments_of, byte_at, found_at, numbered}
 use Rattle.trac_origins.proofs.ToldCalls.{ended}
@@ -115,97 +116,74 @@ begun_old kind u (InArgument n k i) item within e =
     (cases_Bool (n == length u.frames))
 begun_old kind u p item within e = absurd (cc)
 
--- the active text is no part of it
-other_active : (u : State) (text : List ℕ) (p : Place) (item : Item) → is_in_text p ≡ true → found_at (record u { active = text }) p ≡ Some item → found_at u p ≡ Some item
-other_active u text (InBase i) item within e = e
-other_active u text (InArgument n k i) item within e = e
-other_active u text p item within e = absurd (cc)
+-- between two states with the same texts
+pub current_alike : (fs : List Frame) (u v : State) → u.base ≡ v.base → current_text fs u ≡ current_text fs v
+current_alike [] u v base = base
+current_alike (f ∷ fs) u v base = refl
 
-still_new : (fs : List Frame) (u : State) (text : List ℕ) (p : Place) → IsNew fs (record u { active = text }) p → IsNew fs u p
-still_new [] u text p new = record { number = new.number; at = new.at }
-still_new (f ∷ fs) u text p new = record { number = new.number; at = new.at }
+new_alike : (fs : List Frame) (u v : State) (p : Place) → u.base ≡ v.base → IsNew fs u p → IsNew fs v p
+new_alike fs u v p base new = record { number = new.number; at = new.at ∙ ap (λ (text : List ℕ). in_current fs (length text + new.number)) (current_alike fs u v base) }
 
-pub at_front : (s : State) → scan s ≡ scan_at (front_of s.active) s
-unfolding scan
-at_front s = refl
+found_alike : (u v : State) (p : Place) (item : Item) → u.base ≡ v.base → u.frames ≡ v.frames → is_in_text p ≡ true → found_at u p ≡ Some item → found_at v p ≡ Some item
+found_alike u v (InBase i) item base frames within e = ap (byte_at i) (sym base) ∙ e
+found_alike u v (InArgument n k i) item base frames within e = ap (λ (gs : List Frame). look k i (numbered n gs)) (sym frames) ∙ e
+found_alike u v p item base frames within e = absurd (cc)
+
+-- ---- a rule that moves on, case by case
+
+-- a state to which a rule moves on is one of these, each with what the active text began with
+module _ (s : State) (Holds : Front → State → Type 0) (idle : Holds Nothing (record s { active = idle_program; base = []; frames = [] })) (less : (f : Front) → Holds f (deleted 1 s))
+    (gathers : (f : Front) → moves_bytes f ≡ true → (text left : List ℕ) → Holds f (gathered_in s.frames text (record s { active = left })))
+    (ends : Holds Comma (comma_in s.frames (deleted 1 s))) (begins : (f : Front) (kind : Kind) (n : ℕ) → Holds f (begun kind (deleted n s))) where
+  abbrev HoldsOf : Front → Scanned → Type 0
+  HoldsOf f (Moves u) = Holds f u
+  HoldsOf f (Calls call) = Unit {0}
+
+  closes : (fs : List Frame) → HoldsOf Closing (closing_in fs (deleted 1 s))
+  closes [] = less Closing
+  closes (f ∷ fs) = tt
+
+  each : (f : Front) → HoldsOf f (scan_at f s)
+  each Nothing = idle
+  each Opening = gathers Opening refl (protected (drop 1 s.active)).inner (protected (drop 1 s.active)).rest
+  each Layout = less Layout
+  each Comma = ends
+  each ActiveCall = begins ActiveCall Active 2
+  each NeutralCall = begins NeutralCall Neutral 3
+  each Sharp = gathers Sharp refl (take 1 s.active) (drop 1 s.active)
+  each Closing = closes s.frames
+  each Plain = gathers Plain refl (take 1 s.active) (drop 1 s.active)
+
+  pub moved_by : (t : State) → scan s ≡ Moves t → Holds (front_of s.active) t
+  unfolding scan
+  moved_by t is = subst (HoldsOf (front_of s.active)) is (each (front_of s.active))
+
+-- what stands then stood there, or was moved there
+abbrev IsMoved : State → Place → Item → Front → State → Type 0
+IsMoved s p item f u = found_at u p ≡ Some item → (found_at s p ≡ Some item) ⊎ ((moves_bytes f ≡ true) × IsNew s.frames s p)
 
 -- what is new was moved there
 pub moved_new : (s t : State) (p : Place) (item : Item) → scan s ≡ Moves t → is_in_text p ≡ true → found_at t p ≡ Some item →
     (found_at s p ≡ Some item) ⊎ ((moves_bytes (front_of s.active) ≡ true) × IsNew s.frames s p)
-moved_new s t p item is within e = go (front_of s.active) (sym (at_front s) ∙ is)
+moved_new s t p item is within =
+    moved_by s (IsMoved s p item) (idle p within) (λ f e. inl (found_alike (deleted 1 s) s p item refl refl within e))
+    (λ f moves text left e.
+    ⊎_elim
+    (λ (h : found_at (record s { active = left }) p ≡ Some item). inl (found_alike (record s { active = left }) s p item refl refl within h))
+    (λ (h : IsNew s.frames (record s { active = left }) p). inr (moves, new_alike s.frames (record s { active = left }) s p refl h))
+    (gathered_new s.frames text (record s { active = left }) p item refl within e))
+    (λ e. inl (found_alike (deleted 1 s) s p item refl refl within (comma_old s.frames (deleted 1 s) p item refl within e)))
+    (λ f kind n e. inl (found_alike (deleted n s) s p item refl refl within (begun_old kind (deleted n s) p item within e))) t is
   where
-    gathers : (f : Front) → moves_bytes f ≡ true → (text left : List ℕ) → Moves (gathered_in s.frames text (record s { active = left })) ≡ Moves t →
-        (found_at s p ≡ Some item) ⊎ ((moves_bytes f ≡ true) × IsNew s.frames s p)
-    gathers f moves text left same =
-        let after : t ≡ gathered_in s.frames text (record s { active = left }) = cc in
-        ⊎_elim
-        (λ (h : found_at (record s { active = left }) p ≡ Some item). inl (other_active s left p item within h))
-        (λ (h : IsNew s.frames (record s { active = left }) p). inr (moves, still_new s.frames s left p h))
-        (gathered_new s.frames text (record s { active = left }) p item refl within (subst (λ (u : State). found_at u p ≡ Some item) after e))
-
-    old : (u : State) (left : List ℕ) → Moves u ≡ Moves t → (found_at u p ≡ Some item → found_at (record s { active = left }) p ≡ Some item) → found_at s p ≡ Some item
-    old u left same back =
-        let after : t ≡ u = cc in
-        other_active s left p item within (back (subst (λ (v : State). found_at v p ≡ Some item) after e))
-
-    idle : (q : Place) → is_in_text q ≡ true → (u : State) → u.base ≡ [] → u.frames ≡ [] → found_at u q ≡ Some item → ⊥
-    idle (InBase i) within u base frames e = absurd (let none : None ≡ Some item = sym (ap (byte_at i) base) ∙ e in cc)
-    idle (InArgument n k i) within u base frames e = absurd (let none : None ≡ Some item = sym (ap (λ (gs : List Frame). look k i (numbered n gs)) frames) ∙ e in cc)
-    idle q within u base frames e = absurd (cc)
-
-    closes : (fs : List Frame) → closing_in fs (deleted 1 s) ≡ Moves t → found_at s p ≡ Some item
-    closes [] same = old (deleted 1 s) (drop 1 s.active) same (λ h. h)
-    closes (f ∷ fs) same = absurd (cc)
-
-    go : (f : Front) → scan_at f s ≡ Moves t → (found_at s p ≡ Some item) ⊎ ((moves_bytes f ≡ true) × IsNew s.frames s p)
-    go Nothing same = let after : t ≡ record s { active = t.active; base = []; frames = [] } = cc in absurd (idle p within t (ap (λ (u : State). u.base) after) (ap (λ (u : State). u.frames) after) e)
-    go Opening same = gathers Opening refl (protected (drop 1 s.active)).inner (protected (drop 1 s.active)).rest same
-    go Layout same = inl (old (deleted 1 s) (drop 1 s.active) same (λ h. h))
-    go Comma same = inl (old (comma_in s.frames (deleted 1 s)) (drop 1 s.active) same (comma_old s.frames (deleted 1 s) p item refl within))
-    go ActiveCall same = inl (old (begun Active (deleted 2 s)) (drop 2 s.active) same (begun_old Active (deleted 2 s) p item within))
-    go NeutralCall same = inl (old (begun Neutral (deleted 3 s)) (drop 3 s.active) same (begun_old Neutral (deleted 3 s) p item within))
-    go Sharp same = gathers Sharp refl _ (drop 1 s.active) same
-    go Closing same = inl (closes s.frames same)
-    go Plain same = gathers Plain refl _ (drop 1 s.active) same
+    idle : (q : Place) → is_in_text q ≡ true → IsMoved s q item Nothing (record s { active = idle_program; base = []; frames = [] })
+    idle (InBase i) within e = absurd (cc)
+    idle q within e = absurd (cc)
 
 -- the output stays
 pub moved_output : (s t : State) → scan s ≡ Moves t → t.output ≡ s.output
-moved_output s t is = go (front_of s.active) (sym (at_front s) ∙ is)
-  where
-    same_output : (u : State) → Moves u ≡ Moves t → u.output ≡ s.output → t.output ≡ s.output
-    same_output u same is = let after : t ≡ u = cc in ap (λ (v : State). v.output) after ∙ is
-
-    gathered : (fs : List Frame) (text : List ℕ) (u : State) → (gathered_in fs text u).output ≡ u.output
-    gathered [] text u = refl
-    gathered (f ∷ fs) text u = refl
-
-    comma : (fs : List Frame) (u : State) → (comma_in fs u).output ≡ u.output
-    comma [] u = refl
-    comma (f ∷ fs) u = refl
-
-    closes : (fs : List Frame) → closing_in fs (deleted 1 s) ≡ Moves t → t.output ≡ s.output
-    closes [] same = same_output (deleted 1 s) same refl
-    closes (f ∷ fs) same = absurd (cc)
-
-    go : (f : Front) → scan_at f s ≡ Moves t → t.output ≡ s.output
-    go Opening same = same_output _ same (gathered s.frames _ _)
-    go Comma same = same_output _ same (comma s.frames (deleted 1 s))
-    go Sharp same = same_output _ same (gathered s.frames _ _)
-    go Closing same = closes s.frames same
-    go Plain same = same_output _ same (gathered s.frames _ _)
-    go front same = same_output _ same refl
+moved_output s t is = subst (ScanShows (λ (u : State). u.output) s) is (scan_shows (λ (u : State). u.output) (λ u active base frames. refl) s)
 
 -- ---- a call
-
--- what a call changes beside the texts is no part of them
-other_parts : (e : Effect) (v : State) (p : Place) (item : Item) → is_in_text p ≡ true → found_at (changed_by e v) p ≡ Some item → found_at v p ≡ Some item
-other_parts e v (InBase i) item within h = h
-other_parts e v (InArgument n k i) item within h = h
-other_parts e v p item within h = absurd (cc)
-
-new_so : (fs : List Frame) (e : Effect) (v : State) (p : Place) → IsNew fs (changed_by e v) p → IsNew fs v p
-new_so [] e v p new = record { number = new.number; at = new.at }
-new_so (f ∷ fs) e v p new = record { number = new.number; at = new.at }
 
 pub called_new : (call : Call) (e : Effect) (p : Place) (item : Item) → is_in_text p ≡ true → found_at (after_call call e) p ≡ Some item →
     (found_at call.state p ≡ Some item) ⊎ IsNew call.state.frames call.state p
@@ -215,13 +193,25 @@ called_new call e p item within h = go call.kind e.forced h
     u = changed_by e call.state
 
     go : (kind : Kind) (forced : Bool) → found_at (placed kind forced e.value u) p ≡ Some item → (found_at call.state p ≡ Some item) ⊎ IsNew call.state.frames call.state p
-    go Active forced there = inl (other_parts e call.state p item within (other_active u _ p item within there))
-    go Neutral true there = inl (other_parts e call.state p item within (other_active u _ p item within there))
     go Neutral false there =
         ⊎_elim
-        (λ (old : found_at u p ≡ Some item). inl (other_parts e call.state p item within old))
-        (λ (new : IsNew u.frames u p). inr (new_so call.state.frames e call.state p new))
+        (λ (old : found_at u p ≡ Some item). inl (found_alike u call.state p item refl refl within old))
+        (λ (new : IsNew u.frames u p). inr (new_alike call.state.frames u call.state p refl new))
         (gathered_new u.frames e.value u p item refl within there)
+    go kind forced there = inl (found_alike (record u { active = e.value ++ u.active }) call.state p item refl refl within there)
+
+-- the function that is called is the innermost
+pub called_first : (s : State) (call : Call) → scan s ≡ Calls call → (f : Frame) × (s.frames ≡ f ∷ call.state.frames)
+called_first s call is =
+    let at = ended s call is in
+    (at.0, at.2.frames ∙ ap (λ (u : State). at.0 ∷ u.frames) (sym at.2.state))
+
+-- and what is in an argument of another is the same without it
+pub look_around : (s : State) (call : Call) → scan s ≡ Calls call → (n k i : ℕ) → n < length call.state.frames → look k i (numbered n s.frames) ≡ look k i (numbered n call.state.frames)
+look_around s call is n k i outside =
+    let first = called_first s call is in
+    ap (λ (fs : List Frame). look k i (numbered n fs)) first.1
+    ∙ look_rest first.0 call.state.frames n k i (ne_eqb n (length call.state.frames) (λ same. absurd (omega (arith, same, outside))))
 
 -- what stands without the function stands with it, around it
 pub around_it : (s : State) (call : Call) (p : Place) (item : Item) → scan s ≡ Calls call → is_in_text p ≡ true → found_at call.state p ≡ Some item →
@@ -229,17 +219,8 @@ pub around_it : (s : State) (call : Call) (p : Place) (item : Item) → scan s �
 around_it s call (InBase i) item is within e =
     (ap (λ (u : State). byte_at i u.base) (sym (ended s call is).2.state) ∙ e, tt)
 around_it s call (InArgument n k i) item is within e =
-    let at = ended s call is in
-    let f : Frame = at.0 in
-    let fs : List Frame = at.1 in
-    let left : call.state.frames ≡ fs = ap (λ (u : State). u.frames) at.2.state in
     let number : n < length call.state.frames = found_number (numbered n call.state.frames) refl e in
-    let less : n < length fs = omega (arith, number, ap (λ (gs : List Frame). length gs) left) in (
-      ap (λ (gs : List Frame). look k i (numbered n gs)) at.2.frames
-          ∙ look_rest f fs n k i (ne_eqb n (length fs) (λ same. absurd (omega (arith, same, less))))
-          ∙ ap (λ (gs : List Frame). look k i (numbered n gs)) (sym left) ∙ e,
-      number,
-    )
+    (look_around s call is n k i number ∙ e, number)
   where
     found_number : (found : Option Frame) → numbered n call.state.frames ≡ found → look k i found ≡ Some item → n < length call.state.frames
     found_number None is e = absurd (cc)

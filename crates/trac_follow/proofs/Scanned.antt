@@ -1,6 +1,5 @@
 -- Origins of what stands after a rule of scanning that moves on, as the code tells them.
-use Rattle.std.proofs.Common.{◌≡◌, ℕ, ◌+◌, ◌-◌, ◌<◌, ◌≤◌, Bool, true, false, cond, List, [], ◌∷◌, length, drop, refl, sym, ap, subst, ◌∙◌, inl, ⊎_elim, arith}
-use Rattle.std.specs.Prelude.{◌⊎◌, Ok, Some, ◌==◌, codes, nat_eq}
+use Rattle.std.proofs.Common.{◌≡◌, ℕ, ◌+◌, ◌-◌, ◌<◌, ◌≤◌, Bool, true, false, cond, List, [], ◌∷◌, length, drop, refl, sym, ap, subst, ◌∙◌, inl, ⊎_elim, arith, ◌⊎◌, Ok, Some, ◌==◌, codes, nat_eq}
 use Rattle.std.specs.List.{starts_with}
 use Rattle.std.proofs.lemmas.Bool.{cases_Bool}
 use Rattle.std.proofs.lemmas.Bool.Decides.{nat_tests}
@@ -69,13 +68,6 @@ stays_carried environment s t place x item is outside before after =
     stored (InActive i) outside e = absurd (cc)
     stored p outside e = refl
 
-pub gathered_carried : (environment : Environment) (s t : State) (place : Place) (n : ℕ) (item : Item) → scan s ≡ Moves t → moves_bytes (front_of s.active) ≡ true →
-    place ≡ in_current s.frames (length (current_text s.frames s) + n) → found_at t place ≡ Some item → origin environment s place ≡ Carried (InActive (first_moved (front_of s.active) + n))
-gathered_carried environment s t place n item is moving at e =
-    ap (origin environment s) at
-    ∙ scanning_moved environment s t n is moving
-    (scanning_within s t (length (current_text s.frames s) + n) item is moving (subst (λ p. found_at t p ≡ Some item) at e))
-
 -- ---- tests for emptiness
 
 pub none_by_test : (text : List ℕ) (empty : Bool) → empty ≡ (length text == 0) → empty ≡ true → text ≡ []
@@ -87,15 +79,14 @@ some_by_test text empty is e = grind (arith, nat_tests)
 
 -- ---- what is new in the current text
 
-pub gathered_by : (environment : Environment) (s t : State) (place : Place) (n first depth : ℕ) (active : List ℕ) (item : Item) → scan s ≡ Moves t → active ≡ s.active →
-    (moves_bytes (front_of active) ≡ true) × (first ≡ first_moved (front_of active)) → depth ≡ length s.frames →
-    place ≡ in_current (drop (length s.frames - depth) s.frames) (length (current_text (drop (length s.frames - depth) s.frames) s) + n) →
+pub gathered_by : (environment : Environment) (s t : State) (place : Place) (n first : ℕ) (active : List ℕ) (item : Item) → scan s ≡ Moves t → active ≡ s.active →
+    (moves_bytes (front_of active) ≡ true) × (first ≡ first_moved (front_of active)) → place ≡ in_current s.frames (length (current_text s.frames s) + n) →
     found_at t place ≡ Some item → origin environment s place ≡ Carried (InActive (first + n))
-gathered_by environment s t place n first depth active item is same moves all at stands =
-    let none : length s.frames - depth ≡ 0 = omega (arith, all) in
-    let here : place ≡ in_current s.frames (length (current_text s.frames s) + n) =
-    at ∙ ap (λ k. in_current (drop k s.frames) (length (current_text (drop k s.frames) s) + n)) none in
-    gathered_carried environment s t place n item is (ap (λ (text : List ℕ). moves_bytes (front_of text)) (sym same) ∙ moves.0) here stands
+gathered_by environment s t place n first active item is same moves at stands =
+    let moving : moves_bytes (front_of s.active) ≡ true = ap (λ (text : List ℕ). moves_bytes (front_of text)) (sym same) ∙ moves.0 in
+    ap (origin environment s) at
+    ∙ scanning_moved environment s t n is moving
+    (scanning_within s t (length (current_text s.frames s) + n) item is moving (subst (λ p. found_at t p ≡ Some item) at stands))
     ∙ ap (λ k. Carried (InActive (k + n))) (sym (moves.1 ∙ ap (λ (text : List ℕ). first_moved (front_of text)) same))
 
 -- ---- what stands then
@@ -138,12 +129,11 @@ new_moved environment s t p item h is outside bare stands =
 -- as far past the current text as the code finds it
 pub new_so_far : (s : State) (p : Place) (depth n : ℕ) → depth ≡ length s.frames → IsNew s.frames s p →
     ((m : ℕ) → p ≡ in_current (drop (length s.frames - depth) s.frames) (length (current_text (drop (length s.frames - depth) s.frames) s) + m) → n ≡ m) →
-    p ≡ in_current (drop (length s.frames - depth) s.frames) (length (current_text (drop (length s.frames - depth) s.frames) s) + n)
+    p ≡ in_current s.frames (length (current_text s.frames s) + n)
 new_so_far s p depth n all new far =
     let none : 0 ≡ length s.frames - depth = omega (arith, all) in
-    let at : p ≡ in_current (drop (length s.frames - depth) s.frames) (length (current_text (drop (length s.frames - depth) s.frames) s) + new.number) =
-    new.at ∙ ap (λ k. in_current (drop k s.frames) (length (current_text (drop k s.frames) s) + new.number)) none in
-    at ∙ ap (λ m. in_current (drop (length s.frames - depth) s.frames) (length (current_text (drop (length s.frames - depth) s.frames) s) + m)) (sym (far new.number at))
+    let at = new.at ∙ ap (λ k. in_current (drop k s.frames) (length (current_text (drop k s.frames) s) + new.number)) none in
+    new.at ∙ ap (λ m. in_current s.frames (length (current_text s.frames s) + m)) (sym (far new.number at))
 
 -- and what stood in the active text is within it
 pub carried_within : (environment : Environment) (s t : State) (p : Place) (n : ℕ) (item : Item) → step environment s ≡ Ok t → found_at t p ≡ Some item → origin environment s p ≡ Carried (InActive n) →

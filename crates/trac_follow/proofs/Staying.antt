@@ -1,21 +1,20 @@
 -- What a step leaves as it is, and where what stands after a run of bytes stood before it, as the code tells them.
-use Rattle.std.proofs.Common.{◌≡◌, ◌⊎◌, ℕ, ◌+◌, ◌-◌, ◌<◌, ◌≤◌, Bool, true, false, List, length, take, drop, inl, inr, refl, sym, ap, subst, ◌∙◌, ⊎_elim, arith}
-use Rattle.std.specs.Prelude.{Option, None, Some, SomeIff, Ok, slice_get}
+use Rattle.std.proofs.Common.{◌≡◌, ℕ, ◌+◌, ◌-◌, ◌<◌, ◌≤◌, eqb, Bool, true, false, List, length, take, drop, refl, sym, ap, subst, ◌∙◌, ⊎_elim, arith, Option, None, Some, SomeIff, Ok, slice_get}
 use Rattle.std.specs.FinMap as finite
 use Rattle.std.specs.List.{concat}
+use Rattle.std.proofs.lemmas.Bool.Decides.{nat_tests}
 use Rattle.trac_rules.specs.declared.item.Item.{Item}
 use Rattle.trac_rules.specs.declared.kind.Kind.{Kind}
 use Rattle.trac_rules.specs.Effect.{argument}
 use Rattle.trac_rules.specs.Form.{extent}
-use Rattle.trac_rules.specs.Goals.{IsCall, call_asked, next_call}
-use Rattle.trac_rules.specs.Limits.{argument_bytes, texts_fit}
+use Rattle.trac_rules.specs.Goals.{IsCall, next_call}
+use Rattle.trac_rules.specs.Limits.{argument_bytes}
 use Rattle.trac_rules.specs.Performing.{after_call, primitive_of}
 use Rattle.trac_rules.specs.Pieces.{is_gap}
 use Rattle.trac_rules.specs.PlainRuns.{moved_on}
-use Rattle.trac_rules.specs.Scanning.{Call, Scanned, Moves, Calls, deleted, front_of, scan}
+use Rattle.trac_rules.specs.Scanning.{Call, Moves, Calls, deleted, front_of, scan}
 use Rattle.trac_rules.specs.State.{Environment, Forms, Frame, State}
-use Rattle.trac_rules.specs.Stepping.{carried_out, step}
-use Rattle.trac_rules.proofs.Outcomes.{limited_Ok}
+use Rattle.trac_rules.specs.Stepping.{step}
 use Rattle.trac_rules.proofs.Scans.{gathered_in_shows}
 use Rattle.trac_origins.specs.Lengths.{before_moved, in_active, is_of_text, is_outside, may_put, moves_bytes, past_in}
 use Rattle.trac_origins.specs.Places.{Place, InActive, InBase, InArgument, InForm, InHeld, InOutput, Carried, found_at, items_of}
@@ -23,28 +22,19 @@ use Rattle.trac_origins.specs.Stepping.{origin}
 use Rattle.trac_origins.proofs.Moved.{past_place, stood}
 use Rattle.trac_origins.proofs.Told.{byte_within}
 use Rattle.trac_origins.proofs.ToldCalls.{ended}
-use Rattle.trac_origins.proofs.Unchanged.{Unchanged, calls_held, calls_unchanged, moves_held, moves_unchanged}
+use Rattle.trac_origins.proofs.Unchanged.{Unchanged, calls_held, calls_unchanged, moves_held}
 use Rattle.trac_text.proofs.NeutralAgain.{function_bytes}
 use Rattle.trac_follow.specs.Items.{IsMeasured}
 use Rattle.trac_follow.specs.Offsets.{IsPlaced, bytes_left, left_by, neutral_bytes, offset}
-use Rattle.trac_follow.specs.Places.{IsCalling, IsPassed, is_in_text}
+use Rattle.trac_follow.specs.Places.{IsCalling, IsOutside, IsPassed, calls, is_in_text}
 use Rattle.trac_follow.specs.Running.{CameFrom, StaysAt}
-use Rattle.trac_follow.proofs.CallsTold.{active_kept, given_call, has_done, moves_done, output_carried, rest_carried, text_carried}
+use Rattle.trac_follow.proofs.CallsTold.{active_kept, call_does, functions_left, given_call, output_carried, rest_carried, step_scans, text_carried}
 use Rattle.trac_follow.proofs.Found.{byte_there}
 use Rattle.trac_follow.proofs.Offsets.{around_offset, called_offset, moved_offset, new_past, offset_before, stands_within}
 use Rattle.trac_follow.proofs.Renewed.{IsNew, around_it, called_new, moved_new}
 use Rattle.trac_follow.proofs.Scanned.{left_carried, left_less, stays_carried}
-use Rattle.trac_follow.proofs.Unpassed.{stays_calling, stays_moving}
 
 -- ---- what stays
-
-step_scans : (environment : Environment) (s t : State) → step environment s ≡ Ok t → (scan s ≡ Moves t) ⊎ ((call : Call) × (scan s ≡ Calls call))
-unfolding step
-step_scans environment s t h = go (scan s) refl (limited_Ok texts_fit (carried_out environment (scan s)) t h).0
-  where
-    go : (x : Scanned) → scan s ≡ x → carried_out environment x ≡ Ok t → (scan s ≡ Moves t) ⊎ ((call : Call) × (scan s ≡ Calls call))
-    go (Moves u) is out = let same : u ≡ t = cc in inl (is ∙ ap Moves same)
-    go (Calls call) is out = inr (call, is)
 
 -- what is known of a place that is in no text
 pub aside : (bytes : ℕ) (gap : Bool) (s : State) (p : Place) → is_in_text p ≡ false → IsMeasured bytes gap s p → IsPlaced bytes gap s p
@@ -67,9 +57,11 @@ measured_alike : (bytes : ℕ) (gap : Bool) (s t : State) (name : List ℕ) (i :
 measured_alike bytes gap s t name i same measured =
     subst (λ (items : List Item). (item : Item) → slice_get items i ≡ Some item → (bytes ≡ extent (take i items)) × (gap ≡ is_gap item)) same measured
 
-pub form_stays_moving : (s : State) (name : List ℕ) → next_call s ≡ None → (bytes i : ℕ) (gap : Bool) → StaysAt s bytes gap (InForm name i)
-form_stays_moving s name none bytes i gap environment t item h stands placed =
-    let same = moves_unchanged environment s t name i item h (moves_done environment s t none h) stands in
+pub form_stays : (s : State) (name : List ℕ) →
+    ((i : ℕ) (environment : Environment) (t : State) (item : Item) → step environment s ≡ Ok t → found_at t (InForm name i) ≡ Some item → Unchanged environment s t name i) →
+    (bytes i : ℕ) (gap : Bool) → StaysAt s bytes gap (InForm name i)
+form_stays s name unchanged bytes i gap environment t item h stands placed =
+    let same = unchanged i environment t item h stands in
     (same.carried, aside bytes gap s (InForm name i) refl (measured_alike bytes gap s t name i same.items placed.measured), λ passed. absurd (cc))
 
 pub form_unchanged : (s : State) (name : List ℕ) (arguments : List (List ℕ)) → IsCalling s arguments →
@@ -78,12 +70,6 @@ pub form_unchanged : (s : State) (name : List ℕ) (arguments : List (List ℕ))
 form_unchanged s name arguments is other i environment t item h stands =
     calls_unchanged environment s t is.0 name i item h is.1
     (ap (λ (texts : List (List ℕ)). may_put (primitive_of (argument 0 texts)) (argument 1 texts) name) is.2 ∙ other) stands
-
-pub form_stays_calling : (s : State) (name : List ℕ) (kind : Kind) (arguments : List (List ℕ)) → IsCall (next_call s) kind arguments →
-    may_put (primitive_of (argument 0 arguments)) (argument 1 arguments) name ≡ false → (bytes i : ℕ) (gap : Bool) → StaysAt s bytes gap (InForm name i)
-form_stays_calling s name kind arguments is other bytes i gap environment t item h stands placed =
-    let same = form_unchanged s name arguments (given_call s kind arguments is) other i environment t item h stands in
-    (same.carried, aside bytes gap s (InForm name i) refl (measured_alike bytes gap s t name i same.items placed.measured), λ passed. absurd (cc))
 
 pub held_carried : (s : State) (number : ℕ) (name : List ℕ) (i : ℕ) → number < length s.blocks →
     (environment : Environment) (t : State) (item : Item) → step environment s ≡ Ok t → found_at t (InHeld number name i) ≡ Some item →
@@ -99,6 +85,18 @@ held_stays s bytes gap number name i within environment t item h stands placed =
     (held_carried s number name i within environment t item h stands, aside bytes gap s (InHeld number name i) refl tt, λ passed. absurd (cc))
 
 -- ---- in the neutral text
+
+-- what stays is passed on by no step
+pub stays_moving : (s t : State) (p : Place) → scan s ≡ Moves t → IsPassed s p p → ⊥
+stays_moving s t (InArgument n k i) is passed = absurd (let unset : false ≡ true = ap (calls n (length s.frames)) (sym is) ∙ passed in cc)
+stays_moving s t p is passed = absurd (cc)
+
+stays_calling : (s : State) (call : Call) (p : Place) → scan s ≡ Calls call → IsOutside (length call.state.frames) p → IsPassed s p p → ⊥
+stays_calling s call (InArgument n k i) is outside passed =
+    let e : eqb (n + 1) (length s.frames) ≡ true = ap (calls n (length s.frames)) (sym is) ∙ passed in
+    let last : n + 1 ≡ length s.frames = grind (arith, nat_tests, e) in
+    omega (arith, functions_left s call is, outside, last)
+stays_calling s call p is outside passed = absurd (cc)
 
 of_text : (p : Place) → is_in_text p ≡ true → (is_outside p ≡ true) × (is_of_text p ≡ true)
 of_text (InBase i) text = (refl, refl)
@@ -127,9 +125,9 @@ module _ (environment : Environment) (s t : State) (bytes : ℕ) (p : Place) (it
   -- by a call
   calling : (call : Call) → scan s ≡ Calls call → (origin environment s p ≡ Carried p) × (bytes ≡ offset s p) × (IsPassed s p p → ⊥)
   calling call calls =
-      let done = has_done environment s t call h calls in
-      let after : found_at (after_call call done.effect) p ≡ Some item = subst (λ (u : State). found_at u p ≡ Some item) done.after stands in
-      let there : bytes ≡ offset call.state p = at ∙ ap (λ (u : State). offset u p) done.after ∙ called_offset call done.effect p item text after in
+      let done = call_does environment s t call h calls (primitive_of (argument 0 call.arguments)) refl in
+      let after : found_at (after_call call done.0) p ≡ Some item = subst (λ (u : State). found_at u p ≡ Some item) done.2 stands in
+      let there : bytes ≡ offset call.state p = at ∙ ap (λ (u : State). offset u p) done.2 ∙ called_offset call done.0 p item text after in
       let within : bytes < neutral_bytes call.state = subst (λ x. bytes < left_by x s) calls less in
       ⊎_elim
       (λ (old : found_at call.state p ≡ Some item).
@@ -140,7 +138,7 @@ module _ (environment : Environment) (s t : State) (bytes : ℕ) (p : Place) (it
       ))
       (λ (new : IsNew call.state.frames call.state p).
       absurd (omega (arith, within, there, ap (offset call.state) new.at, new_past call.state.frames call.state new.number refl)))
-      (called_new call done.effect p item text after)
+      (called_new call done.0 p item text after)
 
 pub text_stays : (s : State) (bytes : ℕ) (gap : Bool) (p : Place) → is_in_text p ≡ true → bytes < bytes_left s → StaysAt s bytes gap p
 text_stays s bytes gap p text less environment t item h stands placed =
@@ -223,23 +221,21 @@ text_before n s p bytes gap item past text stands placed is = ap (λ q. in_activ
 
 -- a byte that is not new is as far from the end as it was
 pub active_came : (s : State) (left i j : ℕ) → j + left ≡ length s.active + i → 0 < j → CameFrom s left (InActive i) (InActive j)
-active_came s left i j index some = λ environment t item h is stands. (
-  go environment t item h is stands (scan s) refl,
+active_came s left i j index some environment t item h is stands = (
+  ⊎_elim
+      (λ (moves : scan s ≡ Moves t).
+      let more : 0 < length s.active = omega (arith, index, some, is, within) in
+      left_carried environment s t i item moves more stands
+      ∙ ap (λ n. Carried (InActive n)) (omega (arith, index, is, left_less environment s t i item h moves more stands)))
+      (λ (calls : (call : Call) × (scan s ≡ Calls call)).
+      let kept = active_kept environment s t calls.0 item h calls.1 environment.width refl in
+      rest_carried environment s t calls.0 item h calls.1 environment.width refl i (length t.active - (length s.active - 1)) refl kept (omega (arith, index, some, is, within, kept))
+      (omega (arith, index, some, is, within, kept))
+      ∙ ap (λ n. Carried (InActive n)) (omega (arith, index, some, is, within, kept)))
+      (step_scans environment s t h),
   λ bytes gap. aside bytes gap s (InActive j) refl tt,
   λ passed. absurd (cc),
 )
   where
-    go : (environment : Environment) (t : State) (item : Item) → step environment s ≡ Ok t → left ≡ length t.active → found_at t (InActive i) ≡ Some item → (x : Scanned) → scan s ≡ x →
-        origin environment s (InActive i) ≡ Carried (InActive j)
-    go environment t item h is stands (Moves u) e =
-        let moves = moves_done environment s t (ap call_asked e) h in
-        let within = byte_within i t.active item stands in
-        let more : 0 < length s.active = omega (arith, index, some, is, within) in
-        left_carried environment s t i item moves more stands
-        ∙ ap (λ n. Carried (InActive n)) (omega (arith, index, is, left_less environment s t i item h moves more stands))
-    go environment t item h is stands (Calls call) e =
-        let within = byte_within i t.active item stands in
-        let kept = active_kept environment s t call item h e environment.width refl in
-        let value = length t.active - (length s.active - 1) in
-        rest_carried environment s t call item h e environment.width refl i value refl kept (omega (arith, index, some, is, within, kept)) (omega (arith, index, some, is, within, kept))
-        ∙ ap (λ n. Carried (InActive n)) (omega (arith, index, some, is, within, kept))
+    within : i < length t.active
+    within = byte_within i t.active item stands

@@ -1,19 +1,13 @@
 -- A byte that is followed back leg by leg.
-use Rattle.std.proofs.Common.{◌≡◌, ℕ, ◌+◌, ◌-◌, ◌<◌, ◌≤◌, List, [], ◌∷◌, ◌++◌, length, take, refl, sym, ap, ap₂, subst, ◌∙◌, arith, inl, inr, ⊎_elim}
-use Rattle.std.specs.Prelude.{Some, false, not}
-use Rattle.std.proofs.lemmas.Bool.{true≢false}
-use Rattle.std.proofs.lemmas.List.{append-nil, append_assoc}
-use Rattle.std.proofs.Math.Seq.{take-append-add}
+use Rattle.std.proofs.Common.{◌≡◌, ℕ, ◌+◌, ◌-◌, ◌<◌, ◌≤◌, List, [], ◌∷◌, ◌++◌, length, take, refl, sym, ap, ap₂, subst, ◌∙◌, arith, inl, inr, ⊎_elim, Some, append-nil, append_assoc}
 use Rattle.trac_rules.specs.declared.width.Width.{Width}
-use Rattle.trac_rules.specs.Effect.{argument}
-use Rattle.trac_rules.specs.Scanning.{Call, Calls, scan}
 use Rattle.trac_rules.specs.Session.{PlainSession, Back, over, repeated}
-use Rattle.trac_rules.specs.State.{Environment, State}
-use Rattle.trac_rules.specs.Trails.{AreSteps, IsTrail}
+use Rattle.trac_rules.specs.State.{State}
+use Rattle.trac_rules.specs.Trails.{AreSteps}
 use Rattle.trac_rules.proofs.TakenAgain.{repeated_trail}
 use Rattle.trac_origins.specs.Accounts.{IsSource as IsOriginOf}
 use Rattle.trac_origins.specs.Following.{Followed, followed, state_back}
-use Rattle.trac_origins.specs.Places.{Place, InForm, InHeld, Origin, Carried, Read, Made, found_at}
+use Rattle.trac_origins.specs.Places.{Place, Origin, Carried, Read, Made, found_at}
 use Rattle.trac_origins.proofs.Accounted.{followed_back}
 use Rattle.trac_session.proofs.Walked.{repeated-from}
 use Rattle.trac_follow.specs.declared.history.Followed.{Followed as Found}
@@ -22,47 +16,24 @@ use Rattle.trac_follow.specs.declared.tracing.End as ends
 use Rattle.trac_follow.specs.declared.tracing.Onward as onwards
 use Rattle.trac_follow.specs.declared.tracing.Traced.{Traced}
 use Rattle.trac_follow.specs.Following.{IsFollowed, IsKnown, IsOrigin, IsSource}
-use Rattle.trac_follow.specs.Kept.{IsLong}
 use Rattle.trac_follow.specs.Passing.{Passing, passings}
-use Rattle.trac_follow.specs.Places.{IsPassed, Stands, is_in_storage, place_of}
-use Rattle.trac_follow.specs.Tracing.{AllCarried, EndsAs, IsEnd, IsTold, IsTraced, LeadsTo, LeadsToLong, ToldAll, WasPassed, source_of, way_of}
-use Rattle.trac_follow.proofs.Legs.{WentSo, call_of_leg, no_call_of_leg, went_so}
-use Rattle.trac_follow.proofs.Passings.{told_more}
+use Rattle.trac_follow.specs.Places.{place_of}
+use Rattle.trac_follow.specs.Tracing.{AllCarried, EndsAs, IsEnd, IsTold, IsTraced, LeadsTo, LeadsToLong, ToldAll, source_of, way_of}
+use Rattle.trac_follow.proofs.Legs.{HadFrom, call_of_leg, had_from, had_somewhere, no_call_of_leg, told_more}
 use Rattle.trac_follow.proofs.RunsBack.{last_steps}
-use Rattle.trac_follow.proofs.StepsBack.{after_some, all_carried, followed_on}
+use Rattle.trac_follow.proofs.StepsBack.{WentSo, after_some, all_carried, followed_on, longer, went_so}
 
 -- ---- two ways are one
 
--- the steps of both
-longer : (old cur : PlainSession) (steps n : ℕ) → WentSo steps old cur → take (steps + n) old.earlier ≡ take steps old.earlier ++ take n cur.earlier
-longer old cur steps n went =
-    ap (take (steps + n)) went.whole
-    ∙ ap (λ k. take (k + n) (take steps old.earlier ++ cur.earlier)) (sym went.count)
-    ∙ take-append-add (take steps old.earlier) cur.earlier n
-
-module _ (old cur next : PlainSession) (place here : Place) (steps n : ℕ) (went : WentSo steps old cur)
-    (carried : (followed (over old.width old.tape) (take steps old.earlier) place).origin ≡ Carried here) where
-  environment : Environment
-  environment = over old.width old.tape
-
-  one_way : followed environment (take (steps + n) old.earlier) place ≡ after_some steps (followed (over cur.width cur.tape) (take n cur.earlier) here)
-  unfolding environment
-  one_way =
-      ap (λ (states : List State). followed environment states place) (longer old cur steps n went)
-      ∙ followed_on environment (take steps old.earlier) (take n cur.earlier) place here carried
-      ∙ ap₂ after_some went.count (ap (λ e. followed e (take n cur.earlier) here) (sym (ap₂ over went.same_width went.same_tape)))
-
-  pub way_to : (so : ℕ) (o : Origin) → IsOrigin cur here n so o → IsOrigin old place (steps + n) (steps + so) o
-  unfolding environment
-  way_to so o told = one_way ∙ ap (after_some steps) told
+way_to : (old cur : PlainSession) (place here : Place) (steps n so : ℕ) (o : Origin) → WentSo steps old cur → (followed (over old.width old.tape) (take steps old.earlier) place).origin ≡ Carried here →
+    IsOrigin cur here n so o → IsOrigin old place (steps + n) (steps + so) o
+way_to old cur place here steps n so o went carried told =
+    let environment = over old.width old.tape in
+    ap (λ (states : List State). followed environment states place) (longer old cur steps n went)
+    ∙ followed_on environment (take steps old.earlier) (take n cur.earlier) place here carried
+    ∙ ap₂ after_some went.count (ap (λ e. followed e (take n cur.earlier) here) (sym (ap₂ over went.same_width went.same_tape)) ∙ told)
 
 -- ---- legs
-
--- what stands in no form and in no block was passed on, where a call took it out of a form
-taken_out : (s : State) (here : Place) (name : List ℕ) (i : ℕ) → is_in_storage here ≡ false → IsPassed s here (InForm name i)
-taken_out s (InForm other k) name i aside = absurd (true≢false aside)
-taken_out s (InHeld number other k) name i aside = refl
-taken_out s here name i aside = ap not aside
 
 -- so many legs carried a byte from a place to here, over so many steps
 pub record Way (width : Width) (old cur : PlainSession) (place here : Place) (steps legs : ℕ) : Type 0 where
@@ -71,9 +42,6 @@ pub record Way (width : Width) (old cur : PlainSession) (place here : Place) (st
   -- the calls on it, and after them those that are on the way further back
   pub calls : IsKnown width old place → (post : List State) →
       passings (over old.width old.tape) (take steps old.earlier ++ post) 0 place place ≡ way_of old place steps ++ passings (over old.width old.tape) post steps here here
-
-pub way_begins : (width : Width) (old : PlainSession) (place : Place) → Way width old old place place 0 0
-way_begins width old place = record { walked = refl; known = λ known. (omega arith, refl); calls = λ known post. refl }
 
 module _ (width : Width) (old cur : PlainSession) (place here : Place) (steps legs : ℕ) (way : Way width old cur place here steps legs) where
   went : WentSo steps old cur
@@ -96,12 +64,20 @@ module _ (width : Width) (old cur : PlainSession) (place here : Place) (steps le
         (item, ap (λ (s : State). found_at s here) (sym went.last ∙ ap (λ k. state_back k old.last pre) (sym went.count)) ∙ told.1),
       )
 
+  -- and so are more steps over which it is followed from here
+  on : IsKnown width old place → (n so : ℕ) (o : Origin) → IsOrigin cur here n so o → IsOrigin old place (steps + n) (steps + so) o
+  on known n so o told = way_to old cur place here steps n so o went (way.known known).1 told
+
   pub all_so_far : IsKnown width old place → AllCarried old place steps
   all_so_far known = (here, carries known ∙ ap (λ n. record { carried = n; origin = Carried here }) went.count)
 
   module _ (next : PlainSession) (most : ℕ) (found : Found) (h : repeated Back found.steps cur ≡ Some next) (leg : IsKnown width cur here → IsFollowed cur here most next found) where
     pub way_walked : repeated Back (steps + found.steps) old ≡ Some next
     way_walked = repeated-from Back steps found.steps old cur way.walked ∙ h
+
+    -- what was found of the leg
+    found_so : (from : onwards.Onward) → found.source ≡ source_of from → IsKnown width old place → IsSource cur here most next found.steps (source_of from)
+    found_so from source known = subst (λ source. IsSource cur here most next found.steps source) source (leg (known_there known)).source
 
     -- the calls on the way after one leg more
     longer_way : IsKnown width old place → (post : List State) →
@@ -137,10 +113,8 @@ module _ (width : Width) (old cur : PlainSession) (place here : Place) (steps le
     way_goes_on s from q is passed leads = record {
       walked = way_walked;
       known = λ known.
-          let at = go from leads (subst (λ source. IsSource cur here most next found.steps source) passed (leg (known_there known)).source) in (
-            omega (arith, at.0, (way.known known).0),
-            ap (λ (f : Followed). f.origin) (way_to old cur next place here steps found.steps went (way.known known).1 found.steps (Carried q) at.1),
-          );
+          let had = had_from cur next here most found.steps s is from q (found_so from passed known) leads in
+          (omega (arith, had.passed.1.1, (way.known known).0), ap (λ (f : Followed). f.origin) (on known found.steps found.steps (Carried q) had.origin));
       calls = λ known post.
           longer_way known post
           ∙ ap (λ (later : List Passing). way_of old place steps ++ later) (call_of_leg cur next here most found h (leg (known_there known)) s from q is passed leads steps post)
@@ -148,16 +122,6 @@ module _ (width : Width) (old cur : PlainSession) (place here : Place) (steps le
           ∙ ap (λ (t : State). (way_of old place steps ++ record { state = t; steps = steps + found.steps; from = here } ∷ []) ++ passings (over cur.width cur.tape) post (steps + found.steps) q q) (sym is)
           ∙ ap₂ (λ (way : List Passing) e. way ++ passings e post (steps + found.steps) q q) (sym (one_more_call s from q is passed leads known)) (ap₂ over went.same_width went.same_tape);
     }
-      where
-        go : (o : onwards.Onward) → LeadsTo s o q → IsSource cur here most next found.steps (source_of o) → (1 ≤ found.steps) × IsOrigin cur here found.steps found.steps (Carried q)
-        go (onwards.TheVariants.At there) at told = (
-          omega (arith, told.1.1.1),
-          told.0 ∙ ap (λ p. record { carried = found.steps; origin = Carried p }) (sym at),
-        )
-        go (onwards.TheVariants.OfForm i) at told = (
-          omega (arith, told.1.1.1),
-          told.0.2 ∙ ap (λ p. record { carried = found.steps; origin = Carried p }) (sym (at told.0.0 (ap scan is ∙ told.0.1))),
-        )
 
     -- how it may end
     pub way_ends : (all : ℕ) (end : ends.End) → steps ≤ all → most ≡ all - steps → EndsAs found.source end → IsKnown width old place → IsEnd old place all next (steps + found.steps) end
@@ -166,72 +130,42 @@ module _ (width : Width) (old cur : PlainSession) (place here : Place) (steps le
         there : IsKnown width cur here
         there = known_there known
 
-        on : (so : ℕ) (o : Origin) → IsOrigin cur here found.steps so o → IsOrigin old place (steps + found.steps) (steps + so) o
-        on so o told = way_to old cur next place here steps found.steps went (way.known known).1 so o told
-
         said : (x : ends.End) → end ≡ x → IsEnd old place all next (steps + found.steps) x → IsEnd old place all next (steps + found.steps) end
         said x e told = subst (λ y. IsEnd old place all next (steps + found.steps) y) (sym e) told
 
         one_less : 0 < found.steps → (o : Origin) → IsOrigin cur here found.steps (found.steps - 1) o → IsOrigin old place (steps + found.steps) (steps + found.steps - 1) o
-        one_less some o told = on (found.steps - 1) o told ∙ ap (λ k. record { carried = k; origin = o }) (omega (arith, some))
+        one_less some o told = on known found.steps (found.steps - 1) o told ∙ ap (λ k. record { carried = k; origin = o }) (omega (arith, some))
 
         go : (source : code.Source) → EndsAs source end → IsSource cur here most next found.steps source → IsEnd old place all next (steps + found.steps) end
         go code.TheVariants.Nothing e told = absurd (told.1 there.2.0 there.2.1)
         go (code.TheVariants.Here q) e told =
             said ends.TheVariants.Earlier e (
-              (place_of q, on found.steps (Carried (place_of q)) told.0),
+              (place_of q, on known found.steps found.steps (Carried (place_of q)) told.0),
               ⊎_elim (λ (n : found.steps ≡ most). inl (omega (arith, n, is, within))) (λ (none : next.earlier ≡ []). inr none) told.1,
             )
         go (code.TheVariants.Read n) e told = said (ends.TheVariants.Read n) e (omega (arith, told.0), one_less told.0 (Read n) told.1)
         go code.TheVariants.Made e told = said ends.TheVariants.Made e (omega (arith, told.0), one_less told.0 Made told.1)
         go other e told = absurd e
 
-    -- a call passed it on from some place
-    had_somewhere : (s : State) (from : onwards.Onward) → s ≡ next.last → found.source ≡ source_of from → IsKnown width cur here →
-        (q : Place) × LeadsTo s from q × IsOrigin cur here found.steps found.steps (Carried q) × (LeadsToLong s from → IsLong q) × WasPassed cur here found.steps next q
-    had_somewhere s from is passed there = go from (subst (λ source. IsSource cur here most next found.steps source) passed (leg there).source)
-      where
-        go : (o : onwards.Onward) → IsSource cur here most next found.steps (source_of o) →
-            (q : Place) × LeadsTo s o q × IsOrigin cur here found.steps found.steps (Carried q) × (LeadsToLong s o → IsLong q) × WasPassed cur here found.steps next q
-        go (onwards.TheVariants.At p) told = (place_of p, refl, told.0, λ long. long, (told.1.0, (told.1.1.0, told.1.1.1, told.1.1.2, told.1.1.3)))
-        go (onwards.TheVariants.OfForm i) told =
-            let call : Call = told.0.0 in
-            let asked : scan s ≡ Calls call = ap scan is ∙ told.0.1 in (
-              InForm (argument 1 call.arguments) i,
-              λ other asked_too.
-                  let both : Calls call ≡ Calls other = sym asked ∙ asked_too in
-                  let same : call ≡ other = cc in
-                  ap (λ (c : Call). InForm (argument 1 c.arguments) i) same,
-              told.0.2,
-              λ long. long call asked,
-              (told.1.0, (told.1.1.0, told.1.1.1, told.1.1.2, taken_out next.last told.1.1.0 (argument 1 call.arguments) i told.1.1.3)),
-            )
-
     -- where its name cannot be kept, or the witness refuses to be told
     module _ (s : State) (from : onwards.Onward) (is : s ≡ next.last) (passed : found.source ≡ source_of from) (known : IsKnown width old place) where
+      had : (q : Place) × HadFrom cur next here found.steps s from q × ((p : Place) → LeadsTo s from p → p ≡ q)
+      had = had_somewhere cur next here most found.steps s is from (found_so from passed known)
+
+      all_carried_there : IsOrigin old place (steps + found.steps) (steps + found.steps) (Carried had.0)
+      all_carried_there = on known found.steps found.steps (Carried had.0) had.1.origin
+
       pub ends_unkept : (all : ℕ) → LeadsToLong s from → IsEnd old place all next (steps + found.steps) ends.TheVariants.Unkept
       ends_unkept all long =
-          let had = had_somewhere s from is passed (known_there known) in
-          let last = had.4 in (
-            had.0,
-            way_to old cur next place here steps found.steps went (way.known known).1 found.steps (Carried had.0) had.2,
-            had.3 long,
-            (
-              steps + last.0,
-              (last.1.0, omega (arith, last.1.1), way_to old cur next place here steps last.0 went (way.known known).1 last.0 (Carried last.1.0) last.1.2, last.1.3),
-            ),
-          )
+          let last = had.1.passed in
+          (had.0, all_carried_there, had.1.long long, (steps + last.0, (last.1.0, omega (arith, last.1.1), on known last.0 last.0 (Carried last.1.0) last.1.2, last.1.3)))
 
       pub ends_untold : AllCarried old place (steps + found.steps)
-      ends_untold =
-          let had = had_somewhere s from is passed (known_there known) in
-          (had.0, way_to old cur next place here steps found.steps went (way.known known).1 found.steps (Carried had.0) had.2)
+      ends_untold = (had.0, all_carried_there)
 
       -- the call at the end of the leg
       one_call_more : way_of old place (steps + found.steps) ≡ way_of old place steps ++ record { state = s; steps = steps + found.steps; from = here } ∷ []
-      one_call_more =
-          let had = had_somewhere s from is passed (known_there known) in
-          one_more_call s from had.0 is passed had.1 known
+      one_call_more = one_more_call s from had.0 is passed had.1.leads known
 
       module _ {W : Type 0} (passes : W → Passing → W → Type 0) (first before after : W) (told : ToldAll passes first (way_of old place steps) before) (there : Place) (same : there ≡ here) where
         -- the witness is told of it
@@ -281,11 +215,6 @@ pub told_so : {W : Type 0} (passes refuses : W → Passing → W → Type 0) (ol
     IsTold passes refuses (way_of old place steps) steps end first last → IsTold passes refuses (way_of old place found.steps) found.steps found.end first last
 told_so passes refuses old place steps end first last found count is h =
     subst (λ n. IsTold passes refuses (way_of old place n) n found.end first last) (sym count) (subst (λ e. IsTold passes refuses (way_of old place steps) steps e first last) (sym is) h)
-
--- ---- as the code finds it
-
-pub known_so : (width : Width) (old : PlainSession) (place : Place) (s : State) → s ≡ old.last → Stands s place → width ≡ old.width → IsTrail old → IsKnown width old place
-known_so width old place s last stands wide trail = (wide, trail, subst (λ (t : State). Stands t place) last stands)
 
 -- after as many legs as steps were wanted
 pub way_is_long : (width : Width) (old cur : PlainSession) (place here : Place) (steps most : ℕ) → Way width old cur place here steps most → steps ≤ most → IsKnown width old place →

@@ -1,9 +1,7 @@
 -- The value of `in`, told by what is known of it after the step.
-use Rattle.std.proofs.Common.{◌≡◌, ℕ, zero, suc, ◌+◌, ◌-◌, ◌<◌, ◌≤◌, true, false, ◌==◌, ◌&&◌, Bool, List, [], ◌∷◌, length, take, drop, refl, sym, ap, ap₂, ◌∙◌, arith, ⊎_elim}
-use Rattle.std.specs.Prelude.{Option, None, Some, option_map, slice_get}
+use Rattle.std.proofs.Common.{◌≡◌, ℕ, ◌+◌, ◌-◌, ◌<◌, ◌≤◌, true, false, ◌==◌, ◌&&◌, Bool, List, [], ◌∷◌, length, take, drop, refl, sym, ap, ap₂, ◌∙◌, arith, ⊎_elim, Option, None, Some, option_map, slice_get, flat_map}
 use Rattle.std.proofs.lemmas.Bool.Decides.{nat_tests}
-use Rattle.std.specs.List.{flat_map}
-use Rattle.std.proofs.lemmas.List.{drop-drop, drop_all, length-append}
+use Rattle.std.proofs.lemmas.List.{drop-drop, drop_all}
 use Rattle.std.proofs.lemmas.Option.{slice_get_within}
 use Rattle.trac_rules.specs.declared.item.Item.{Item}
 use Rattle.trac_rules.specs.declared.item.Item.TheVariants.{Byte, Gap}
@@ -20,6 +18,7 @@ use Rattle.trac_rules.specs.Scanning.{Call}
 use Rattle.trac_rules.proofs.Balanced.{first_place_cases, first_place_passes, first_place_some}
 use Rattle.trac_origins.specs.Lengths.{value_at}
 use Rattle.trac_origins.specs.Stepping.{origin}
+use Rattle.trac_origins.proofs.Zips.{of_dropped}
 use Rattle.trac_follow.specs.declared.items.Given.{Given}
 use Rattle.trac_follow.specs.Items.{IsGiven}
 use Rattle.trac_follow.specs.declared.place.Origin as told
@@ -28,7 +27,7 @@ use Rattle.trac_follow.specs.Formed.{IsFound, StandsAfter, TellsOfForm, ToldFrom
 use Rattle.trac_follow.specs.Places.{IsSeen, Tells}
 use Rattle.trac_follow.proofs.FormsTold.{default_read, piece_item}
 use Rattle.trac_follow.proofs.Giving.{default_forces, piece_gives}
-use Rattle.trac_follow.proofs.Spans.{after_those, bytes_taken, dropped_at, whole_span}
+use Rattle.trac_follow.proofs.Spans.{after_pointer, byte_alone, byte_before_end, bytes_taken, whole_after}
 
 -- ---- where a text stands
 
@@ -83,7 +82,7 @@ module _ (form : Form) (arguments : List (List ℕ)) (function : ℕ) (width : W
       go : (at : Option ℕ) → place_of_text text form.after ≡ at → (known : Option ℕ) → IsFound form text known true → IsSeen known e → Tells s o (origin environment s (value_at call.kind e.forced call.state i))
       go (Some k) is known there sees =
           let few : length (bytes_in (take k form.after)) ≤ length (bytes_in (drop first (all_items form))) =
-          omega (arith, bytes_taken k form.after, ap (λ (xs : List Item). length (bytes_in xs)) (ap (λ n. drop n (all_items form)) begins ∙ after_those form.before form.after)) in
+          omega (arith, bytes_taken k form.after, ap (λ (xs : List Item). length (bytes_in xs)) (after_pointer form first begins)) in
           piece_item ReadUntil form arguments function width seen i (piece_at k) first o (reads_at (Some k) is) (omega (arith, begins)) few tells
           environment s call e wide of same number names is_seen l
       go None is None there sees =
@@ -106,7 +105,7 @@ module _ (form : Form) (arguments : List (List ℕ)) (function : ℕ) (width : W
           missed (record {
             place = k;
             byte = byte.0;
-            there = ap (slice_get form.after) (sym plus) ∙ sym (dropped_at form.after k 0) ∙ byte.1;
+            there = ap (slice_get form.after) (sym plus) ∙ sym (of_dropped k form.after 0) ∙ byte.1;
             before = before;
             begins = begins;
           })
@@ -122,29 +121,6 @@ module _ (form : Form) (arguments : List (List ℕ)) (function : ℕ) (width : W
 
 -- ---- as the code finds it
 
--- the byte that has so many before it is one
-byte_alone : (items : List Item) (m n a b : ℕ) → slice_get items m ≡ Some (Byte a) → slice_get items n ≡ Some (Byte b) → length (bytes_in (take m items)) ≡ length (bytes_in (take n items)) → m ≡ n
-byte_alone [] m n a b first second e = absurd (cc)
-byte_alone (item ∷ items) zero zero a b first second e = refl
-byte_alone (item ∷ items) zero (suc n) a b first second e =
-    let same : item ≡ Byte a = cc in
-    absurd (omega (arith, e, length-append (byte_of item) (bytes_in (take n items)), ap (λ (x : Item). length (byte_of x)) same))
-byte_alone (item ∷ items) (suc m) zero a b first second e =
-    let same : item ≡ Byte b = cc in
-    absurd (omega (arith, e, length-append (byte_of item) (bytes_in (take m items)), ap (λ (x : Item). length (byte_of x)) same))
-byte_alone (item ∷ items) (suc m) (suc n) a b first second e =
-    ap suc
-    (byte_alone items m n a b first second
-    (omega (arith, e, length-append (byte_of item) (bytes_in (take m items)), length-append (byte_of item) (bytes_in (take n items)))))
-
-byte_before_end : (items : List Item) (m b : ℕ) → slice_get items m ≡ Some (Byte b) → length (bytes_in (take m items)) < length (bytes_in items)
-byte_before_end [] m b there = absurd (cc)
-byte_before_end (item ∷ items) zero b there =
-    let same : item ≡ Byte b = cc in
-    omega (arith, length-append (byte_of item) (bytes_in items), ap (λ (x : Item). length (byte_of x)) same)
-byte_before_end (item ∷ items) (suc m) b there =
-    omega (arith, byte_before_end items m b there, length-append (byte_of item) (bytes_in (take m items)), length-append (byte_of item) (bytes_in items))
-
 -- an item that gives a byte is one
 gives_byte : (item : Item) (n : ℕ) → n < length (byte_of item) → (b : ℕ) × (item ≡ Byte b) × (n ≡ 0)
 gives_byte (Byte b) n l = (b, refl, omega (arith, l))
@@ -152,7 +128,7 @@ gives_byte (Gap ordinal width) n l = absurd (omega (arith, l))
 
 module _ (form : Form) (text : List ℕ) (bytes start : ℕ) (starts : start ≡ length form.before) where
   after_is : drop start (all_items form) ≡ form.after
-  after_is = ap (λ k. drop k (all_items form)) starts ∙ after_those form.before form.after
+  after_is = after_pointer form start starts
 
   pub stands_here : (given : Given) → IsGiven byte_of (drop start (all_items form)) bytes given → (begins : Bool) → begins ≡ begin_with text (drop (start + given.at) (all_items form)) →
       IsFound form text (Some bytes) begins
@@ -178,7 +154,7 @@ module _ (form : Form) (text : List ℕ) (bytes start : ℕ) (starts : start ≡
 
   pub stands_nowhere : (to rest : ℕ) → to ≡ length (all_items form) → length (flat_map byte_of (take (to - start) (drop start (all_items form)))) + rest ≡ bytes → StandsAfter text bytes form → ⊥
   stands_nowhere to rest ends past other =
-      let span : take (to - start) (drop start (all_items form)) ≡ form.after = whole_span (all_items form) start to ends ∙ after_is in
+      let span : take (to - start) (drop start (all_items form)) ≡ form.after = whole_after form start starts to ends in
       absurd (omega (arith, past, ap (λ (xs : List Item). length (bytes_in xs)) span, other.before, byte_before_end form.after other.place other.byte other.there))
 
 -- one byte after another
@@ -186,22 +162,13 @@ begin_step : (b : ℕ) (text : List ℕ) (items : List Item) → begin_with (b �
 begin_step b text (Byte c ∷ items) = refl
 begin_step b text items = refl
 
-pub begins_next : (items : List Item) (at b : ℕ) (text : List ℕ) → begin_with (b ∷ text) (drop at items) ≡ (is_byte (slice_get items at) b && begin_with text (drop (at + 1) items))
-begins_next items at b text =
+pub begins_by : (items : List Item) (at b : ℕ) (text others : List ℕ) (whole first : Bool) → whole ≡ begin_with text (drop at items) → text ≡ b ∷ others → is_byte (slice_get items at) b ≡ first →
+    whole ≡ (first && begin_with others (drop (at + 1) items))
+begins_by items at b text others whole first so_far split is =
     let none : at + 0 ≡ at = omega arith in
-    begin_step b text (drop at items)
-    ∙ ap₂ (λ (found : Option Item) (rest : List Item). is_byte found b && begin_with text rest)
-    (dropped_at items at 0 ∙ ap (slice_get items) none) (drop-drop 1 at items)
-
-pub begins_on : (items : List Item) (at b : ℕ) (text others : List ℕ) (whole : Bool) → whole ≡ begin_with text (drop at items) → text ≡ b ∷ others → is_byte (slice_get items at) b ≡ true →
-    whole ≡ begin_with others (drop (at + 1) items)
-begins_on items at b text others whole so_far split is =
-    so_far ∙ ap (λ q. begin_with q (drop at items)) split ∙ begins_next items at b others ∙ ap (λ t. t && begin_with others (drop (at + 1) items)) is
-
-pub begins_not : (items : List Item) (at b : ℕ) (text others : List ℕ) (whole : Bool) → whole ≡ begin_with text (drop at items) → text ≡ b ∷ others → is_byte (slice_get items at) b ≡ false →
-    whole ≡ false
-begins_not items at b text others whole so_far split is =
-    so_far ∙ ap (λ q. begin_with q (drop at items)) split ∙ begins_next items at b others ∙ ap (λ t. t && begin_with others (drop (at + 1) items)) is
+    so_far ∙ ap (λ q. begin_with q (drop at items)) split ∙ begin_step b others (drop at items)
+    ∙ ap₂ (λ t (rest : List Item). t && begin_with others rest)
+    (ap (λ (found : Option Item). is_byte found b) (of_dropped at items 0 ∙ ap (slice_get items) none) ∙ is) (drop-drop 1 at items)
 
 pub begins_end : (items : List Item) (at : ℕ) (text : List ℕ) (whole empty : Bool) → whole ≡ begin_with text (drop at items) → length items ≤ at → empty ≡ (length text == 0) → empty ≡ whole
 begins_end items at [] whole empty so_far ends is = is ∙ sym so_far

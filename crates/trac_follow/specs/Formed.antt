@@ -1,8 +1,7 @@
 -- What is told of a form that a call reads, prints or cuts.
 use Rattle.std.specs.Prelude.{◌≡◌, ◌==◌, ◌⊎◌, ℕ, ◌+◌, ◌<◌, ◌≤◌, min, List, length, take, drop, Bool, true, false}
-use Rattle.std.specs.Prelude.{Option, None, Some, slice_get}
+use Rattle.std.specs.Prelude.{Option, None, Some, All, slice_get}
 use Rattle.std.specs.FinMap as finite
-use Rattle.std.specs.List.{All}
 use Rattle.trac_rules.specs.declared.item.Item.{Item}
 use Rattle.trac_rules.specs.declared.item.Item.TheVariants.{Byte, Gap}
 use Rattle.trac_rules.specs.declared.limit.TheConstants.{OUTPUT_LIMIT}

@@ -1,7 +1,6 @@
 -- Bytes that the items of a form give, and which item gives the byte of a number.
-use Rattle.std.specs.Prelude.{◌≡◌, ℕ, ◌+◌, ◌<◌, List, length, take, drop, Bool, Some, slice_get}
+use Rattle.std.specs.Prelude.{◌≡◌, ℕ, ◌+◌, ◌<◌, List, flat_map, length, take, drop, Bool, Some, slice_get}
 use Rattle.std.specs.FinMap as finite
-use Rattle.std.specs.List.{flat_map}
 use Rattle.trac_rules.specs.declared.item.Item.{Item}
 use Rattle.trac_rules.specs.Filling.{filled}
 use Rattle.trac_rules.specs.Form.{extent}

@@ -1,6 +1,5 @@
 //! Forms that `fb` brings back from a block.
-ghost use Rattle.std.specs.Option.{option_copied};
-ghost use Rattle.std.specs.Prelude.{◌≡◌, ◌++◌, bytes_eq, false, List, MatchOption, option_to_list};
+ghost use Rattle.std.specs.Prelude.{◌≡◌, ◌++◌, bytes_eq, false, List, MatchOption, option_copied, option_to_list};
 ghost use Rattle.trac_follow.specs.Fetched.{block_named, place_fetched};
 ghost use Rattle.trac_follow.specs.Places.{place_of};
 ghost use Rattle.trac_forms.specs.Stored.{storage_in};
@@ -27,13 +26,10 @@ pub(crate) fn before_fetch<'a, A: Allocator + Copy>(
     ensures { place_of result
         ≡ place_fetched (block_named given.now (storage_in store.now)) name.now i (storage_in store.now) }
 {
-    let Some(number) = named_block(store, given) else {
-        return Place::Form(name, i);
-    };
-    if held_in(store, number, name).is_some() {
-        return Place::Held(number, name, i);
+    match named_block(store, given) {
+        Some(number) if held_in(store, number, name).is_some() => Place::Held(number, name, i),
+        _ => Place::Form(name, i),
     }
-    Place::Form(name, i)
 }
 
 // ---- the block that a form names

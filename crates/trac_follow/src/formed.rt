@@ -10,8 +10,7 @@ ghost use Rattle.trac_rules.specs.declared.primitive.Primitive.TheVariants.{Hand
 ghost use Rattle.trac_rules.specs.declared.primitive.FormReading.TheVariants.{ReadCount, ReadUntil};
 ghost use Rattle.trac_rules.specs.declared.width.Width.{Width};
 ghost use Rattle.trac_follow.specs.Formed.{IsFound, IsPrintedAt, TellsOfForm, ToldAsFormCut, ToldAsFormShown};
-ghost use Rattle.trac_follow.specs.Formed.{ToldAsPiece, ToldAsShownAfter, ToldAsShownAt, ToldFrom, is_byte, is_cut};
-ghost use Rattle.trac_follow.specs.Formed.{of_shown};
+ghost use Rattle.trac_follow.specs.Formed.{ToldAsPiece, ToldAsShownAfter, ToldAsShownAt, ToldFrom, is_byte, of_shown};
 ghost use Rattle.trac_follow.specs.Places.{is_from_form};
 
 use crate::items::{Among, Giving, byte_among, item_after};
@@ -61,8 +60,7 @@ pub(crate) fn read_byte_of<'a, A: Allocator + Copy>(
         asked.seen asked.byte result }
     ensures taken { is_from_form result ≡ false }
 {
-    let function = asked.function;
-    let i = asked.byte;
+    let (function, i) = (asked.function, asked.byte);
     match reading {
         FormReading::ReadSegment => piece_byte(form, form.read_segment(), function, 2, i),
         FormReading::ReadChar => piece_byte(form, form.read_char(), function, 2, i),
@@ -213,10 +211,7 @@ pub(crate) enum Printed {
 pub(crate) fn printed_at(text: usize, end: usize, i: usize) -> Printed
     ensures { IsPrintedAt text end i result }
 {
-    if text > end {
-        return Printed::Nowhere;
-    }
-    if i >= end {
+    if text > end || i >= end {
         return Printed::Nowhere;
     }
     if i < end - text {
@@ -276,18 +271,8 @@ pub(crate) fn cut_item<'a, E: TwoEnds<u8, A>, M: TwoEnds<Mark, A>, A: Allocator 
     let Some((place, item)) = item_after(form, after.extent) else {
         return Origin::Nothing;
     };
-    if is_cut(after.is_gap, item) {
+    if after.is_gap && matches!(item, Item::Byte(_)) {
         return Origin::Made;
     }
     Origin::Carried(Place::Form(name, place))
-}
-
-// Whether an item is cut: a gap stands where a byte stood.
-fn is_cut(gap: bool, was: Item) -> bool
-    ensures { result ≡ is_cut gap was }
-{
-    match was {
-        Item::Byte(_) => gap,
-        Item::Gap { .. } => false,
-    }
 }

@@ -5,7 +5,6 @@
 mod called;
 mod fetched;
 mod formed;
-mod front;
 pub mod history;
 mod items;
 pub mod kept;

@@ -35,9 +35,7 @@ pub(crate) fn before_run<'a, E: TwoEnds<u8, A>, M: TwoEnds<Mark, A>, A: Allocato
             // A byte past the end of this machine's neutral text was that far into its active text.
             in_active(measure.0.checked_sub(before.neutral_len()), place)
         }
-        Place::Form(_, _) => place,
-        Place::Held(_, _, _) => place,
-        Place::Output(_) => place,
+        Place::Form(_, _) | Place::Held(_, _, _) | Place::Output(_) => place,
     }
 }
 
@@ -69,7 +67,7 @@ fn further_on(text: &[u8], count: u64, i: usize) -> usize
 // ---- steps that leave the rest of the active text
 
 // Where a byte of the active text stood before the next step of a machine, after which that text is so long: as far
-// from its end, if the step did not put it there.
+// from its end, if the step did not put it there. None too if that would be the first byte, which the step takes.
 pub(crate) fn before_in_active<'a, E: TwoEnds<u8, A>, M: TwoEnds<Mark, A>, A: Allocator + Copy>(
     before: &Core<E, M, A>,
     left: usize,
@@ -80,23 +78,11 @@ pub(crate) fn before_in_active<'a, E: TwoEnds<u8, A>, M: TwoEnds<Mark, A>, A: Al
     let Place::Active(i) = place else {
         return None;
     };
-    let byte = as_far_from_end(before.active().len(), left, i)?;
-    Some(Place::Active(byte))
-}
-
-// Which byte of so many is as far from the end as this one of others is from theirs. None if it would be the first,
-// which the step takes, or if there is none.
-fn as_far_from_end(len: usize, other_len: usize, i: usize) -> Option<usize>
-    ensures { IfSome result (λ j. (j + other_len ≡ len + i) × (0 < j)) }
-{
-    if i >= other_len {
+    let len = before.active().len();
+    if i >= left || left - i >= len {
         return None;
     }
-    let from_end = other_len - i;
-    if from_end >= len {
-        return None;
-    }
-    Some(len - from_end)
+    Some(Place::Active(len - (left - i)))
 }
 
 // ---- steps that leave what they do not act on

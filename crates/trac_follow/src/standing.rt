@@ -1,14 +1,15 @@
 //! What stands at a place, and what is past the current text.
 ghost use Rattle.std.specs.Prelude.{◌≡◌, ◌+◌, ◌-◌, ◌<◌, ◌≤◌, drop, false, length, true, Some, IsTrue};
-ghost use Rattle.std.specs.Prelude.{ℕ};
+ghost use Rattle.std.specs.Prelude.{option_copied, slice_get, ℕ};
 ghost use Rattle.trac_origins.specs.Lengths.{current_text, in_current, is_of_text};
-ghost use Rattle.trac_origins.specs.Places.{byte_at, InArgument, InForm, InHeld};
+ghost use Rattle.trac_origins.specs.Places.{byte_at, items_of, InArgument};
 ghost use Rattle.trac_rules.specs.declared.item.Item.{Item};
 ghost use Rattle.trac_follow.specs.Places.{IsBare, IsOutside, Stands, is_in_text, place_of};
 
 use crate::fetched::held_in;
 use crate::place::Place;
 use std::alloc::Allocator;
+use trac_forms::Form;
 use trac_gap::TwoEnds;
 use trac_step::{Core, Mark};
 
@@ -28,8 +29,8 @@ pub(crate) fn stands<E: TwoEnds<u8, A>, M: TwoEnds<Mark, A>, A: Allocator + Copy
             argument,
             byte,
         } => stands_in_argument(machine, function, argument, byte),
-        Place::Form(name, i) => stands_in_form(machine, name, i),
-        Place::Held(number, name, i) => stands_in_block(machine, number, name, i),
+        Place::Form(name, i) => has_item(machine.store().get(name), i),
+        Place::Held(number, name, i) => has_item(held_in(machine.store(), number, name), i),
         Place::Output(i) => has_byte(machine.output(), i),
     }
 }
@@ -96,32 +97,12 @@ fn argument_len<E: TwoEnds<u8, A>, M: TwoEnds<Mark, A>, A: Allocator + Copy>(
     }
 }
 
-// Whether a form has such an item.
-fn stands_in_form<E: TwoEnds<u8, A>, M: TwoEnds<Mark, A>, A: Allocator + Copy>(
-    machine: &Core<E, M, A>,
-    name: &[u8],
-    i: usize,
-) -> bool
-    ensures there { IsTrue result → Stands machine.now.state (InForm name.now i) }
-    ensures bare { result ≡ false → IsBare machine.now.state (InForm name.now i) }
+// Whether a form has such an item; without one there is none.
+fn has_item<A: Allocator + Copy>(form: Option<&Form<A>>, i: usize) -> bool
+    ensures there { IsTrue result → (item : Item) × (slice_get (items_of (option_copied form.entry)) i ≡ Some item) }
+    ensures bare { result ≡ false → (item : Item) → slice_get (items_of (option_copied form.entry)) i ≡ Some item → ⊥ }
 {
-    match machine.store().get(name) {
-        Some(form) => form.item(i).is_some(),
-        None => false,
-    }
-}
-
-// Whether a block holds a form with such an item.
-fn stands_in_block<E: TwoEnds<u8, A>, M: TwoEnds<Mark, A>, A: Allocator + Copy>(
-    machine: &Core<E, M, A>,
-    number: usize,
-    name: &[u8],
-    i: usize,
-) -> bool
-    ensures there { IsTrue result → Stands machine.now.state (InHeld number name.now i) }
-    ensures bare { result ≡ false → IsBare machine.now.state (InHeld number name.now i) }
-{
-    match held_in(machine.store(), number, name) {
+    match form {
         Some(form) => form.item(i).is_some(),
         None => false,
     }

@@ -2,7 +2,6 @@
 //! it from one of its arguments, or from a block to a form. It does so too if it takes the byte from a form to the
 //! call's value, to the output or to a block.
 ghost use Rattle.std.specs.Prelude.{◌≡◌, ◌≤◌, [], ⊤, IfErr, IfNone, IfOk, IfSome, MatchOption, OnErr, OnOk, Some};
-ghost use Rattle.trac_follow.specs.declared.tracing.Onward.TheVariants.{OfForm};
 ghost use Rattle.trac_follow.specs.Following.{IsFollowed, IsKnown};
 ghost use Rattle.trac_follow.specs.Kept.{IsFormless, named};
 ghost use Rattle.trac_follow.specs.Passing.{Passing};
@@ -201,19 +200,10 @@ fn kept_place<'n, A: Allocator + Copy>(
 {
     match onward {
         Onward::At(there) => KeptPlace::of(machine.store(), there),
-        Onward::OfForm(item) => item_of_call(machine, item),
+        // There is a call next, since it took the item out of the form.
+        Onward::OfForm(item) => {
+            let (_, arguments) = machine.next_call()?;
+            KeptPlace::of(machine.store(), Place::Form(arguments.get(1), item))
+        }
     }
-}
-
-// The same for this item of the form that argument 1 of the next call names. There is such a call, since it took the
-// item out of the form.
-fn item_of_call<'n, A: Allocator + Copy>(
-    machine: &Machine<A>,
-    item: usize,
-) -> Option<KeptPlace<'n, A>>
-    ensures leads { IfSome result (λ kept. LeadsTo machine.now.state (OfForm item) kept) }
-    ensures long { IfNone result (LeadsToLong machine.now.state (OfForm item)) }
-{
-    let (_, arguments) = machine.next_call()?;
-    KeptPlace::of(machine.store(), Place::Form(arguments.get(1), item))
 }

@@ -121,7 +121,9 @@ fn computed_byte<'a>(computation: Computation, arguments: &Args<'_>, asked: Aske
             asked.byte,
         ),
         Computation::Greater => {
-            argument_byte(asked.function, chosen(has_greater(arguments)), asked.byte)
+            let first = read_tail(arguments.get(1)).numeral;
+            let second = read_tail(arguments.get(2)).numeral;
+            argument_byte(asked.function, chosen(greater(first, second)), asked.byte)
         }
         Computation::Calculate(operation) => calculated_byte(operation, arguments, asked),
         _ => Origin::Made,
@@ -144,16 +146,6 @@ fn chosen(first: bool) -> usize
     ensures { result ≡ number_chosen first }
 {
     if first { 3 } else { 4 }
-}
-
-// Whether the number of the first argument after the name is greater than that of the second.
-fn has_greater(arguments: &Args<'_>) -> bool
-    ensures { result ≡ is_greater (numeral_of (argument 1 arguments.now)) (numeral_of (argument 2 arguments.now)) }
-{
-    greater(
-        read_tail(arguments.get(1)).numeral,
-        read_tail(arguments.get(2)).numeral,
-    )
 }
 
 // ---- numbers

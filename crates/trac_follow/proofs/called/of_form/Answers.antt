@@ -9,9 +9,9 @@ use Rattle.trac_follow.specs.Places.{Tells, place_of}
 use Rattle.trac_follow.specs.declared.called.Put as code
 use Rattle.trac_follow.proofs.CallsTold.{number_is}
 use Rattle.trac_follow.proofs.FetchedTold.{fetched_tells}
-use Rattle.trac_follow.proofs.FormCalls.{cut_tells}
+use Rattle.trac_follow.proofs.FormsTold.{cut_tells}
 use Rattle.trac_follow.proofs.Staying.{form_unchanged}
-use Rattle.trac_follow.proofs.ValuesTold.{IsFor, address_is, defined_is, defined_within_text, is_put_by}
+use Rattle.trac_follow.proofs.PutTold.{IsFor, address_is, defined_is, defined_within, is_put_by}
 use Rattle.trac_follow.proofs.called.of_form.Given.{Over}
 use Rattle.trac_follow.proofs.called.of_form.Goals as goal
 use Rattle.trac_follow.proofs.called.of_form.Goals.{After-put_by}
@@ -39,15 +39,14 @@ returns-in-Text-2-clause-tells g c = λ width environment t item wide h lengths 
     let is = puts g (goal.at.returns-in-Text-2-clause-tells g c).After-put_by code.TheVariants.Text c.in-Text-2.is in
     absurd (omega (
       arith,
-      defined_within_text environment c.args.before.now.state t call.0 h call.1 c.args.name.now c.args.i item is.0 is.1 stands,
+      defined_within environment c.args.before.now.state t call.0 h call.1 c.args.name.now c.args.i item is.0 is.1 stands,
       subst (λ text. length text ≤ c.args.i) (c.get.ensures ∙ ap (argument 2) (sym call.2)) c.if-i-get.false,
     ))
 
 pub returns-in-Cut-clause-tells : goal.returns-in-Cut-clause-tells
 returns-in-Cut-clause-tells g c = λ width environment t item wide h lengths stands.
-    let call = c.requires.call in
     let is = puts g (goal.at.returns-in-Cut-clause-tells g c).After-put_by code.TheVariants.Cut c.in-Cut.is in
-    cut_tells environment c.args.before.now.state t call.0 h call.1 is.0 c.args.name.now c.args.after c.args.i item c.cut_item.result is.1 lengths.measured stands c.cut_item.ensures
+    cut_tells environment c.args.before.now.state t c.requires.call.0 h c.requires.call.1 is.0 c.args.name.now c.args.after c.args.i item c.cut_item.result is.1 lengths.measured stands c.cut_item.ensures
 
 pub returns-in-Fetched-clause-tells : goal.returns-in-Fetched-clause-tells
 returns-in-Fetched-clause-tells g c = λ width environment t item wide h lengths stands.
@@ -59,9 +58,8 @@ returns-in-Fetched-clause-tells g c = λ width environment t item wide h lengths
 
 pub returns-in-Address-clause-tells : goal.returns-in-Address-clause-tells
 returns-in-Address-clause-tells g c = λ width environment t item wide h lengths stands.
-    let call = c.requires.call in
     let is = puts g (goal.at.returns-in-Address-clause-tells g c).After-put_by code.TheVariants.Address c.in-Address.is in
-    address_is environment c.args.before.now.state t call.0 h call.1 c.args.name.now c.args.i is.0 is.1
+    address_is environment c.args.before.now.state t c.requires.call.0 h c.requires.call.1 c.args.name.now c.args.i is.0 is.1
 
 pub returns-in-Nothing-clause-tells : goal.returns-in-Nothing-clause-tells
 returns-in-Nothing-clause-tells g c = λ width environment t item wide h lengths stands.

@@ -5,11 +5,10 @@ use Rattle.trac_follow.proofs.called.of_text.Goals as goal
 
 pub returns-then-stands_around-clause-tells : goal.returns-then-stands_around-clause-tells
 returns-then-stands_around-clause-tells g c = λ after environment t item wide h lengths stands.
-    let s = c.args.before.now.state in
     let call = c.requires.call in
     let there = c.stands_around.ensures.there c.if-stands_around.true in
-    text_carried environment s t call.0 item h call.1 c.args.width wide (place_of c.args.place) there.0.0 there.1.0 there.0.1
-    (subst (λ n. IsOutside n (place_of c.args.place)) (sym (number_is s call.0 call.1 c.innermost-function.result (c.innermost-function.ensures call.0 call.1))) there.1.1)
+    text_carried environment c.args.before.now.state t call.0 item h call.1 c.args.width wide (place_of c.args.place) there.0.0 there.1.0 there.0.1
+    (subst (λ n. IsOutside n (place_of c.args.place)) (sym (number_is c.args.before.now.state call.0 call.1 c.innermost-function.result (c.innermost-function.ensures call.0 call.1))) there.1.1)
 
 pub returns-clause-tells : goal.returns-clause-tells
 returns-clause-tells g c = λ after environment t item wide h lengths stands.

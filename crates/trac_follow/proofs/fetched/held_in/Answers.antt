@@ -1,7 +1,7 @@
 -- One entry more, and all of them.
 use Rattle.std.proofs.Common.{sym, ap, ◌∙◌, arith}
 use Rattle.trac_origins.specs.Places.{held_form}
-use Rattle.trac_follow.proofs.Fetching.{no_entry, none_held, other_entry, this_entry}
+use Rattle.trac_follow.proofs.FetchedTold.{no_entry, none_held, other_entry, this_entry}
 use Rattle.trac_follow.proofs.fetched.held_in.Goals as goal
 
 pub loop-i-preserved : goal.loop-i-preserved

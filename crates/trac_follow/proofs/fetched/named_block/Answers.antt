@@ -1,5 +1,4 @@
-use Rattle.std.proofs.Common.{length, sym, ap, ◌∙◌, arith}
-use Rattle.std.specs.Prelude.{option_and_then}
+use Rattle.std.proofs.Common.{length, sym, ap, ◌∙◌, arith, option_and_then}
 use Rattle.trac_rules.specs.Blocks.{is_address, number_addressed}
 use Rattle.trac_rules.specs.Form.{Form}
 use Rattle.trac_rules.proofs.Addresses.{addressed_alone}

@@ -1,10 +1,9 @@
 -- One item more, and all of them.
-use Rattle.std.proofs.Common.{◌≡◌, List, ◌++◌, ap, subst, ◌∙◌}
-use Rattle.std.specs.Prelude.{Option, bytes_eq, false, option_to_list}
+use Rattle.std.proofs.Common.{◌≡◌, List, ◌++◌, ap, subst, ◌∙◌, Option, bytes_eq, false, option_to_list}
 use Rattle.trac_rules.specs.declared.item.Item.{Item}
 use Rattle.trac_rules.specs.Form.{all_items}
 use Rattle.trac_rules.specs.Pieces.{bytes_in}
-use Rattle.trac_follow.proofs.Fetching.{read_off, read_on}
+use Rattle.trac_follow.proofs.FetchedTold.{read_off, read_on}
 use Rattle.trac_follow.proofs.fetched.reads_as.Goals as goal
 
 pub loop-place-preserved : goal.loop-place-preserved

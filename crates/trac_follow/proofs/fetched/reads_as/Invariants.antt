@@ -1,6 +1,5 @@
 -- What is left of the text decides.
-use Rattle.std.proofs.Common.{◌≡◌, drop}
-use Rattle.std.specs.Prelude.{bytes_eq}
+use Rattle.std.proofs.Common.{◌≡◌, drop, bytes_eq}
 use Rattle.trac_rules.specs.Form.{all_items}
 use Rattle.trac_rules.specs.Pieces.{bytes_in}
 use Rattle.trac_follow.proofs.fetched.reads_as.Given as goal

@@ -1,20 +1,20 @@
 -- One byte after another.
-use Rattle.std.proofs.Common.{sym, ap, ◌∙◌, arith}
+use Rattle.std.proofs.Common.{true, false, sym, ap, ◌∙◌, arith}
 use Rattle.trac_rules.specs.Form.{all_items}
 use Rattle.trac_follow.specs.Formed.{is_byte}
-use Rattle.trac_follow.proofs.UntilTold.{begins_end, begins_not, begins_on}
+use Rattle.trac_follow.proofs.UntilTold.{begins_by, begins_end}
 use Rattle.trac_follow.proofs.formed.begins_at.Goals as goal
 
 pub loop-at-preserved : goal.loop-at-preserved
 loop-at-preserved g c =
     let items = all_items c.args.form.now in
-    begins_on items c.loop-at.at c.in-Some.first.now c.loop-at.rest.now c.in-Some.others.now _ c.loop-at.invariant c.in-Some.ensures.cases.0
+    begins_by items c.loop-at.at c.in-Some.first.now c.loop-at.rest.now c.in-Some.others.now _ true c.loop-at.invariant c.in-Some.ensures.cases.0
     (ap (λ found. is_byte found c.in-Some.first.now) (sym c.item.ensures) ∙ sym c.is_byte.ensures ∙ c.if-not-is_byte.false)
 
 pub returns-then-not-is_byte : goal.returns-then-not-is_byte
 returns-then-not-is_byte g c =
     let items = all_items c.args.form.now in
-    sym (begins_not items c.loop-at.at c.in-Some.first.now c.loop-at.rest.now c.in-Some.others.now _ c.loop-at.invariant c.in-Some.ensures.cases.0
+    sym (begins_by items c.loop-at.at c.in-Some.first.now c.loop-at.rest.now c.in-Some.others.now _ false c.loop-at.invariant c.in-Some.ensures.cases.0
     (ap (λ found. is_byte found c.in-Some.first.now) (sym c.item.ensures) ∙ sym c.is_byte.ensures ∙ c.if-not-is_byte.true))
 
 pub returns : goal.returns

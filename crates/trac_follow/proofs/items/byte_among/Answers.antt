@@ -1,13 +1,12 @@
 -- A run of bytes is passed, and then the gap that ends it; or the byte is found.
-use Rattle.std.proofs.Common.{◌≡◌, ℕ, ◌+◌, ◌-◌, ◌≤◌, drop, length, take, refl, ap, ◌∙◌, arith}
-use Rattle.std.specs.List.{flat_map}
-use Rattle.std.specs.Prelude.{Some, slice_get}
+use Rattle.std.proofs.Common.{◌≡◌, ℕ, ◌+◌, ◌-◌, ◌≤◌, drop, length, take, refl, ap, ◌∙◌, arith, flat_map, Some, slice_get}
 use Rattle.trac_rules.specs.declared.item.Item.TheVariants.{Byte}
 use Rattle.trac_rules.specs.Form.{all_items}
 use Rattle.trac_follow.specs.declared.items.Giving.{Giving}
 use Rattle.trac_follow.specs.declared.items.Giving.TheVariants.{Filled, Read, Shown}
 use Rattle.trac_follow.specs.Items.{given_by}
-use Rattle.trac_follow.proofs.Spans.{dropped_at, given_more, run_found, run_passed, run_within}
+use Rattle.trac_origins.proofs.Zips.{of_dropped}
+use Rattle.trac_follow.proofs.Spans.{given_more, run_found, run_passed, run_within}
 use Rattle.trac_follow.proofs.items.byte_among.Given.{Over}
 use Rattle.trac_follow.proofs.items.byte_among.Goals as goal
 use Rattle.trac_follow.proofs.items.byte_among.Goals.{After-run_len-run, After-given_at-given}
@@ -36,7 +35,7 @@ there : (g : Over) (c : After-given_at-given g) →
 there g c =
     let items = all_items c.args.form.now in
     let n = c.runs.place + c.run_len-run.result - c.args.from in
-    dropped_at items c.args.from n
+    of_dropped c.args.from items n
     ∙ ap (slice_get items) (let same : c.args.from + n ≡ c.runs.place + c.run_len-run.result = omega (arith, c.runs.invariant.from) in same) ∙ c.given_at-given.ensures.there
 
 pub overflow_add-place : goal.overflow_add-place

@@ -1,6 +1,5 @@
 -- What is left to be passed.
-use Rattle.std.proofs.Common.{◌≡◌, ◌+◌, ◌-◌, ◌≤◌, drop, length, take}
-use Rattle.std.specs.List.{flat_map}
+use Rattle.std.proofs.Common.{◌≡◌, ◌+◌, ◌-◌, ◌≤◌, drop, length, take, flat_map}
 use Rattle.trac_rules.specs.Form.{all_items}
 use Rattle.trac_follow.specs.Items.{given_by}
 use Rattle.trac_follow.proofs.items.byte_among.Given as goal

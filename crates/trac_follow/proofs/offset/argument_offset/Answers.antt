@@ -1,7 +1,7 @@
 use Rattle.std.proofs.Common.{◌≡◌, ℕ, ◌-◌, min, List, length, take, ap, ◌∙◌, arith}
 use Rattle.std.proofs.lemmas.List.{take_min}
 use Rattle.trac_rules.specs.Limits.{total_length}
-use Rattle.trac_follow.proofs.Counted.{next_text, offset_is}
+use Rattle.trac_follow.proofs.Offsets.{next_text, offset_is}
 use Rattle.trac_follow.proofs.Found.{function_bare}
 use Rattle.trac_follow.proofs.offset.argument_offset.Goals as goal
 

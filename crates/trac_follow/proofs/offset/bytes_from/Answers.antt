@@ -1,9 +1,8 @@
-use Rattle.std.proofs.Common.{◌≡◌, ◌+◌, List, [], drop, length, reverse, ap, sym, subst, ◌∙◌, arith}
-use Rattle.std.specs.Prelude.{MatchBool}
+use Rattle.std.proofs.Common.{◌≡◌, ◌+◌, List, [], drop, length, reverse, ap, sym, subst, ◌∙◌, arith, MatchBool}
 use Rattle.std.proofs.lemmas.List.{drop-drop, length-reverse}
 use Rattle.trac_rules.specs.Limits.{argument_bytes}
 use Rattle.trac_rules.specs.State.{Frame}
-use Rattle.trac_follow.proofs.Counted.{bytes_reversed, last_bytes, next_bytes, none_left}
+use Rattle.trac_follow.proofs.Offsets.{bytes_reversed, last_bytes, next_bytes, none_left}
 use Rattle.trac_follow.proofs.offset.bytes_from.Goals as goal
 
 pub returns-then-is_innermost : goal.returns-then-is_innermost

@@ -1,5 +1,4 @@
-use Rattle.std.proofs.Common.{◌≡◌, ◌-◌, ◌≤◌, true, ap, subst, ◌∙◌, inl, inr}
-use Rattle.std.specs.Prelude.{SomeIff}
+use Rattle.std.proofs.Common.{◌≡◌, ◌-◌, ◌≤◌, true, ap, subst, ◌∙◌, inl, inr, SomeIff}
 use Rattle.trac_follow.specs.Places.{is_in_text, place_of}
 use Rattle.trac_follow.proofs.Staying.{text_before}
 use Rattle.trac_follow.proofs.running.before_run.Goals as goal

@@ -1,5 +1,4 @@
-use Rattle.std.proofs.Common.{◌≡◌, ◌<◌, true, length, sym, ap, subst, inl, inr, arith}
-use Rattle.std.proofs.lemmas.Bool.{ltb-true}
+use Rattle.std.proofs.Common.{◌≡◌, ◌<◌, true, length, sym, ap, subst, inl, inr, arith, ltb-true}
 use Rattle.trac_follow.specs.Places.{is_in_text, place_of}
 use Rattle.trac_follow.specs.Running.{StaysAt}
 use Rattle.trac_follow.proofs.Staying.{held_stays, output_stays, text_stays}

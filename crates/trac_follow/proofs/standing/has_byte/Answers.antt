@@ -1,10 +1,11 @@
-use Rattle.std.proofs.Common.{length, ltb-false}
-use Rattle.std.proofs.lemmas.Bool.{ltb-true}
-use Rattle.trac_follow.proofs.Found.{byte_missing, byte_there}
+use Rattle.std.proofs.Common.{length, ltb-false, arith, ltb-true}
+use Rattle.trac_origins.proofs.Told.{byte_within}
+use Rattle.trac_follow.proofs.Found.{byte_there}
 use Rattle.trac_follow.proofs.standing.has_byte.Goals as goal
 
 pub returns-clause-there : goal.returns-clause-there
 returns-clause-there c = λ test. byte_there c.args.i c.args.text.now (ltb-true c.args.i (length c.args.text.now) test)
 
 pub returns-clause-bare : goal.returns-clause-bare
-returns-clause-bare c = λ test item stands. byte_missing c.args.i c.args.text.now item (ltb-false c.args.i (length c.args.text.now) test) stands
+returns-clause-bare c = λ test item stands.
+    absurd (omega (arith, ltb-false c.args.i (length c.args.text.now) test, byte_within c.args.i c.args.text.now item stands))

@@ -1,11 +1,11 @@
-use Rattle.std.proofs.Common.{◌≡◌, ◌+◌, refl, sym, ap, subst, ◌∙◌, arith}
-use Rattle.std.specs.Prelude.{Some}
+use Rattle.std.proofs.Common.{◌≡◌, ◌+◌, refl, sym, ap, subst, ◌∙◌, arith, Some}
 use Rattle.trac_rules.specs.Session.{Back, repeated}
+use Rattle.trac_rules.specs.State.{State}
 use Rattle.trac_follow.specs.declared.tracing.End as ends
 use Rattle.trac_follow.specs.Following.{IsKnown}
-use Rattle.trac_follow.specs.Places.{place_of}
+use Rattle.trac_follow.specs.Places.{Stands, place_of}
 use Rattle.trac_follow.specs.Tracing.{LeadsTo}
-use Rattle.trac_follow.proofs.Traces.{Way, ends_untold, ends_unkept, known_so, told_before_call, told_of_call, told_so, told_to_the_end, traced_so, way_begins, way_ends, way_goes_on, way_is_long, way_walked}
+use Rattle.trac_follow.proofs.Traces.{Way, ends_untold, ends_unkept, told_before_call, told_of_call, told_so, told_to_the_end, traced_so, way_ends, way_goes_on, way_is_long, way_walked}
 use Rattle.trac_follow.proofs.tracing.trace.Given.{Over}
 use Rattle.trac_follow.proofs.tracing.trace.Goals as goal
 use Rattle.trac_follow.proofs.tracing.trace.Goals.{After-follow_leg-leg, After-lent-here}
@@ -13,15 +13,7 @@ use Rattle.trac_follow.proofs.tracing.trace.Goals.{After-follow_leg-leg, After-l
 -- what is known where the trace begins
 trail_known : (g : Over) (c : After-lent-here g) → IsKnown c.width-width.result c.args.session.now (place_of c.args.place)
 trail_known g c =
-    known_so c.width-width.result c.args.session.now (place_of c.args.place) c.machine.result.now.state c.machine.ensures.last (c.stands.ensures.there c.if-not-stands.false) c.width-width.ensures
-    c.machine.ensures.trail
-
-pub loop-leg-init : goal.loop-leg-init
-loop-leg-init g c = (
-  omega arith,
-  subst (λ p. Way c.width-width.result c.args.session.now c.args.session.now (place_of c.args.place) p 0 0) (sym c.lent-here.ensures) (way_begins c.width-width.result c.args.session.now (place_of c.args.place)),
-  λ known. refl,
-)
+    (c.width-width.ensures, c.machine.ensures.trail, subst (λ (t : State). Stands t (place_of c.args.place)) c.machine.ensures.last (c.stands.ensures.there c.if-not-stands.false))
 
 pub loop-leg-preserved-in-Some : goal.loop-leg-preserved-in-Some
 loop-leg-preserved-in-Some g c =

@@ -1,10 +1,11 @@
-use Rattle.std.proofs.Common.{◌≡◌, sym, ap, subst, ◌∙◌}
-use Rattle.std.specs.Str.{bytes_eq}
+use Rattle.std.proofs.Common.{◌≡◌, sym, ap, ap₂, subst, ◌∙◌, bytes_eq}
 use Rattle.trac_rules.specs.declared.primitive.Computation.{Computation}
 use Rattle.trac_rules.specs.declared.primitive.Computation.TheVariants.{Equal, Greater}
 use Rattle.trac_rules.specs.Effect.{argument}
+use Rattle.trac_rules.specs.Number.{is_greater, numeral_of}
+use Rattle.trac_origins.proofs.ToldValues.{equal_told, greater_told}
 use Rattle.trac_follow.specs.Places.{TellsComputed}
-use Rattle.trac_follow.proofs.ValuesTold.{bits_are, equal_is, greater_is, rest_bits}
+use Rattle.trac_follow.proofs.ValuesTold.{bits_are, decision_is, rest_bits}
 use Rattle.trac_follow.proofs.valued.computed_byte.Goals as goal
 
 pub returns-in-Equal-clause-tells : goal.returns-in-Equal-clause-tells
@@ -13,13 +14,16 @@ returns-in-Equal-clause-tells c =
     c.eq.ensures ∙ ap (λ text. bytes_eq text c.get-in-Equal.result.now) c.get.ensures ∙ ap (bytes_eq (argument 1 c.args.arguments.now)) c.get-in-Equal.ensures in
     subst (λ (k : Computation). TellsComputed k c.args.arguments.now c.args.asked.function c.args.asked.width c.args.asked.byte c.argument_byte.result) (sym c.in-Equal.is)
     (subst (λ told. TellsComputed Equal c.args.arguments.now c.args.asked.function c.args.asked.width c.args.asked.byte told) (sym c.argument_byte.ensures)
-    (equal_is c.args.arguments.now c.args.asked.function c.args.asked.width c.args.asked.byte c.eq.result same c.chosen.result c.chosen.ensures))
+    (decision_is c.args.arguments.now c.args.asked.function c.args.asked.width c.args.asked.byte Equal (λ texts. bytes_eq (argument 1 texts) (argument 2 texts)) equal_told c.eq.result same c.chosen.result c.chosen.ensures))
 
 pub returns-in-Greater-clause-tells : goal.returns-in-Greater-clause-tells
 returns-in-Greater-clause-tells c =
+    let same : c.greater.result ≡ is_greater (numeral_of (argument 1 c.args.arguments.now)) (numeral_of (argument 2 c.args.arguments.now)) =
+    c.greater.ensures
+    ∙ ap₂ is_greater (c.read_tail.ensures.numeral ∙ ap numeral_of c.get-in-Greater.ensures) (c.read_tail-in-Greater.ensures.numeral ∙ ap numeral_of c.get-in-Greater-2.ensures) in
     subst (λ (k : Computation). TellsComputed k c.args.arguments.now c.args.asked.function c.args.asked.width c.args.asked.byte c.argument_byte-in-Greater.result) (sym c.in-Greater.is)
     (subst (λ told. TellsComputed Greater c.args.arguments.now c.args.asked.function c.args.asked.width c.args.asked.byte told) (sym c.argument_byte-in-Greater.ensures)
-    (greater_is c.args.arguments.now c.args.asked.function c.args.asked.width c.args.asked.byte c.has_greater.result c.has_greater.ensures c.chosen-in-Greater.result c.chosen-in-Greater.ensures))
+    (decision_is c.args.arguments.now c.args.asked.function c.args.asked.width c.args.asked.byte Greater (λ texts. is_greater (numeral_of (argument 1 texts)) (numeral_of (argument 2 texts))) greater_told c.greater.result same c.chosen-in-Greater.result c.chosen-in-Greater.ensures))
 
 pub returns-in_default-clause-tells : goal.returns-in_default-clause-tells
 returns-in_default-clause-tells c =

@@ -2,39 +2,36 @@ use Rattle.std.proofs.Common.{length, sym, ap, ◌∙◌}
 use Rattle.std.specs.FinMap as finite
 use Rattle.trac_rules.specs.declared.primitive.FormAction.TheVariants.{Call, Read}
 use Rattle.trac_rules.specs.declared.primitive.Primitive.TheVariants.{Handle}
-use Rattle.trac_follow.proofs.FormCalls.{form_value_told, formless_told, silent_told}
+use Rattle.trac_follow.proofs.FormsTold.{form_value_told, formless_told, silent_told}
 use Rattle.trac_follow.proofs.Giving.{other_silent}
-use Rattle.trac_follow.proofs.NamesTold.{listed_tells}
+use Rattle.trac_follow.proofs.ValuesTold.{listed_tells}
 use Rattle.trac_follow.proofs.valued.handled_byte.Goals as goal
 
 pub returns-in-ListNames-clause-tells : goal.returns-in-ListNames-clause-tells
 returns-in-ListNames-clause-tells g c =
-    listed_tells c.args.before.now.state c.args.asked.width c.args.asked.seen c.args.asked.byte c.args.asked.function (length c.get.result.now) c.args.arguments.now c.requires.call
-    (c.requires.named ∙ ap Handle c.in-ListNames.is) c.requires.number (ap (λ text. length text) c.get.ensures) c.listed_byte.result c.listed_byte.ensures.tells
+    listed_tells c.args.before.now.state c.args.asked.width c.args.asked.seen c.args.asked.byte c.args.arguments.now c.requires.call (c.requires.named ∙ ap Handle c.in-ListNames.is)
+    c.args.asked.function (length c.get.result.now) c.listed_byte.result c.requires.number (ap (λ text. length text) c.get.ensures) c.listed_byte.ensures.tells
 
 pub returns-in-Call-clause-tells : goal.returns-in-Call-clause-tells
 returns-in-Call-clause-tells g c =
-    let s = c.args.before.now.state in
-    form_value_told s c.args.asked.width c.args.asked.seen c.args.asked.byte c.args.asked.function c.called_byte.result c.args.arguments.now (Handle Call) c.in-Some.form.now c.requires.call
-    (c.requires.named ∙ ap Handle c.in-Call.is) c.requires.number
-    (ap (finite.get s.forms) (sym c.get-2.ensures) ∙ ap (λ stored. finite.get stored.forms c.get-2.result.now) (sym c.store.ensures) ∙ sym c.in-Some.ensures.value)
+    form_value_told c.args.before.now.state c.args.asked.width c.args.asked.seen c.args.asked.byte c.args.arguments.now c.requires.call (Handle Call) (c.requires.named ∙ ap Handle c.in-Call.is)
+    c.args.asked.function c.called_byte.result c.in-Some.form.now c.requires.number
+    (ap (finite.get c.args.before.now.state.forms) (sym c.get-2.ensures) ∙ ap (λ stored. finite.get stored.forms c.get-2.result.now) (sym c.store.ensures) ∙ sym c.in-Some.ensures.value)
     (c.called_byte.ensures.tells c.args.asked.width c.args.asked.seen)
 
 pub returns-in-Read-clause-tells : goal.returns-in-Read-clause-tells
 returns-in-Read-clause-tells g c =
-    let s = c.args.before.now.state in
-    form_value_told s c.args.asked.width c.args.asked.seen c.args.asked.byte c.args.asked.function c.read_byte_of.result c.args.arguments.now (Handle (Read c.in-Read.reading)) c.in-Some.form.now c.requires.call
-    (c.requires.named ∙ ap Handle c.in-Read.is) c.requires.number
-    (ap (finite.get s.forms) (sym c.get-2.ensures) ∙ ap (λ stored. finite.get stored.forms c.get-2.result.now) (sym c.store.ensures) ∙ sym c.in-Some.ensures.value)
+    form_value_told c.args.before.now.state c.args.asked.width c.args.asked.seen c.args.asked.byte c.args.arguments.now c.requires.call (Handle (Read c.in-Read.reading)) (c.requires.named ∙ ap Handle c.in-Read.is)
+    c.args.asked.function c.read_byte_of.result c.in-Some.form.now c.requires.number
+    (ap (finite.get c.args.before.now.state.forms) (sym c.get-2.ensures) ∙ ap (λ stored. finite.get stored.forms c.get-2.result.now) (sym c.store.ensures) ∙ sym c.in-Some.ensures.value)
     c.read_byte_of.ensures.tells
 
 pub returns-in_default-get-clause-tells : goal.returns-in_default-get-clause-tells
 returns-in_default-get-clause-tells g c =
-    let s = c.args.before.now.state in
-    formless_told s c.args.asked.width c.args.asked.seen c.args.asked.byte c.args.arguments.now c.args.action c.requires.call c.requires.named c.in_default.not-ListNames
-    (ap (finite.get s.forms) (sym c.get-2.ensures) ∙ ap (λ stored. finite.get stored.forms c.get-2.result.now) (sym c.store.ensures) ∙ sym c.in_default-get.ensures.value)
+    formless_told c.args.before.now.state c.args.asked.width c.args.asked.seen c.args.asked.byte c.args.arguments.now c.requires.call c.args.action c.requires.named c.in_default.not-ListNames
+    (ap (finite.get c.args.before.now.state.forms) (sym c.get-2.ensures) ∙ ap (λ stored. finite.get stored.forms c.get-2.result.now) (sym c.store.ensures) ∙ sym c.in_default-get.ensures.value)
 
 pub returns-in_default-action-clause-tells : goal.returns-in_default-action-clause-tells
 returns-in_default-action-clause-tells g c =
-    silent_told c.args.before.now.state c.args.asked.width c.args.asked.seen c.args.asked.byte c.args.arguments.now c.args.action c.requires.call c.requires.named
+    silent_told c.args.before.now.state c.args.asked.width c.args.asked.seen c.args.asked.byte c.args.arguments.now c.requires.call c.args.action c.requires.named
     (other_silent c.args.action c.in_default.not-ListNames c.in_default-action.not-Call c.in_default-action.not-Read)

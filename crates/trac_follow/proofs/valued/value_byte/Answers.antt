@@ -6,16 +6,16 @@ use Rattle.trac_follow.proofs.valued.value_byte.Goals as goal
 
 pub returns-in-ReadString-clause-tells : goal.returns-in-ReadString-clause-tells
 returns-in-ReadString-clause-tells g c =
-    read_told c.args.before.now.state c.args.asked.width c.args.asked.seen c.args.asked.byte c.read_byte.result c.args.arguments.now c.primitive_named.result c.requires.call
-    (c.primitive_named.ensures ∙ ap primitive_of c.get.ensures) c.in-ReadString.is
+    read_told c.args.before.now.state c.args.asked.width c.args.asked.seen c.args.asked.byte c.args.arguments.now c.requires.call c.primitive_named.result
+    (ap primitive_of (sym c.get.ensures) ∙ sym c.primitive_named.ensures) c.read_byte.result c.in-ReadString.is
     (subst (λ n. ToldAsRead n c.args.asked.byte c.read_byte.result) c.position.ensures c.read_byte.ensures.tells)
 
 pub returns-in-Compute-clause-tells : goal.returns-in-Compute-clause-tells
 returns-in-Compute-clause-tells g c =
-    computed_told c.args.before.now.state c.args.asked.width c.args.asked.seen c.args.asked.byte c.args.asked.function c.computed_byte.result c.args.arguments.now c.in-Compute.computation c.requires.call
-    (ap primitive_of (sym c.get.ensures) ∙ sym c.primitive_named.ensures ∙ c.in-Compute.is) c.requires.number c.computed_byte.ensures.tells
+    computed_told c.args.before.now.state c.args.asked.width c.args.asked.seen c.args.asked.byte c.args.arguments.now c.requires.call c.in-Compute.computation
+    (ap primitive_of (sym c.get.ensures) ∙ sym c.primitive_named.ensures ∙ c.in-Compute.is) c.args.asked.function c.computed_byte.result c.requires.number c.computed_byte.ensures.tells
 
 pub returns-in_default-clause-tells : goal.returns-in_default-clause-tells
 returns-in_default-clause-tells g c =
-    nothing_told c.args.before.now.state c.args.asked.width c.args.asked.seen c.args.asked.byte c.args.arguments.now c.primitive_named.result c.requires.call
+    nothing_told c.args.before.now.state c.args.asked.width c.args.asked.seen c.args.asked.byte c.args.arguments.now c.requires.call c.primitive_named.result
     (ap primitive_of (sym c.get.ensures) ∙ sym c.primitive_named.ensures) c.in_default.not-ReadString c.in_default.not-ReadByte c.in_default.not-Compute c.in_default.not-Handle
