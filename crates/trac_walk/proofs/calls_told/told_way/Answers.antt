@@ -11,4 +11,4 @@ returns g c =
     let way = c.trace-found.new.witness in
     let calls = way_of c.args.walker.now.window.session (place_of c.args.place) found.steps in
     subst (λ step. AreTold step calls found.end way) c.step.ensures
-    (are_told c.step.result _ calls found.steps found.end _ way (nothing_told c.step.result _ refl refl c.new.ensures.items) c.trace-found.ensures)
+    (are_told c.step.result _ calls found.steps found.end _ way (nothing_told c.step.result _ refl refl c.new.ensures.items) c.trace-found.ensures.told)
