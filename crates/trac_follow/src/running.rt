@@ -66,8 +66,9 @@ fn further_on(text: &[u8], count: u64, i: usize) -> usize
 
 // ---- steps that leave the rest of the active text
 
-// Where a byte of the active text stood before the next step of a machine, after which that text is so long: as far
-// from its end, if the step did not put it there. None too if that would be the first byte, which the step takes.
+// Where a byte of the active text stood before the next step of a machine: as far from the end. After that step the
+// text is so long. None if the step put the byte there, if the byte stood first, which the step takes, or if there is
+// no such byte.
 pub(crate) fn before_in_active<'a, E: TwoEnds<u8, A>, M: TwoEnds<Mark, A>, A: Allocator + Copy>(
     before: &Core<E, M, A>,
     left: usize,

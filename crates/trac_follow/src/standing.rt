@@ -97,7 +97,7 @@ fn argument_len<E: TwoEnds<u8, A>, M: TwoEnds<Mark, A>, A: Allocator + Copy>(
     }
 }
 
-// Whether a form has such an item; without one there is none.
+// Whether there is a form here, and it has an item of this number.
 fn has_item<A: Allocator + Copy>(form: Option<&Form<A>>, i: usize) -> bool
     ensures there { IsTrue result → (item : Item) × (slice_get (items_of (option_copied form.entry)) i ≡ Some item) }
     ensures bare { result ≡ false → (item : Item) → slice_get (items_of (option_copied form.entry)) i ≡ Some item → ⊥ }

@@ -94,6 +94,7 @@ impl Before {
         if active.len() > self.active {
             return active.split_at(active.len() - self.active).0;
         }
+        // The text that the call stood in is now the one that is gathered.
         let around = match &sight.begun {
             Some((_, arguments)) => last_of(arguments),
             None => sight.around,

@@ -41,7 +41,7 @@ pub fn gives_nothing<A: Allocator + Copy>(sight: &Sight<'_, A>) -> bool {
             action,
             FormAction::Call | FormAction::Read(_) | FormAction::ListNames
         ),
-        // an unknown name is no primitive's
+        // the others may give a value or halt; an unknown name is no primitive's, though its value is empty
         _ => false,
     }
 }

@@ -181,18 +181,20 @@ fn output_into<A: Allocator + Copy>(
     out: &mut Vec<u8, A>,
 ) -> Result<(), AllocError> {
     let mut rest = last_lines(tail(output, OUTPUT_BYTES));
-    // whether they begin within a line
+    // whether these lines begin within a line of the output
     let start = output.len() - output.len().min(rest.len());
     let before = output.split_at(start).0;
-    let is_cut = before.last().is_some_and(|byte| *byte != LINE_FEED);
+    let within_line = before.last().is_some_and(|byte| *byte != LINE_FEED);
     for row in 0..OUTPUT_ROWS {
         let label: &[u8] = if row == 0 { b"output  " } else { b"        " };
         let mut line = labelled(alloc, label)?;
         let (text, others) = rest.split_at(line_len(rest));
-        let mut shown = Vec::new(alloc);
-        escaped_into(text, &mut shown)?;
-        let is_cut = row == 0 && is_cut;
-        end_of_into(shown.as_slice(), OUTPUT_WIDTH, is_cut, &mut line)?;
+        {
+            let mut shown = Vec::new(alloc);
+            escaped_into(text, &mut shown)?;
+            let is_cut = row == 0 && within_line;
+            end_of_into(shown.as_slice(), OUTPUT_WIDTH, is_cut, &mut line)?;
+        }
         line.end_into(out)?;
         if others.is_empty() {
             return Ok(());

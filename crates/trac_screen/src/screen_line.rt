@@ -129,6 +129,7 @@ impl<A: Allocator + Copy> ScreenLine<A> {
         if self.bytes.len() <= columns {
             return Ok(());
         }
+        // the line ends before a byte that is shown by four, and not within it
         let most = columns.saturating_sub(CUT.len());
         let place = shown_by_four(self.bytes.as_slice(), most).unwrap_or(most);
         self.bytes.truncate(place);
@@ -189,7 +190,7 @@ pub fn shown_tail(shown: &[u8], most: usize) -> &[u8] {
     shown.split_at(shown.len().min(from)).1
 }
 
-// Where the byte begins that is shown by four, if a text of shown bytes is cut within one at this place.
+// Where a byte begins that is shown by four, if a cut at this place of a text of shown bytes would go through it.
 fn shown_by_four(shown: &[u8], place: usize) -> Option<usize> {
     for back in 1..4 {
         if back <= place && shown.get(place - back) == Some(&b'\\') {

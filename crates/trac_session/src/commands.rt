@@ -21,13 +21,13 @@ pub enum Command<'a> {
     /// Go forward by one step. Refused as `JournalFull` if the session keeps as many earlier states as its limit
     /// allows. Else as `NeedInput`, or after `End` as `Ended`, if the step reads input that is not there, and as
     /// `Ended` if it performs `hl`. Else as `TooLong` if the next state passes a limit, and as `Memory` if there is not
-    /// enough.
+    /// enough memory.
     Step,
     /// Go back over the last step. Refused as `AtStart` if no earlier state is kept.
     Back,
     /// Keep the last state and this many before it, or all if there are fewer, and forget the older ones. Each kept
     /// state loses from its output what the first kept state had printed, and the tape loses what that state had read.
-    /// To save that output, carry out the commands before in a list of their own, and then call
+    /// To save that output, carry out the commands before this one in a list of their own, and then call
     /// `Session::pending_before`. Never refused.
     Commit(usize),
 }

@@ -11,13 +11,16 @@ impl<A: Allocator + Copy> Telling<'_, A> {
     /// A line for each of the last calls of the program's own, the earliest first. It has the number of the step of the
     /// call, the call, and its value, cut to the screen unless they are wanted whole. It also says whether the value is
     /// its default argument. To find the calls it goes back, and then forward again to where it was. If a step is
-    /// refused on the way, for memory alone, the lines end there, and it says why; if that is refused too, it stands
-    /// there. Last it says where the walker stands. The error is that memory was refused for the lines, or to search a
-    /// form for the text of `in`, here and below.
+    /// refused on the way, for memory alone, the lines end there, and it says why. If a step forward again is refused
+    /// too, it stays there. Last it says where the walker stands. The error is that memory was refused for the lines,
+    /// or to search a form for the text of `in`, here and below.
     pub(crate) fn calls_into(&mut self, count: u64, is_whole: bool) -> Result<(), AllocError> {
         let end = self.walker.step();
-        let mut steps = Vec::new(self.alloc);
-        let met = self.lines_into(count, is_whole, &mut steps)?;
+        // The numbers of the steps are freed before it says why: that takes memory too, which may be scarce.
+        let met = {
+            let mut steps = Vec::new(self.alloc);
+            self.lines_into(count, is_whole, &mut steps)?
+        };
         let left = end.saturating_sub(self.walker.step());
         let ahead = self.walker.forward(left);
         if let Some(refusal) = met.or(ahead) {
@@ -57,8 +60,8 @@ impl<A: Allocator + Copy> Telling<'_, A> {
         let mut call = line_of(self.alloc, is_whole);
         let depth = self.walker.glance().depth;
         call_into(self.walker.step(), depth, &self.walker.sight(), &mut call)?;
-        let default = takes_default(&self.walker.sight(), self.walker.width());
-        let is_default = default.map_err(|_| AllocError)?;
+        let taken = takes_default(&self.walker.sight(), self.walker.width());
+        let is_default = taken.map_err(|_| AllocError)?;
         let before = Before::of(&self.walker.sight(), is_default);
         let why = self.walker.forward(1);
         let mut outcome = line_of(self.alloc, is_whole);

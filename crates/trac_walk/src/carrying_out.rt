@@ -171,8 +171,8 @@ fn over_back<A: Allocator + Copy>(walker: &mut Walker<A>) -> Option<Stop> {
 }
 
 // Back to the beginning of a function whose value ends at this step, that of the earliest if there are several. What is
-// left to scan here was left after the `)` that ended it, and until here no less was left. If none is met, that is
-// known from the first step on that is kept.
+// left to scan here was left after the `)` that ended it, and until here no less was left. If none is met, that holds
+// only since the first step that is kept.
 fn to_beginning<A: Allocator + Copy>(walker: &mut Walker<A>, here: u64) -> Option<Stop> {
     let rest = walker.glance().rest;
     let unmet = match walker.return_to(Aim::Rest(rest)) {
@@ -188,6 +188,7 @@ fn to_beginning<A: Allocator + Copy>(walker: &mut Walker<A>, here: u64) -> Optio
     };
     for _ in walker.step()..here {
         let now = walker.glance();
+        // A call takes its `)`, so after it one byte less is left.
         if now.performs && now.rest.saturating_sub(1) == rest {
             return stop_back(walker.return_to(Aim::Shallower(now.depth)));
         }

@@ -95,7 +95,8 @@ fn first_byte<'p>(function: usize, argument: usize) -> Place<'p> {
 }
 
 // Where a byte comes from, to which the walker has gone back. For a byte of the idle program that is the text that it
-// reads, from the first byte on that is no blank and no line end.
+// reads. That text begins at the first unread byte that is no blank and no line end, or at the next one if there is
+// none.
 fn written_at<A: Allocator + Copy>(walker: &Walker<A>, program: &[u8], end: End) -> Origin {
     if !is_idle(walker, &end) {
         return origin_of(walker, program, end);

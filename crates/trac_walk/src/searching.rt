@@ -38,8 +38,8 @@ struct Leg {
 }
 
 impl Room {
-    // How a search by so many steps at most goes on after so many: over those that are left of the steps that are kept,
-    // whose records may weigh more, or else over all that are left.
+    // How a search by so many steps at most goes on after so many. If some of the steps that are kept are left, it goes
+    // over those, and their records may weigh more. Else it goes over all that are left.
     fn second_leg(self, done: u64, most: u64) -> Leg
         requires { done ≤ most }
         ensures kept { done < min most self.steps →
