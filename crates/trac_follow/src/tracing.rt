@@ -1,6 +1,6 @@
 //! Following a byte back to where it comes from, past each call that passed it on. A call passes a byte on if it takes
-//! it from one of its arguments, or from a block to a form. It does so too if it takes the byte from a form to the
-//! call's value, to the output or to a block.
+//! it from one of its arguments to another place. So it does from a block to a form, and from a form to its value, the
+//! output or a block.
 ghost use Rattle.std.specs.Prelude.{◌≡◌, ◌≤◌, [], ⊤, IfErr, IfNone, IfOk, IfSome, MatchOption, OnErr, OnOk, Some};
 ghost use Rattle.trac_follow.specs.Following.{IsFollowed, IsKnown};
 ghost use Rattle.trac_follow.specs.Kept.{IsFormless, named};
@@ -30,8 +30,8 @@ pub trait Witness<A: Allocator + Copy> {
     /// Told of a call that passed the byte on, the latest call first. `machine` is about to perform the call, `steps`
     /// steps before the state where the trace begins.
     ///
-    /// `from` is the place in a later state from which the byte was followed to this call. At the first telling, the
-    /// trace begins there. At each other, the call of the telling before took the byte from there.
+    /// `from` is the place in a later state from which the byte was followed to this call. At the first telling it is
+    /// the place that `trace` was given. Later it is the place from which the call told before had taken the byte.
     ///
     /// If the witness answers the error, for want of memory or because it has heard enough, the trace ends.
     fn passed(
@@ -61,8 +61,8 @@ pub enum End {
     /// The step that comes next made it.
     Made,
     /// The call that comes next passed it on, and the witness was told of that. But the call took it from a form whose
-    /// name has more than 256 bytes, and the trace could not keep that name. Either no more owners of the name can be
-    /// counted, or the store does not know it. The latter can be only if the form is in a block.
+    /// name has more than 256 bytes, and the trace could not keep that name. Either the name has the most owners that
+    /// can be counted, or the form is in a block and the store lacks its name.
     Unkept,
     /// The call that comes next passed it on, and the witness refused to be told of that.
     Untold,
@@ -103,6 +103,7 @@ pub fn trace<A: Allocator + Copy, W: Witness<A>>(
     if !stands(session.machine(), place) {
         return ended(0, End::Nothing);
     }
+    // It is the same on all legs, and asked once.
     let width = session.width();
     let mut here = KeptPlace::lent(place);
     let mut steps = 0;

@@ -71,7 +71,7 @@ impl<A: Allocator + Copy> Form<A> {
                 pointer: self.pointer(),
             });
         }
-        // `len` is called for its clause that forms are short. So a count too great for a length reads all bytes.
+        // The contract of `len` says that forms are short. So a count too great for a length reads all bytes.
         let _items = self.len();
         // The least number has no negative: it is as many bytes as its absolute value says.
         let count = n.unsigned_abs().min(usize::MAX as u128) as usize;

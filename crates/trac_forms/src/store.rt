@@ -76,8 +76,7 @@ impl<A: Allocator + Copy> Store<A> {
         }
     }
 
-    /// The name of each form is known, of every store. It does nothing: it is called for what it
-    /// says.
+    /// Says that the store knows the name of each of its forms. It takes no memory, and changes nothing.
     pub fn knows_its_forms(&self)
         ensures { KnowsAll self.now.known self.now.forms }
     {
@@ -88,7 +87,7 @@ impl<A: Allocator + Copy> Store<A> {
     pub fn form_count(&self) -> usize
         ensures { result ≡ finite.len self.now.forms }
     {
-        // `len` is called for its clause that no key stands twice.
+        // The contract of `len` says that no key stands twice.
         let _len = self.table.len();
         self.live
     }
@@ -254,7 +253,7 @@ impl<A: Allocator + Copy> Store<A> {
     pub fn sweep(&mut self)
         ensures { self.new ≡ swept self.old }
     {
-        // `len` is called for its clause that no key stands twice.
+        // The contract of `len` says that no key stands twice.
         let _len = self.table.len();
         self.table.truncate(self.live);
     }
@@ -361,7 +360,7 @@ fn put_at<K: Eq + Hash, V, S: BuildHasher, A: Allocator>(
     ensures put { IsPermutation (set_value_at table.old.entries i (Some value)) table.new.entries }
     ensures parted { IsParted table.new.entries live.new }
 {
-    // `len` is called for its clause that it is small.
+    // The contract of `len` says that the table is small.
     let _len = table.len();
     let replaced = table[i].replace(value);
     if replaced.is_none() {
@@ -492,7 +491,7 @@ impl<A: Allocator + Copy> Store<A> {
         ensures { MatchOption result (listed_len text (names_of self.now.forms) ≤ i)
             (IsListed (names_of self.now.forms) text i) }
     {
-        // `len` is called for its clause that no key stands twice.
+        // The contract of `len` says that no key stands twice.
         let _len = self.table.len();
         byte_in_list(&self.table, text, i)
     }

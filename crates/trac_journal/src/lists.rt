@@ -124,7 +124,7 @@ impl<A: Allocator + Copy> Lists<A> {
         ensures { HasMore result (CallOf (record_with called arguments.now (undone_in undone))) self.old.listed
             self.new.listed }
     {
-        // `len` is called for what it says: there are no more items than places.
+        // The contract of `len` says that there are no more items than places.
         let _bytes = self.bytes.len();
         let _commas = self.commas.len();
         let joined = arguments.joined();

@@ -26,8 +26,8 @@ pub enum Command<'a> {
     /// Go back over the last step. Refused as `AtStart` if no earlier state is kept.
     Back,
     /// Keep the last state and this many before it, or all if there are fewer, and forget the older ones. Each kept
-    /// state loses from its output what the first kept state had printed, and the tape loses what that state had read.
-    /// To save that output, carry out the commands before this one in a list of their own, and then call
+    /// state loses from its output what the first kept state had printed, and the tape loses what that first state had
+    /// read. To save that output, carry out the commands before this one in a list of their own, and then call
     /// `Session::pending_before`. Never refused.
     Commit(usize),
 }

@@ -169,7 +169,7 @@ impl<A: Allocator + Copy> Session<A> {
             self.journal.clear();
             return;
         }
-        // `len` is called for what it says: the sums of what was printed are no longer than the output, and fit a word.
+        // The contract of `len` says that the output's length fits a word. The sums of what was printed are no greater.
         let _len = self.machine.output().len();
         // What is released is told by the records that are dropped, since the first state of a session has no output
         // and has read nothing.

@@ -37,9 +37,9 @@ impl<E: TwoEnds<u8, A>, M: TwoEnds<Mark, A>, A: Allocator + Copy> Core<E, M, A> 
     /// A step of scanning asks for no memory if the machine has room for the state after it. The step from an empty
     /// active text is the exception: it copies the neutral text into its record, and loads the idle program.
     ///
-    /// No step, not even a refused one, lessens the machine's room. After an accepted step there is room for the state
-    /// before it. A name that the store knows stays known, even if the step deletes its form: so the form can return
-    /// without memory.
+    /// The machine's room is the memory that it holds for its texts, marks and output. No step, not even a refused one,
+    /// lessens it. After an accepted step there is room for the state before it. A name that the store knows stays
+    /// known, even if the step deletes its form: so the form can return without memory.
     ///
     /// The tape must have at least `position()` bytes: those that were read, and that `release` has not dropped.
     pub fn step(&mut self, tape: Tape<'_>) -> Result<Record<A>, Refusal>
@@ -124,8 +124,8 @@ impl<E: TwoEnds<u8, A>, M: TwoEnds<Mark, A>, A: Allocator + Copy> Core<E, M, A> 
         self.move_step(front)
     }
 
-    // The same, with its record added to the journal. Scanning can pass one limit alone, that on marks: each argument
-    // of a begun function has a mark. `move_fits` checks this limit, here and in `move_step`.
+    // As `next_step`, but the record is added to the journal. Scanning can pass one limit alone, that on marks: each
+    // argument of a begun function has a mark. `move_fits` checks this limit, here and in `move_step`.
     #[inline(always)]
     fn next_step_into(
         &mut self,

@@ -71,8 +71,7 @@ fn move_out<A: Allocator + Copy>(store: &mut Store<A>, arguments: &Args<'_>, old
         unreachable!()
     };
     swap(store, name, old);
-    // `len` is called for its clause that no name stands twice in a block. So its forms may be put from the last one
-    // on.
+    // The contract of `len` says that no name stands twice in a block. So its forms may be put from the last one on.
     let _len = block.len();
     while let Some((name, form)) = block.pop() {
         store.put(name.as_slice(), form);

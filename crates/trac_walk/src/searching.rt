@@ -174,7 +174,7 @@ fn walk_near<A: Allocator + Copy>(
     ensures kept { weights_from session.old.earlier ≤ room.light → IsAsNear room.weight
         (goal_of_aim aim.entry) (min most room.steps) most session.old (found_by result.done result.why) session.new }
 {
-    // while the records weigh little there is no difference between the steps that are kept and others
+    // While the records weigh little, there is no difference between the steps that are kept and others.
     let leg = Leg {
         most: most.min(room.steps),
         weight: room.light,
