@@ -35,6 +35,15 @@ named_primitive (Some entry) = entry.primitive
 abbrev pub looked_up : List NamedPrimitive → List ℕ → Primitive
 looked_up table name = named_primitive (find (λ entry. str_eq_ignore_ascii_case name entry.letters) table)
 
+-- the names of the primitives
+abbrev pub known_names : List (List ℕ)
+known_names =
+    codes "ps" ∷ codes "rs" ∷ codes "rc" ∷ codes "hl" ∷ codes "cm" ∷ codes "tn" ∷ codes "tf" ∷ codes "eq" ∷
+    codes "gr" ∷ codes "ad" ∷ codes "su" ∷ codes "ml" ∷ codes "dv" ∷ codes "bu" ∷ codes "bi" ∷ codes "bc" ∷
+    codes "bs" ∷ codes "br" ∷ codes "ds" ∷ codes "dd" ∷ codes "da" ∷ codes "ss" ∷ codes "cr" ∷ codes "cl" ∷
+    codes "cs" ∷ codes "cc" ∷ codes "cn" ∷ codes "in" ∷ codes "ln" ∷ codes "pf" ∷ codes "sb" ∷ codes "fb" ∷
+    codes "eb" ∷ []
+
 -- what a name stands for; an unknown name is no primitive's
 abbrev pub primitive_of : List ℕ → Primitive
 primitive_of name = looked_up NAMES name

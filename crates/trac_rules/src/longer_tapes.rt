@@ -21,3 +21,10 @@ pub fn steps_do_not_see_more_input()
         tape.ended ≡ false → ¬ (step (over width tape) s ≡ Err NeedInput) →
         step (over width (whole tape more)) s ≡ step (over width tape) s }
 {}
+
+/// Only a tape that has not ended makes a step wait for input.
+#[tactic(auto, using(crate::proofs::Refusals::wants_input_of_open))]
+pub fn only_open_tapes_make_a_step_wait()
+    ensures { (width : Width) (tape : Tape) (s : State) →
+        step (over width tape) s ≡ Err NeedInput → tape.ended ≡ false }
+{}

@@ -1,6 +1,8 @@
 //! What the names of the primitives stand for.
-ghost use Rattle.std.specs.Prelude.{◌≡◌, [], codes, false, true};
-ghost use Rattle.trac_rules.specs.Performing.{primitive_of};
+ghost use Rattle.std.specs.Prelude.{◌≡◌, List, [], codes, false, map, true, ℕ};
+ghost use Rattle.std.specs.List.{list_any};
+ghost use Rattle.std.specs.Str.{str_eq_ignore_ascii_case};
+ghost use Rattle.trac_rules.specs.Performing.{known_names, primitive_of};
 ghost use Rattle.trac_rules.specs.declared.primitive.BlockAction.TheVariants.{EraseBlock, FetchBlock, StoreBlock};
 ghost use Rattle.trac_rules.specs.declared.primitive.Computation.TheVariants.{Calculate, Complement, Equal, Greater};
 ghost use Rattle.trac_rules.specs.declared.primitive.Computation.TheVariants.{Meet, Rotate, Shift, Union};
@@ -13,6 +15,7 @@ ghost use Rattle.trac_rules.specs.declared.primitive.Operation.TheVariants.{Add,
 ghost use Rattle.trac_rules.specs.declared.primitive.Primitive.TheVariants.{Compute, Halt, Handle, HandleBlock};
 ghost use Rattle.trac_rules.specs.declared.primitive.Primitive.TheVariants.{PrintString, ReadByte, ReadString, SetMeta};
 ghost use Rattle.trac_rules.specs.declared.primitive.Primitive.TheVariants.{SetTrace, Unknown};
+ghost use Rattle.trac_rules.specs.declared.primitive.TheConstants.{NAMES};
 
 /// What a name stands for. Each letter of a primitive's name may be in either case (this project's profile).
 #[derive(Clone, Copy, Debug, PartialEq, Eq)]
@@ -217,4 +220,8 @@ pub fn names_stand_for()
     ensures blank_before { primitive_of (codes " ps") ≡ Unknown }
     ensures blank_after { primitive_of (codes "ps ") ≡ Unknown }
     ensures other { primitive_of (codes "zz") ≡ Unknown }
+    // There are no other names.
+    ensures all { map (λ entry. entry.letters) NAMES ≡ known_names }
+    ensures others { (name : List ℕ) → list_any (str_eq_ignore_ascii_case name) known_names ≡ false →
+        primitive_of name ≡ Unknown }
 {}

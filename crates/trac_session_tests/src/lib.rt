@@ -42,6 +42,8 @@ mod memory;
 #[cfg(test)]
 mod programs;
 #[cfg(test)]
+mod quiet;
+#[cfg(test)]
 mod sessions;
 #[cfg(test)]
 mod shown;
