@@ -8,6 +8,6 @@ pub mod later;
 pub mod undone;
 mod weighing;
 
-pub use change::Change;
+pub use change::{Change, UnnamedChange};
 pub use later::{LaterArguments, after};
 pub use undone::Undone;

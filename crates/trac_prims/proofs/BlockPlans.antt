@@ -45,16 +45,15 @@ module _ (name : List ℕ) (names : List (List ℕ)) (storage : Storage) where
       (λ i. record { forms = without-again names storage.forms i; blocks = storage.blocks ++ Some (moved_out-again names storage.forms i) ∷ [] })
 
   -- all is within the limits
-  pub stored_so : (held : List (List ℕ)) (key : List ℕ) (address : Form) → held ≡ names_in (moved_out names storage.forms) → key ≡ name → address ≡ defined (decimal (length storage.blocks)) →
+  pub stored_so : (held : List (List ℕ)) (address : Form) → held ≡ names_in (moved_out names storage.forms) → address ≡ defined (decimal (length storage.blocks)) →
       length held ≤ FORM_COUNT_LIMIT → length storage.blocks < BLOCK_LIMIT → may_be_put name (defined (decimal (length storage.blocks))) (without names storage.forms) ≡ true →
-      storing name names storage ≡ Ok (leaves (with_form key address (put_aside held storage)))
-  stored_so held key address is called addresses few more may =
+      storing name names storage ≡ Ok (leaves (with_form name address (put_aside held storage)))
+  stored_so held address is addresses few more may =
       let count : length held ≡ length (moved_out names storage.forms) = ap (λ (ns : List (List ℕ)). length ns) is ∙ length-map (moved_out names storage.forms) (λ entry. entry.0) in
       rw (le-leb (length (moved_out names storage.forms)) FORM_COUNT_LIMIT (omega (arith, few, count)), le-leb (length storage.blocks + 1) BLOCK_LIMIT (omega (arith, more)), may) (
       ap (λ (s : Storage). Ok (leaves (with_form name (defined (decimal (length storage.blocks))) s))) (sym put_aside-again)
       ∙ ap (λ (ns : List (List ℕ)). Ok (leaves (with_form name (defined (decimal (length storage.blocks))) (put_aside ns storage)))) (sym is)
-      ∙ ap (λ (n : List ℕ). Ok (leaves (with_form n (defined (decimal (length storage.blocks))) (put_aside held storage)))) (sym called)
-      ∙ ap (λ (f : Form). Ok (leaves (with_form key f (put_aside held storage)))) (sym addresses))
+      ∙ ap (λ (f : Form). Ok (leaves (with_form name f (put_aside held storage)))) (sym addresses))
 
 -- how many forms are left when those of these names have gone, and whether one is left under a name
 module _ (names held : List (List ℕ)) (forms : Forms) (is : held ≡ names_in (moved_out names forms)) where

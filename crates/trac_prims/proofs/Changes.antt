@@ -16,7 +16,7 @@ use Rattle.trac_rules.specs.Handling.{keeping, without}
 use Rattle.trac_rules.specs.State.{Forms, Storage}
 use Rattle.trac_rules.specs.Undone.{MoveOut, names_in}
 use Rattle.trac_rules.proofs.NamedForms.{only_equal_tie}
-use Rattle.trac_change.specs.declared.change.Change.TheVariants.{MoveIn}
+use Rattle.trac_change.specs.declared.change.UnnamedChange.TheVariants.{MoveIn}
 use Rattle.trac_change.specs.Changes.{IsChangeOf}
 use Rattle.trac_change.specs.Changed.{pointed}
 use Rattle.trac_text.specs.Framing.{texts_of}
@@ -48,13 +48,11 @@ pointer_stays name form storage there =
 
 -- ---- forms that leave
 
-module _ {A : Type 0} (arguments : List (List ℕ)) (storage : Storage) where
-  pub moves_in : (held : Vec (Vec ℕ A) A) (name : Vec ℕ A) (address : Form) → name.items ≡ argument 1 arguments →
-      texts_of held.items ≡ names_in (moved_out (drop 2 arguments) storage.forms) → IsChangeOf (HandleBlock StoreBlock) arguments storage (MoveIn held name address)
-  moves_in held name address named are = record {
-    undone_is =
-        ap (λ (ns : List (List ℕ)). MoveOut (finite.get (without ns storage.forms) name.items)) are
-        ∙ ap (λ (forms : Forms). MoveOut (finite.get forms name.items)) (without-again (drop 2 arguments) storage.forms)
-        ∙ ap (λ (n : List ℕ). MoveOut (finite.get (without (drop 2 arguments) storage.forms) n)) named;
-    names_are = (named, are);
-  }
+pub moves_in : {A : Type 0} (arguments : List (List ℕ)) (storage : Storage) (held : Vec (Vec ℕ A) A) (address : Form) →
+    texts_of held.items ≡ names_in (moved_out (drop 2 arguments) storage.forms) → IsChangeOf (HandleBlock StoreBlock) arguments storage (MoveIn held address)
+moves_in arguments storage held address are = record {
+  undone_is =
+      ap (λ (ns : List (List ℕ)). MoveOut (finite.get (without ns storage.forms) (argument 1 arguments))) are
+      ∙ ap (λ (forms : Forms). MoveOut (finite.get forms (argument 1 arguments))) (without-again (drop 2 arguments) storage.forms);
+  pieces_are = are;
+}

@@ -5,11 +5,15 @@ use Rattle.trac_forms.specs.declared.error.FormError.{FormError}
 use Rattle.trac_forms.specs.declared.error.FormError.TheVariants.{Memory as NoMemory, TooLong as LongForm}
 use Rattle.trac_forms.specs.Outcomes.{MayRefuseForm, as_refusal}
 use Rattle.trac_rules.specs.declared.refusal.Refusal.TheVariants.{TooLong}
-use Rattle.trac_rules.specs.Effect.{leaves}
+use Rattle.trac_rules.specs.declared.primitive.FormAction.TheVariants.{Read}
+use Rattle.trac_rules.specs.declared.primitive.FormReading.{FormReading}
+use Rattle.trac_rules.specs.declared.width.Width.{Width}
+use Rattle.trac_rules.specs.Effect.{argument, leaves}
 use Rattle.trac_rules.specs.Form.{Form, defined}
-use Rattle.trac_rules.specs.Handling.{on_form, putting}
+use Rattle.trac_rules.specs.Handling.{default_argument, form_read, gives_piece, handled, named_form, on_form, piece_read, putting}
 use Rattle.trac_rules.specs.Limits.{may_be_put}
 use Rattle.trac_rules.specs.Outcomes.{limited}
+use Rattle.trac_rules.specs.Pieces.{Piece}
 use Rattle.trac_rules.specs.Segmenting.{segmented}
 use Rattle.trac_rules.specs.State.{Storage}
 use Rattle.trac_prims.specs.Effects.{MayFail, pieces_fit}
@@ -35,3 +39,11 @@ module _ (name : List ℕ) (texts : List (List ℕ)) (held : Option Form) (form 
       ap (λ h. on_form h (λ f. putting name (segmented texts f) storage) storage) there
       ∙ is_put name (segmented texts form) storage may
       ∙ ap (λ h. Ok (leaves (cut_in name texts h storage))) (sym there)
+
+-- a form is there, and this is what is read of it
+pub form_is_read : (reading : FormReading) (width : Width) (arguments : List (List ℕ)) (storage : Storage) (form : Form) (piece : Option Piece) →
+    named_form arguments storage ≡ Some form → piece ≡ piece_read reading width arguments form →
+    handled (Read reading) width arguments storage ≡ Ok (gives_piece piece (default_argument reading arguments) (argument 1 arguments) form storage)
+form_is_read reading width arguments storage form piece there is =
+    ap (λ held. on_form held (λ f. Ok (form_read reading width arguments f storage)) storage) there
+    ∙ ap (λ p. Ok (gives_piece p (default_argument reading arguments) (argument 1 arguments) form storage)) (sym is)

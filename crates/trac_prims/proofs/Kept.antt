@@ -14,8 +14,8 @@ use Rattle.trac_rules.specs.Reading.{byte_read, rest_read}
 use Rattle.trac_rules.specs.State.{Storage}
 use Rattle.trac_rules.specs.Undone.{Nothing, undone_by}
 use Rattle.trac_rules.proofs.Outcomes.{limited_beyond}
-use Rattle.trac_change.specs.declared.change.Change.{Change}
-use Rattle.trac_change.specs.declared.change.Change.TheVariants.{Keep}
+use Rattle.trac_change.specs.declared.change.UnnamedChange.{UnnamedChange}
+use Rattle.trac_change.specs.declared.change.UnnamedChange.TheVariants.{Keep}
 use Rattle.trac_prims.specs.declared.effect.Deed.{Deed}
 use Rattle.trac_prims.specs.declared.effect.Made.{Made}
 use Rattle.trac_change.specs.Changes.{IsChangeOf}
@@ -24,7 +24,7 @@ use Rattle.trac_change.specs.Changed.{changed}
 
 module _ {A : Type 0} (arguments : List (List ℕ)) (storage : Storage) (old new : Made A) where
   -- the texts are longer by those of an effect, and all else is as it says
-  pub as_said : (e : Effect) (change : Change A) (d : Deed) → new.value.items ≡ old.value.items ++ e.value → new.print.items ≡ old.print.items ++ e.printed →
+  pub as_said : (e : Effect) (change : UnnamedChange A) (d : Deed) → new.value.items ≡ old.value.items ++ e.value → new.print.items ≡ old.print.items ++ e.printed →
       changed arguments change storage ≡ e.storage → d ≡ record { forced = e.forced; read = e.read; meta = e.meta; trace = e.trace } →
       IsDone arguments storage (Ok e) old new change (Ok d)
   as_said e change d value printed left is =
@@ -45,24 +45,24 @@ module _ {A : Type 0} (arguments : List (List ℕ)) (storage : Storage) (old new
 
 module _ {A : Type 0} (arguments : List (List ℕ)) (storage : Storage) (made : Made A) where
   -- nothing is made
-  pub left_so : (e : Effect) (change : Change A) (d : Deed) → e.value ≡ [] → e.printed ≡ [] → changed arguments change storage ≡ e.storage →
+  pub left_so : (e : Effect) (change : UnnamedChange A) (d : Deed) → e.value ≡ [] → e.printed ≡ [] → changed arguments change storage ≡ e.storage →
       d ≡ record { forced = e.forced; read = e.read; meta = e.meta; trace = e.trace } → IsDone arguments storage (Ok e) made made change (Ok d)
   left_so e change d none silent left is =
       as_said arguments storage made made e change d (sym (append-nil made.value.items) ∙ ap (λ text. made.value.items ++ text) (sym none))
       (sym (append-nil made.print.items) ∙ ap (λ text. made.print.items ++ text) (sym silent)) left is
 
   -- a change, and no more
-  pub changed_so : {outcome : Result Effect Refusal} {d : Deed} (change : Change A) → outcome ≡ Ok (leaves (changed arguments change storage)) → d ≡ nothing →
+  pub changed_so : {outcome : Result Effect Refusal} {d : Deed} (change : UnnamedChange A) → outcome ≡ Ok (leaves (changed arguments change storage)) → d ≡ nothing →
       IsDone arguments storage outcome made made change (Ok d)
   changed_so {outcome} {d} change said is =
       subst (λ o. IsDone arguments storage o made made change (Ok d)) (sym said)
       (left_so (leaves (changed arguments change storage)) change d refl refl refl is)
 
 -- nothing is destroyed where the forms stay
-pub keeps_so : {A : Type 0} (primitive : Primitive) (arguments : List (List ℕ)) (storage : Storage) (change : Change A) (result : Result Deed Refusal) →
+pub keeps_so : {A : Type 0} (primitive : Primitive) (arguments : List (List ℕ)) (storage : Storage) (change : UnnamedChange A) (result : Result Deed Refusal) →
     undone_by primitive arguments storage ≡ Nothing → change ≡ Keep → OnOk result (IsChangeOf primitive arguments storage change)
 keeps_so primitive arguments storage change (Ok d) none kept =
-    subst (λ (c : Change _). IsChangeOf primitive arguments storage c) (sym kept) (record { undone_is = sym none; names_are = tt })
+    subst (λ (c : UnnamedChange _). IsChangeOf primitive arguments storage c) (sym kept) (record { undone_is = sym none; pieces_are = tt })
 keeps_so primitive arguments storage change (Err refusal) none kept = tt
 
 -- the first byte of what is left to read

@@ -9,7 +9,6 @@ pub mod ComingBack
 pub mod Listed
 pub mod Held
 pub mod Changes
-pub mod Given
 pub mod Fitting
 pub mod ReadCounts
 pub mod Slots

@@ -15,7 +15,7 @@ use Rattle.trac_rules.specs.Performing.{effect_of, performed, primitive_of, prin
 use Rattle.trac_rules.specs.Scanning.{Call}
 use Rattle.trac_rules.specs.State.{Environment, storage_of}
 use Rattle.trac_rules.proofs.Outcomes.{lacks_limited, limited_Err, limited_beyond, limited_within}
-use Rattle.trac_change.specs.declared.change.Change.{Change}
+use Rattle.trac_change.specs.declared.change.UnnamedChange.{UnnamedChange}
 use Rattle.trac_prims.specs.declared.effect.Deed.{Deed}
 use Rattle.trac_prims.specs.declared.effect.Made.{Made}
 use Rattle.trac_prims.specs.declared.effect.Now.{Now}
@@ -99,7 +99,7 @@ module _ (environment : Environment) (call : Call) (kind : Kind) (arguments : Li
   unplanned refusal h = subst (λ o. MayRefuse (limited (fits_after call) o) refusal) (sym performed_is) (not_made call line outcome refusal h)
 
   -- the primitive was performed, its texts after the line of the trace
-  module _ {A : Type 0} (texts made : Made A) (change : Change A) (deed : Deed) (is : seen_as (added_to texts) outcome ≡ Ok (done_on arguments (storage_of call.state) made change deed)) where
+  module _ {A : Type 0} (texts made : Made A) (change : UnnamedChange A) (deed : Deed) (is : seen_as (added_to texts) outcome ≡ Ok (done_on arguments (storage_of call.state) made change deed)) where
     -- but memory for the line was refused
     pub lacks : MayLackMemory wanted
     lacks = subst (λ o. MayLackMemory (limited (fits_after call) o)) (sym performed_is) (either outcome is)

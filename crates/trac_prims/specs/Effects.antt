@@ -6,8 +6,9 @@ use Rattle.trac_rules.specs.declared.refusal.Refusal.{Refusal}
 use Rattle.trac_rules.specs.Effect.{Effect}
 use Rattle.trac_rules.specs.Outcomes.{MayLackMemory, OrMemory, limited, seen_as}
 use Rattle.trac_rules.specs.State.{Storage}
-use Rattle.trac_change.specs.declared.change.Change as code
+use Rattle.trac_change.specs.declared.change.UnnamedChange.{UnnamedChange}
 use Rattle.trac_change.specs.Changed.{changed}
+use Rattle.trac_change.specs.Naming.{unnamed}
 use Rattle.trac_prims.specs.declared.effect.Effect as planned
 use Rattle.trac_prims.specs.declared.effect.Deed.{Deed}
 use Rattle.trac_prims.specs.declared.effect.Made as made
@@ -18,7 +19,7 @@ abbrev pub nothing : Deed
 nothing = record { forced = false; read = 0; meta = None; trace = None }
 
 -- what a call of these arguments does if these texts and this change were made, as an effect on a storage
-abbrev pub done_on : {A : Type 0} → List (List ℕ) → Storage → made.Made A → code.Change A → Deed → Effect
+abbrev pub done_on : {A : Type 0} → List (List ℕ) → Storage → made.Made A → UnnamedChange A → Deed → Effect
 done_on arguments storage texts change d = record {
   value = texts.value.items;
   forced = d.forced;
@@ -66,7 +67,7 @@ planned_on arguments storage e = record {
   position = e.position;
   meta = e.meta;
   trace = e.trace;
-  storage = changed arguments e.change storage;
+  storage = changed arguments (unnamed e.change) storage;
 }
 
 -- ---- pieces that are too long
@@ -84,7 +85,7 @@ MayFail outcome refusal = OrMemory (MayLackMemory outcome) (λ said. limited pie
 -- what is done with these arguments, this change among it, if this is the outcome of the definitions: its texts are
 -- added to those that were made before
 abbrev pub IsDone : {A : Type 0} → List (List ℕ) → Storage → Result Effect Refusal → made.Made A → made.Made A →
-    code.Change A → Result Deed Refusal → Type 0
+    UnnamedChange A → Result Deed Refusal → Type 0
 IsDone arguments storage outcome old new change (Ok d) =
     seen_as (added_to old) outcome ≡ Ok (done_on arguments storage new change d)
 IsDone arguments storage outcome old new change (Err refusal) = MayFail outcome refusal

@@ -12,7 +12,7 @@ ghost use Rattle.trac_rules.specs.Pieces.{bytes_in};
 ghost use Rattle.trac_rules.specs.declared.primitive.BlockAction.TheVariants.{EraseBlock, FetchBlock, StoreBlock};
 ghost use Rattle.trac_prims.specs.Blocks.{IsBlock};
 ghost use Rattle.trac_rules.specs.declared.primitive.Primitive.TheVariants.{HandleBlock};
-ghost use Rattle.trac_change.specs.declared.change.Change.TheVariants.{Keep};
+ghost use Rattle.trac_change.specs.declared.change.UnnamedChange.TheVariants.{Keep};
 ghost use Rattle.trac_change.specs.Changes.{IsChangeOf};
 ghost use Rattle.trac_rules.specs.Undone.{names_in};
 ghost use Rattle.trac_prims.specs.declared.effect.Made as made;
@@ -22,7 +22,7 @@ ghost use Rattle.trac_text.specs.Framing.{texts_of};
 
 use crate::effect::{Deed, NOTHING};
 use std::alloc::Allocator;
-use trac_change::{Change, LaterArguments, after};
+use trac_change::{LaterArguments, UnnamedChange, after};
 use trac_forms::{Block, Form, Item, Store, Texts};
 use trac_num::{print_into, read_tail, value};
 use trac_rules::limit::{BLOCK_LIMIT, FORM_COUNT_LIMIT, NAME_LIMIT};
@@ -35,28 +35,22 @@ pub(crate) fn store_block<A: Allocator + Copy>(
     alloc: A,
     args: &Args<'_>,
     store: &Store<A>,
-    change: &mut Change<A>,
+    change: &mut UnnamedChange<A>,
 ) -> Result<Deed, Refusal>
     ensures outcome { (texts : made.Made A) → IsDone args.now (storage_in store.now)
         (block_handled StoreBlock args.now (storage_in store.now)) texts texts change.new result }
     ensures change { OnOk result (IsChangeOf (HandleBlock StoreBlock) args.now (storage_in store.now) change.new) }
 {
-    let name = args.get(1);
     let held = leaving(alloc, store, &after(args, 2))?;
     let number = store.block_count();
     if held.len() > FORM_COUNT_LIMIT || number >= BLOCK_LIMIT {
         return Err(Refusal::TooLong);
     }
-    if !may_stand(store, name, held.as_slice()) {
+    if !may_stand(store, args.get(1), held.as_slice()) {
         return Err(Refusal::TooLong);
     }
     let address = address_of(alloc, number)?;
-    let name = Vec::from_slice(alloc, name)?;
-    *change = Change::MoveIn {
-        held,
-        name,
-        address,
-    };
+    *change = UnnamedChange::MoveIn { held, address };
     Ok(NOTHING)
 }
 
@@ -65,7 +59,7 @@ pub(crate) fn fetch_block<A: Allocator + Copy>(
     alloc: A,
     args: &Args<'_>,
     store: &Store<A>,
-    change: &mut Change<A>,
+    change: &mut UnnamedChange<A>,
 ) -> Result<Deed, Refusal>
     requires { change.old ≡ Keep }
     ensures outcome { (texts : made.Made A) → IsDone args.now (storage_in store.now)
@@ -79,7 +73,7 @@ pub(crate) fn fetch_block<A: Allocator + Copy>(
         return Err(Refusal::TooLong);
     }
     let forms = copies_of(alloc, block)?;
-    *change = Change::Bring { number, forms };
+    *change = UnnamedChange::Bring { number, forms };
     Ok(NOTHING)
 }
 
@@ -88,7 +82,7 @@ pub(crate) fn erase_block<A: Allocator + Copy>(
     alloc: A,
     args: &Args<'_>,
     store: &Store<A>,
-    change: &mut Change<A>,
+    change: &mut UnnamedChange<A>,
 ) -> Result<Deed, Refusal>
     requires { change.old ≡ Keep }
     ensures outcome { (texts : made.Made A) → IsDone args.now (storage_in store.now)
@@ -98,8 +92,7 @@ pub(crate) fn erase_block<A: Allocator + Copy>(
     let Some((number, _block)) = named_block(alloc, args, store)? else {
         return Ok(NOTHING);
     };
-    let name = Vec::from_slice(alloc, args.get(1))?;
-    *change = Change::Erase { number, name };
+    *change = UnnamedChange::Erase { number };
     Ok(NOTHING)
 }
 

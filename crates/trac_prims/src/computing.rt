@@ -6,7 +6,7 @@ ghost use Rattle.trac_rules.specs.Number.{on_both};
 ghost use Rattle.trac_rules.specs.Octal.{IsOctal, octal_tail};
 ghost use Rattle.trac_rules.specs.State.{Storage};
 ghost use Rattle.trac_rules.specs.declared.primitive.Computation.TheVariants.{Calculate, Rotate, Shift};
-ghost use Rattle.trac_change.specs.declared.change.Change.TheVariants.{Keep};
+ghost use Rattle.trac_change.specs.declared.change.UnnamedChange.TheVariants.{Keep};
 ghost use Rattle.trac_prims.specs.Effects.{IsDone};
 
 use crate::effect::{Deed, Made, NOTHING};

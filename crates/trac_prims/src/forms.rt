@@ -11,7 +11,7 @@ ghost use Rattle.trac_rules.specs.State.{Storage};
 ghost use Rattle.trac_rules.specs.declared.primitive.FormAction.TheVariants.{Define, Delete, ListNames, PrintForm};
 ghost use Rattle.trac_rules.specs.declared.primitive.FormAction.TheVariants.{Restore, Segment, Call as CallForm};
 ghost use Rattle.trac_rules.specs.declared.primitive.Primitive.TheVariants.{Handle};
-ghost use Rattle.trac_change.specs.declared.change.Change.TheVariants.{Keep};
+ghost use Rattle.trac_change.specs.declared.change.UnnamedChange.TheVariants.{Keep};
 ghost use Rattle.trac_change.specs.Changes.{IsChangeOf};
 ghost use Rattle.trac_prims.specs.declared.effect.Made as made;
 ghost use Rattle.trac_prims.specs.Effects.{IsDone};
@@ -20,7 +20,7 @@ ghost use Rattle.trac_rules.specs.declared.width.Width.{Width};
 
 use crate::effect::{Deed, Made, NOTHING};
 use std::alloc::Allocator;
-use trac_change::{Change, LaterArguments, after};
+use trac_change::{LaterArguments, UnnamedChange, after};
 use trac_forms::{Form, Store, Texts};
 use trac_rules::limit::{FORM_COUNT_LIMIT, MARK_LIMIT, NAME_LIMIT, TEXT_LIMIT};
 use trac_rules::refusal::Refusal;
@@ -32,19 +32,17 @@ pub(crate) fn define<A: Allocator + Copy>(
     alloc: A,
     args: &Args<'_>,
     store: &Store<A>,
-    change: &mut Change<A>,
+    change: &mut UnnamedChange<A>,
 ) -> Result<Deed, Refusal>
     ensures outcome { (width : Width) (texts : made.Made A) → IsDone args.now (storage_in store.now)
         (handled Define width args.now (storage_in store.now)) texts texts change.new result }
     ensures change { OnOk result (IsChangeOf (Handle Define) args.now (storage_in store.now) change.new) }
 {
-    let name = args.get(1);
     let form = Form::new(alloc, args.get(2))?;
-    if !may_put(store, name) {
+    if !may_put(store, args.get(1)) {
         return Err(Refusal::TooLong);
     }
-    let name = Vec::from_slice(alloc, name)?;
-    *change = Change::Put(name, form);
+    *change = UnnamedChange::Put(form);
     Ok(NOTHING)
 }
 
@@ -53,24 +51,23 @@ pub(crate) fn define<A: Allocator + Copy>(
 pub(crate) fn delete<A: Allocator + Copy>(
     alloc: A,
     args: &Args<'_>,
-    change: &mut Change<A>,
+    change: &mut UnnamedChange<A>,
 ) -> Result<Deed, Refusal>
     ensures outcome { (storage : Storage) (width : Width) (texts : made.Made A) →
         IsDone args.now storage (handled Delete width args.now storage) texts texts change.new result }
     ensures change { (storage : Storage) → OnOk result (IsChangeOf (Handle Delete) args.now storage change.new) }
 {
     let names = copies(alloc, &after(args, 1))?;
-    *change = Change::Remove(names);
+    *change = UnnamedChange::Remove(names);
     Ok(NOTHING)
 }
 
 // `ss`: texts are cut out of a form.
 #[inline(never)]
 pub(crate) fn segment<A: Allocator + Copy>(
-    alloc: A,
     args: &Args<'_>,
     store: &Store<A>,
-    change: &mut Change<A>,
+    change: &mut UnnamedChange<A>,
 ) -> Result<Deed, Refusal>
     requires keeps { change.old ≡ Keep }
     requires count { length args.now ≤ MARK_LIMIT }
@@ -86,30 +83,26 @@ pub(crate) fn segment<A: Allocator + Copy>(
         return Err(Refusal::TooLong);
     }
     let cut = form.cut_for(&after(args, 2))?;
-    let name = Vec::from_slice(alloc, name)?;
-    *change = Change::Cut(name, cut);
+    *change = UnnamedChange::Cut(cut);
     Ok(NOTHING)
 }
 
 // `cr`: the pointer of a form goes before its first item.
 #[inline(never)]
 pub(crate) fn restore<A: Allocator + Copy>(
-    alloc: A,
     args: &Args<'_>,
     store: &Store<A>,
-    change: &mut Change<A>,
+    change: &mut UnnamedChange<A>,
 ) -> Result<Deed, Refusal>
     requires { change.old ≡ Keep }
     ensures outcome { (width : Width) (texts : made.Made A) → IsDone args.now (storage_in store.now)
         (handled Restore width args.now (storage_in store.now)) texts texts change.new result }
     ensures change { OnOk result (IsChangeOf (Handle Restore) args.now (storage_in store.now) change.new) }
 {
-    let name = args.get(1);
-    if store.get(name).is_none() {
+    if store.get(args.get(1)).is_none() {
         return Ok(NOTHING);
     }
-    let name = Vec::from_slice(alloc, name)?;
-    *change = Change::Point(name, 0);
+    *change = UnnamedChange::Point(0);
     Ok(NOTHING)
 }
 

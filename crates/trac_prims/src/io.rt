@@ -3,7 +3,7 @@ ghost use Rattle.std.specs.Prelude.{◌≡◌, ◌+◌, ◌≤◌, List, ℕ, le
 ghost use Rattle.trac_rules.specs.Effect.{reads};
 ghost use Rattle.trac_rules.specs.Reading.{byte_read, string_read};
 ghost use Rattle.trac_rules.specs.State.{Storage};
-ghost use Rattle.trac_change.specs.declared.change.Change.TheVariants.{Keep};
+ghost use Rattle.trac_change.specs.declared.change.UnnamedChange.TheVariants.{Keep};
 ghost use Rattle.trac_prims.specs.Effects.{IsDone};
 
 use crate::effect::{Deed, Made, NOTHING};

@@ -18,7 +18,7 @@ pub use effect::{Deed, Effect, Made, Now};
 pub use name::primitive_named;
 pub use planning::{plan, plan_into};
 pub use tape::Tape;
-pub use trac_change::{Change, LaterArguments, after, change, later};
+pub use trac_change::{Change, LaterArguments, UnnamedChange, after, change, later};
 pub use trac_forms::{Block, Form, Item, Store, Texts};
 pub use trac_rules::kind::Kind;
 pub use trac_rules::refusal::Refusal;

@@ -9,8 +9,9 @@ ghost use Rattle.trac_rules.specs.Performing.{effect_of, performed, primitive_of
 ghost use Rattle.trac_rules.specs.Scanning.{Call};
 ghost use Rattle.trac_rules.specs.State.{State, storage_of};
 ghost use Rattle.trac_rules.specs.declared.primitive.Primitive.TheVariants as primitive;
-ghost use Rattle.trac_change.specs.declared.change.Change.TheVariants.{Keep};
+ghost use Rattle.trac_change.specs.declared.change.UnnamedChange.TheVariants.{Keep};
 ghost use Rattle.trac_change.specs.Changes.{IsChangeOf};
+ghost use Rattle.trac_change.specs.Naming.{IsNamed, unnamed};
 ghost use Rattle.trac_rules.specs.declared.width.Width.{Width};
 ghost use Rattle.trac_prims.specs.declared.effect.Made as made;
 ghost use Rattle.trac_prims.specs.Effects.{IsDone, done_on, planned_from, planned_on};
@@ -27,7 +28,7 @@ use crate::reading::read;
 use crate::tape::Tape;
 use crate::tracing::line_into;
 use std::alloc::Allocator;
-use trac_change::Change;
+use trac_change::UnnamedChange;
 use trac_forms::Store;
 use trac_rules::kind::Kind;
 use trac_rules::limit::{MARK_LIMIT, OUTPUT_LIMIT, TEXT_LIMIT};
@@ -62,11 +63,13 @@ pub fn plan<A: Allocator + Copy>(
     ensures within { IfOk result (λ e. e.position ≤ length tape.entry.bytes.now) }
     ensures place { IfOk result (λ e. HasPlace now e.value.items e.print.items) }
     ensures change { IfOk result
-        (λ e. IsChangeOf (primitive_of (argument 0 args.now)) args.now (storage_in store.now) e.change) }
+        (λ e. IsChangeOf (primitive_of (argument 0 args.now)) args.now (storage_in store.now) (unnamed e.change)) }
+    ensures named { IfOk result (λ e. IsNamed (argument 1 args.now) e.change) }
 {
     let mut made = Made::new(alloc);
-    let mut change = Change::Keep;
+    let mut change = UnnamedChange::Keep;
     let deed = plan_into(alloc, args, kind, store, tape, now, &mut made, &mut change)?;
+    let change = change.with_name(alloc, args.get(1))?;
     Ok(Effect {
         value: made.value,
         forced: deed.forced,
@@ -89,7 +92,7 @@ pub fn plan_into<A: Allocator + Copy>(
     tape: Tape<'_>,
     now: Now,
     made: &mut Made<A>,
-    change: &mut Change<A>,
+    change: &mut UnnamedChange<A>,
 ) -> Result<Deed, Refusal>
     requires keeps { change.old ≡ Keep }
     requires position { now.position ≤ length tape.bytes.now }
@@ -134,7 +137,7 @@ fn perform<A: Allocator + Copy>(
     tape: Tape<'_>,
     now: Now,
     made: &mut Made<A>,
-    change: &mut Change<A>,
+    change: &mut UnnamedChange<A>,
 ) -> Result<Deed, Refusal>
     requires keeps { change.old ≡ Keep }
     requires position { now.position ≤ length tape.bytes.now }
@@ -177,7 +180,7 @@ fn handle<A: Allocator + Copy>(
     store: &Store<A>,
     width: Width,
     made: &mut Made<A>,
-    change: &mut Change<A>,
+    change: &mut UnnamedChange<A>,
 ) -> Result<Deed, Refusal>
     requires keeps { change.old ≡ Keep }
     requires count { length args.now ≤ MARK_LIMIT }
@@ -187,17 +190,17 @@ fn handle<A: Allocator + Copy>(
 {
     match action {
         FormAction::Call => call(args, store, made),
-        FormAction::Read(reading) => read(alloc, reading, args, store, width, made, change),
+        FormAction::Read(reading) => read(reading, args, store, width, made, change),
         FormAction::ListNames => list_names(args, store, made),
         FormAction::PrintForm => print_form(args, store, made),
         FormAction::Define => define(alloc, args, store, change),
         FormAction::Delete => delete(alloc, args, change),
         FormAction::DeleteAll => {
-            *change = Change::Clear;
+            *change = UnnamedChange::Clear;
             Ok(NOTHING)
         }
-        FormAction::Segment => segment(alloc, args, store, change),
-        FormAction::Restore => restore(alloc, args, store, change),
+        FormAction::Segment => segment(args, store, change),
+        FormAction::Restore => restore(args, store, change),
     }
 }
 
@@ -208,7 +211,7 @@ fn plan_block_change<A: Allocator + Copy>(
     action: BlockAction,
     args: &Args<'_>,
     store: &Store<A>,
-    change: &mut Change<A>,
+    change: &mut UnnamedChange<A>,
 ) -> Result<Deed, Refusal>
     requires { change.old ≡ Keep }
     ensures outcome { (texts : made.Made A) → IsDone args.now (storage_in store.now)

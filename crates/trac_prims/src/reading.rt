@@ -6,14 +6,14 @@ ghost use Rattle.trac_rules.specs.Effect.{argument};
 ghost use Rattle.trac_rules.specs.Handling.{default_argument, handled, piece_read};
 ghost use Rattle.trac_rules.specs.declared.primitive.FormAction.TheVariants.{Read};
 ghost use Rattle.trac_rules.specs.declared.primitive.Primitive.TheVariants.{Handle};
-ghost use Rattle.trac_change.specs.declared.change.Change.TheVariants.{Keep};
+ghost use Rattle.trac_change.specs.declared.change.UnnamedChange.TheVariants.{Keep};
 ghost use Rattle.trac_change.specs.Changes.{IsChangeOf};
 ghost use Rattle.trac_prims.specs.Effects.{IsDone};
 
 use crate::computing::number_at;
 use crate::effect::{Deed, Made, NOTHING};
 use std::alloc::Allocator;
-use trac_change::Change;
+use trac_change::UnnamedChange;
 use trac_forms::{Form, Piece, Store};
 use trac_rules::primitive::FormReading;
 use trac_rules::refusal::Refusal;
@@ -23,29 +23,26 @@ use trac_text::Args;
 // `cs`, `cc`, `cn` and `in`: what is read of a form at its pointer, and the pointer where it stands then. If there is
 // nothing to read, the default argument, which is forced, and the pointer where it stands already.
 pub(crate) fn read<A: Allocator + Copy>(
-    alloc: A,
     reading: FormReading,
     args: &Args<'_>,
     store: &Store<A>,
     width: Width,
     made: &mut Made<A>,
-    change: &mut Change<A>,
+    change: &mut UnnamedChange<A>,
 ) -> Result<Deed, Refusal>
     requires { change.old ≡ Keep }
     ensures outcome { IsDone args.now (storage_in store.now)
         (handled (Read reading) width args.now (storage_in store.now)) made.old made.new change.new result }
     ensures change { OnOk result (IsChangeOf (Handle (Read reading)) args.now (storage_in store.now) change.new) }
 {
-    let name = args.get(1);
-    let Some(form) = store.get(name) else {
+    let Some(form) = store.get(args.get(1)) else {
         return Ok(NOTHING);
     };
     let Some(piece) = piece_of(reading, args, form, width)? else {
         // Nothing is read: the default argument is the value, and the pointer stays.
         let other = args.get(default_place(reading));
         made.value.extend_from_slice(other)?;
-        let name = Vec::from_slice(alloc, name)?;
-        *change = Change::Point(name, form.pointer());
+        *change = UnnamedChange::Point(form.pointer());
         return Ok(Deed {
             forced: true,
             ..NOTHING
@@ -54,8 +51,7 @@ pub(crate) fn read<A: Allocator + Copy>(
     // The value is made first: the pointer moves when the call is carried out.
     made.value.reserve(piece.len)?;
     form.piece_into(&piece, &mut made.value)?;
-    let name = Vec::from_slice(alloc, name)?;
-    *change = Change::Point(name, piece.pointer);
+    *change = UnnamedChange::Point(piece.pointer);
     Ok(NOTHING)
 }
 

@@ -13,7 +13,7 @@ use Rattle.trac_rules.specs.Records.{Record}
 use Rattle.trac_rules.specs.Scanning.{front_of, scan}
 use Rattle.trac_rules.specs.State.{State, storage_of}
 use Rattle.trac_rules.specs.Undone.{Undone}
-use Rattle.trac_change.specs.declared.change.Change.{Change}
+use Rattle.trac_change.specs.declared.change.UnnamedChange.{UnnamedChange}
 use Rattle.trac_prims.specs.declared.effect.Made.{Made}
 use Rattle.trac_change.specs.Changed.{changed}
 use Rattle.trac_text.specs.declared.calls.Beginning.{Beginning}
@@ -28,17 +28,17 @@ use Rattle.trac_step.specs.Room.{IsNoLess}
 use Rattle.trac_step.proofs.Storages.{arguments_stay, ended_is, storage_proper}
 
 -- the call that is ready can change forms and blocks as it is planned
-pub can_change : {A : Type 0} (s t : State) (plan : Plan) (made : Made A) (change : Change A) → IsReady s made plan change → t ≡ s → CanChange t plan.beginning change
+pub can_change : {A : Type 0} (s t : State) (plan : Plan) (made : Made A) (change : UnnamedChange A) → IsReady s made plan change → t ≡ s → CanChange t plan.beginning change
 can_change s t plan made change ready same =
     subst (λ (x : State). CanChange x plan.beginning change) (sym same) (record {
       front = ready.front;
       begins = ready.begins;
-      given = ready.given;
+      pieces = ready.pieces;
       proper = storage_proper s ready.front plan.beginning ready.begins plan made change ready.proper;
     })
 
 -- a call changes forms and blocks: it stands there still, with its arguments
-module _ {A : Type 0} (s t : State) (beginning : Beginning) (change : Change A) (can : CanChange s beginning change)
+module _ {A : Type 0} (s t : State) (beginning : Beginning) (change : UnnamedChange A) (can : CanChange s beginning change)
     (is : t ≡ with_storage (changed (arguments_in (scan s)) change (storage_of s)) s) where
   pub front_then : front_of t.active ≡ Closing
   front_then = ap (λ (x : State). front_of x.active) is ∙ can.front
@@ -66,7 +66,7 @@ not_kept r kept state m n old new e is memory same records room =
     subst (λ r. IsKeptAs kept state r m n old new) (sym (why.1 ∙ ap Err (why.2 ∙ memory))) (record { done = tt; added = tt; unchanged = (same, records); err = refl; room = room })
 
 -- the machine with its memory taken, and then with its forms and blocks changed
-module _ {A : Type 0} (s : State) (m n : Shown) (plan : Plan) (made : Made A) (change : Change A) (ready : IsReady s made plan change) (same : m.state ≡ s)
+module _ {A : Type 0} (s : State) (m n : Shown) (plan : Plan) (made : Made A) (change : UnnamedChange A) (ready : IsReady s made plan change) (same : m.state ≡ s)
     (is : n.state ≡ with_storage (changed (arguments_in (scan m.state)) change (storage_of m.state)) m.state) where
   ready_still : IsReady m.state made plan change
   ready_still = subst (λ (t : State). IsReady t made plan change) (sym same) ready

@@ -15,11 +15,11 @@ use Rattle.trac_rules.specs.Stepping.{step}
 use Rattle.trac_rules.specs.Undone.{undone_by}
 use Rattle.trac_rules.proofs.Outcomes.{limited_Ok}
 use Rattle.trac_forms.specs.Stored.{Stored, storage_in}
-use Rattle.trac_change.specs.declared.change.Change.{Change}
+use Rattle.trac_change.specs.declared.change.UnnamedChange.{UnnamedChange}
 use Rattle.trac_prims.specs.declared.effect.Deed.{Deed}
 use Rattle.trac_prims.specs.declared.effect.Made.{Made}
 use Rattle.trac_prims.specs.declared.effect.Now.{Now}
-use Rattle.trac_change.specs.Changes.{IsChangeOf, NamesGiven, undone_of}
+use Rattle.trac_change.specs.Changes.{IsChangeOf, PiecesAreOf, undone_of}
 use Rattle.trac_prims.specs.Effects.{done_on}
 use Rattle.trac_text.specs.Frames.{IsInnermost}
 use Rattle.trac_text.specs.Neutral.{MarkedText, Neutral, cut_back, neutral_of}
@@ -27,6 +27,7 @@ use Rattle.trac_prims.specs.Plans.{IsGiven, fits_after}
 use Rattle.trac_journal.specs.Told.{record_with}
 use Rattle.trac_step.specs.declared.calling.Plan.{Plan}
 use Rattle.trac_step.specs.Calling.{arguments_in, state_after}
+use Rattle.trac_step.specs.Ready.{undone_after}
 use Rattle.trac_step.proofs.Calls.{call_of, scan_call, step_planned, wanted}
 
 -- the arguments of the innermost function are those of the call
@@ -38,8 +39,8 @@ arguments_found s m number place kind texts front same inner =
 
 module _ (environment : Environment) (s : State) (f : Frame) (fs : List Frame) (front : front_of s.active ≡ Closing) (is : s.frames ≡ f ∷ fs)
     (kind : Kind) (arguments : List (List ℕ)) (stored : Stored) (now : Now) (given : IsGiven (call_of s f fs) kind arguments stored now)
-    {A : Type 0} (made : Made A) (change : Change A) (deed : Deed) (planned : wanted environment s f fs front is ≡ Ok (done_on arguments (storage_of (call_of s f fs).state) made change deed))
-    (named : IsChangeOf (primitive_of (argument 0 arguments)) arguments (storage_in stored) change) where
+    {A : Type 0} (made : Made A) (change : UnnamedChange A) (deed : Deed) (planned : wanted environment s f fs front is ≡ Ok (done_on arguments (storage_of (call_of s f fs).state) made change deed))
+    (of_call : IsChangeOf (primitive_of (argument 0 arguments)) arguments (storage_in stored) change) where
   abbrev call : Call
   call = call_of s f fs
 
@@ -53,20 +54,21 @@ module _ (environment : Environment) (s : State) (f : Frame) (fs : List Frame) (
   performs : performed environment call ≡ Ok effect
   performs = (limited_Ok (fits_after call) (performed environment call) (done_on arguments (storage_of call.state) made change deed) planned).0 ∙ ap Ok same
 
-  -- what the change names is what the call gives
-  pub names_given : NamesGiven (arguments_in (scan s)) (storage_of s) change
-  names_given =
-      subst (λ (x : Scanned). NamesGiven (arguments_in x) (storage_of s) change) (sym (scan_call s f fs front is))
-      (subst (λ (ts : List (List ℕ)). NamesGiven ts (storage_of s) change) (sym given.arguments_are)
-      (subst (λ (storage : Storage). NamesGiven arguments storage change) (sym given.state_is.storage_is) named.names_are))
+  -- the pieces of the change are those of the call
+  pub pieces_given : PiecesAreOf (arguments_in (scan s)) (storage_of s) change
+  pieces_given =
+      subst (λ (x : Scanned). PiecesAreOf (arguments_in x) (storage_of s) change) (sym (scan_call s f fs front is))
+      (subst (λ (ts : List (List ℕ)). PiecesAreOf ts (storage_of s) change) (sym given.arguments_are)
+      (subst (λ (storage : Storage). PiecesAreOf arguments storage change) (sym given.state_is.storage_is) of_call.pieces_are))
 
   -- what the change destroys is what the call's primitive destroys
-  undone_planned : undone_by (primitive_of (argument 0 call.arguments)) call.arguments (storage_of s) ≡ undone_of change (storage_of s)
+  undone_planned : undone_by (primitive_of (argument 0 call.arguments)) call.arguments (storage_of s) ≡ undone_of call.arguments change (storage_of s)
   undone_planned =
       ap (λ (ts : List (List ℕ)). undone_by (primitive_of (argument 0 ts)) ts (storage_of s)) given.arguments_are
       ∙ ap (undone_by (primitive_of (argument 0 arguments)) arguments) given.state_is.storage_is
-      ∙ sym named.undone_is
-      ∙ ap (undone_of change) (sym given.state_is.storage_is)
+      ∙ sym of_call.undone_is
+      ∙ ap (undone_of arguments change) (sym given.state_is.storage_is)
+      ∙ ap (λ (ts : List (List ℕ)). undone_of ts change (storage_of s)) (sym given.arguments_are)
 
   module _ (plan : Plan) (kind_is : plan.called.kind ≡ kind) (value_is : plan.called.value ≡ length made.value.items) (scanned_is : plan.called.scanned ≡ is_scanned kind deed.forced)
       (printed_is : plan.called.printed ≡ length made.print.items) (read_is : plan.called.read ≡ deed.read) (meta_is : plan.called.meta ≡ option_map (λ _. now.meta) deed.meta)
@@ -79,7 +81,7 @@ module _ (environment : Environment) (s : State) (f : Frame) (fs : List Frame) (
         ∙ (λ i. Ok (after_call call (record effect { forced = sym forced_too i; read = sym read_is i; meta = sym meta_too i; trace = sym trace_too i })))
         ∙ ap (λ (x : Scanned). Ok (state_after plan made change x)) (sym (scan_call s f fs front is))
 
-    told : call_recorded call effect ≡ record_with plan.called call.arguments (undone_of change (storage_of s))
+    told : call_recorded call effect ≡ record_with plan.called call.arguments (undone_of call.arguments change (storage_of s))
     told =
         let kinds = given.kind_is ∙ sym kind_is in
         let scans : is_scanned call.kind deed.forced ≡ plan.called.scanned = ap (λ (k : Kind). is_scanned k deed.forced) given.kind_is ∙ sym scanned_is in
@@ -98,9 +100,9 @@ module _ (environment : Environment) (s : State) (f : Frame) (fs : List Frame) (
         }
 
     -- and its record is what is planned
-    pub planned_recorded : record_of environment s ≡ Some (rules.Called (record_with plan.called (arguments_in (scan s)) (undone_of change (storage_of s))))
+    pub planned_recorded : record_of environment s ≡ Some (rules.Called (record_with plan.called (arguments_in (scan s)) (undone_after change s)))
     planned_recorded =
         ap (record_in environment s) (scan_call s f fs front is)
         ∙ ap (λ (o : Result Effect Refusal). option_map rules.Called (option_map (call_recorded call) (result_ok o))) performs
         ∙ ap (λ (c : CallRecord). let o : Option rules.Record = Some (rules.Called c) in o) told
-        ∙ ap (λ (x : Scanned). let o : Option rules.Record = Some (rules.Called (record_with plan.called (arguments_in x) (undone_of change (storage_of s)))) in o) (sym (scan_call s f fs front is))
+        ∙ ap (λ (x : Scanned). let o : Option rules.Record = Some (rules.Called (record_with plan.called (arguments_in x) (undone_of (arguments_in x) change (storage_of s)))) in o) (sym (scan_call s f fs front is))

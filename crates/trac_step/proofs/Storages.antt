@@ -12,7 +12,7 @@ use Rattle.trac_rules.specs.Scanning.{Scanned, closing_in, deleted, front_of, sc
 use Rattle.trac_rules.specs.State.{Frame, State, Storage, storage_of}
 use Rattle.trac_rules.proofs.ProperStates.{storage-placed}
 use Rattle.trac_forms.specs.Stored.{KnowsAll, Names, Stored, storage_in}
-use Rattle.trac_change.specs.declared.change.Change.{Change}
+use Rattle.trac_change.specs.declared.change.UnnamedChange.{UnnamedChange}
 use Rattle.trac_prims.specs.declared.effect.Made.{Made}
 use Rattle.trac_text.specs.declared.mark.Mark.{Mark}
 use Rattle.trac_change.specs.Changed.{changed}
@@ -89,7 +89,7 @@ module _ (s : State) (front : front_of s.active ≡ Closing) where
       by_frames [] = refl
       by_frames (f ∷ fs) = refl
 
-  module _ (b : Beginning) (begins : BeginsInnermost s b) {A : Type 0} (plan : Plan) (made : Made A) (change : Change A) where
+  module _ (b : Beginning) (begins : BeginsInnermost s b) {A : Type 0} (plan : Plan) (made : Made A) (change : UnnamedChange A) where
     -- forms and blocks are those after it
     storage_after : storage_of (state_after plan made change (scan s)) ≡ changed (arguments_in (scan s)) change (storage_of s)
     storage_after =

@@ -6,7 +6,7 @@ use Rattle.trac_rules.specs.Effect.{Effect}
 use Rattle.trac_rules.specs.Limits.{argument_bytes, marks, text_bytes}
 use Rattle.trac_rules.specs.Performing.{after_call}
 use Rattle.trac_rules.specs.Scanning.{Scanned, Moves, Calls, begun, comma_in}
-use Rattle.trac_change.specs.declared.change.Change.{Change}
+use Rattle.trac_change.specs.declared.change.UnnamedChange.{UnnamedChange}
 use Rattle.trac_prims.specs.declared.effect.Made.{Made}
 use Rattle.trac_text.specs.Cuts.{AreCuts, cut}
 use Rattle.trac_change.specs.Changed.{changed}
@@ -45,7 +45,7 @@ abbrev pub with_storage : Storage → State → State
 with_storage storage s = record s { forms = storage.forms; blocks = storage.blocks }
 
 -- the state with forms and blocks as this change makes them, for the call that scanning asks for
-abbrev pub with_change : {A : Type 0} → Scanned → Change A → State → State
+abbrev pub with_change : {A : Type 0} → Scanned → UnnamedChange A → State → State
 with_change scanned change s = with_storage (changed (arguments_in scanned) change (storage_of s)) s
 
 -- what a planned call does if these texts are made for it, and forms and blocks are these after it
@@ -61,7 +61,7 @@ effect_with plan made storage = record {
 }
 
 -- the state after the call that scanning asks for, if this is planned
-abbrev pub state_after : {A : Type 0} → Plan → Made A → Change A → Scanned → State
+abbrev pub state_after : {A : Type 0} → Plan → Made A → UnnamedChange A → Scanned → State
 state_after plan made change (Moves t) = t
 state_after plan made change (Calls call) =
     after_call call (effect_with plan made (changed call.arguments change (storage_of call.state)))

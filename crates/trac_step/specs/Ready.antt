@@ -8,9 +8,10 @@ use Rattle.trac_rules.specs.Records.{Called, Record, record_of}
 use Rattle.trac_rules.specs.Scanning.{front_of, scan}
 use Rattle.trac_rules.specs.State.{Environment, State, storage_of}
 use Rattle.trac_rules.specs.Stepping.{step}
-use Rattle.trac_change.specs.declared.change.Change.{Change}
+use Rattle.trac_rules.specs.Undone.{Undone}
+use Rattle.trac_change.specs.declared.change.UnnamedChange.{UnnamedChange}
 use Rattle.trac_prims.specs.declared.effect.Made.{Made}
-use Rattle.trac_change.specs.Changes.{NamesGiven, undone_of}
+use Rattle.trac_change.specs.Changes.{PiecesAreOf, undone_of}
 use Rattle.trac_change.specs.Changed.{changed}
 use Rattle.trac_journal.specs.Told.{record_with}
 use Rattle.trac_text.specs.declared.calls.Beginning.{Beginning}
@@ -18,38 +19,41 @@ use Rattle.trac_step.specs.declared.calling.Plan.{Plan}
 use Rattle.trac_step.specs.Calling.{BeginsInnermost, arguments_in, state_after, state_ended}
 use Rattle.trac_step.specs.Layout.{Shown}
 
+-- what a change destroys if the call at which a state stands makes it
+abbrev pub undone_after : {A : Type 0} → UnnamedChange A → State → Undone
+undone_after change s = undone_of (arguments_in (scan s)) change (storage_of s)
+
 -- the record of the call at which a state stands, if it is planned so
-abbrev pub recorded_after : {A : Type 0} → Plan → Change A → State → Record
-recorded_after plan change s =
-    Called (record_with plan.called (arguments_in (scan s)) (undone_of change (storage_of s)))
+abbrev pub recorded_after : {A : Type 0} → Plan → UnnamedChange A → State → Record
+recorded_after plan change s = Called (record_with plan.called (arguments_in (scan s)) (undone_after change s))
 
 -- a state stands at a call, of which this is planned: it may be performed
-pub record IsReady {A : Type 0} (s : State) (made : Made A) (plan : Plan) (change : Change A) : Type 0 where
+pub record IsReady {A : Type 0} (s : State) (made : Made A) (plan : Plan) (change : UnnamedChange A) : Type 0 where
   pub front : front_of s.active ≡ Closing
   pub begins : BeginsInnermost s plan.beginning
   pub position : plan.position ≡ s.position + plan.called.read
   pub bytes : plan.bytes ≡ length (concat (arguments_in (scan s)))
   pub commas : plan.commas + 1 ≡ length (arguments_in (scan s))
-  pub given : NamesGiven (arguments_in (scan s)) (storage_of s) change
+  pub pieces : PiecesAreOf (arguments_in (scan s)) (storage_of s) change
   pub proper : IsProper (state_after plan made change (scan s))
 
 -- and then the step leads where the rules say, and its record is that of the rules
 pub record IsPlanned {A : Type 0} (environment : Environment) (s : State) (made : Made A) (plan : Plan)
-    (change : Change A) : Type 0 where
+    (change : UnnamedChange A) : Type 0 where
   pub ready : IsReady s made plan change
   pub taken : step environment s ≡ Ok (state_after plan made change (scan s))
   pub recorded : record_of environment s ≡ Some (recorded_after plan change s)
 
 -- what may be performed where a `)` stands: nothing if no function is begun
-abbrev pub IsFound : {A : Type 0} → Environment → State → Made A → Change A → Option Plan → Type 0
+abbrev pub IsFound : {A : Type 0} → Environment → State → Made A → UnnamedChange A → Option Plan → Type 0
 IsFound environment s made change None = s.frames ≡ []
 IsFound environment s made change (Some plan) = IsPlanned environment s made plan change
 
 -- forms and blocks can be changed so, by the call at which a state stands, whose function begins here
-pub record CanChange {A : Type 0} (s : State) (beginning : Beginning) (change : Change A) : Type 0 where
+pub record CanChange {A : Type 0} (s : State) (beginning : Beginning) (change : UnnamedChange A) : Type 0 where
   pub front : front_of s.active ≡ Closing
   pub begins : BeginsInnermost s beginning
-  pub given : NamesGiven (arguments_in (scan s)) (storage_of s) change
+  pub pieces : PiecesAreOf (arguments_in (scan s)) (storage_of s) change
   pub proper : IsProperStorage (changed (arguments_in (scan s)) change (storage_of s))
 
 -- the call of which this is planned can be ended, its change of forms and blocks being made

@@ -5,19 +5,17 @@ ghost use Rattle.trac_rules.specs.declared.limit.TheConstants.{JOURNAL_LIMIT};
 ghost use Rattle.trac_rules.specs.Outcomes.{MayRefuse};
 ghost use Rattle.trac_rules.specs.Records as rules;
 ghost use Rattle.trac_rules.specs.Records.{is_scanned};
-ghost use Rattle.trac_rules.specs.State.{storage_of};
 ghost use Rattle.trac_rules.specs.Scanning.{front_of, scan};
 ghost use Rattle.trac_rules.specs.Stepping.{step};
 ghost use Rattle.trac_text.specs.Cuts.{cut};
-ghost use Rattle.trac_change.specs.declared.change.Change.TheVariants.{Keep};
+ghost use Rattle.trac_change.specs.declared.change.UnnamedChange.TheVariants.{Keep};
 ghost use Rattle.trac_prims.specs.Tape.{environment_of};
-ghost use Rattle.trac_change.specs.Changes.{undone_of};
 ghost use Rattle.trac_journal.specs.Told.{record_with};
 ghost use Rattle.trac_change.specs.Undone.{undone_in};
 ghost use Rattle.trac_step.specs.Calling.{BeginsInnermost, HasRoomFor, IsBegun, arguments_in, state_after, state_ended};
 ghost use Rattle.trac_step.specs.Calling.{with_change};
 ghost use Rattle.trac_step.specs.Kept.{CanStep, FitsJournal, HasRoomForCall, IsKeptAs, IsStepped};
-ghost use Rattle.trac_step.specs.Ready.{CanChange, CanEnd, IsFound, IsReady, recorded_after};
+ghost use Rattle.trac_step.specs.Ready.{CanChange, CanEnd, IsFound, IsReady, recorded_after, undone_after};
 ghost use Rattle.trac_step.specs.Record.{IsTaken, recorded_by};
 ghost use Rattle.trac_step.specs.Room.{IsNoLess};
 
@@ -26,7 +24,7 @@ use crate::record::Record;
 use std::alloc::Allocator;
 use trac_gap::{SlidingBuf, TwoEnds};
 use trac_journal::{Called, Journal, Undone};
-use trac_prims::{Change, Deed, Made, Now, Tape, plan_into};
+use trac_prims::{Deed, Made, Now, Tape, UnnamedChange, plan_into};
 use trac_rules::scan::Front;
 use trac_storage::change_forms;
 use trac_text::calls::{cut_function, put_value};
@@ -106,7 +104,7 @@ impl<E: TwoEnds<u8, A>, M: TwoEnds<Mark, A>, A: Allocator + Copy> Core<E, M, A> 
         &self,
         tape: Tape<'_>,
         made: &mut Made<A>,
-        change: &mut Change<A>,
+        change: &mut UnnamedChange<A>,
     ) -> Result<Option<Plan>, Refusal>
         requires keeps { change.old ≡ Keep }
         requires front { front_of self.now.state.active ≡ Front.Closing }
@@ -171,12 +169,12 @@ impl<E: TwoEnds<u8, A>, M: TwoEnds<Mark, A>, A: Allocator + Copy> Core<E, M, A> 
     fn change_storage(
         &mut self,
         beginning: Beginning,
-        change: &mut Change<A>,
+        change: &mut UnnamedChange<A>,
     ) -> Result<Undone<A>, Refusal>
         requires { CanChange self.old.state beginning change.old }
         ensures changed { OnOk result
             (self.new.state ≡ with_change (scan self.old.state) change.old self.old.state) }
-        ensures undone { IfOk result (λ undone. undone_in undone ≡ undone_of change.old (storage_of self.old.state)) }
+        ensures undone { IfOk result (λ undone. undone_in undone ≡ undone_after change.old self.old.state) }
         ensures unchanged { OnErr result (self.new.state ≡ self.old.state) }
         ensures room { IsNoLess self.old self.new }
         ensures err { IsOkUnless result Refusal.Memory }
@@ -214,7 +212,7 @@ impl<E: TwoEnds<u8, A>, M: TwoEnds<Mark, A>, A: Allocator + Copy> Core<E, M, A> 
         &mut self,
         plan: &Plan,
         made: &Made<A>,
-        change: &mut Change<A>,
+        change: &mut UnnamedChange<A>,
     ) -> Result<Record<A>, Refusal>
         requires { IsReady self.old.state made.now plan.now change.old }
         ensures done { OnOk result (self.new.state ≡ state_after plan.now made.now change.old (scan self.old.state)) }
@@ -238,7 +236,7 @@ impl<E: TwoEnds<u8, A>, M: TwoEnds<Mark, A>, A: Allocator + Copy> Core<E, M, A> 
         ensures { IsTaken (environment_of self.old.width tape.entry) result self.old self.new }
     {
         let mut made = Made::new(*self.output.allocator());
-        let mut change = Change::Keep;
+        let mut change = UnnamedChange::Keep;
         let Some(plan) = self.planned(tape, &mut made, &mut change)? else {
             return self.move_step(Front::Closing);
         };
@@ -267,16 +265,16 @@ impl<E: TwoEnds<u8, A>, M: TwoEnds<Mark, A>, A: Allocator + Copy> Core<E, M, A> 
         &mut self,
         journal: &mut Journal<A>,
         plan: &Plan,
-        change: &mut Change<A>,
+        change: &mut UnnamedChange<A>,
     ) -> Result<(), Refusal>
         requires can { CanChange self.old.state plan.now.beginning change.old }
-        requires room { HasRoomForCall self.old.state plan.now.called
-            (undone_of change.old (storage_of self.old.state)) journal.old }
+        requires room { HasRoomForCall self.old.state plan.now.called (undone_after change.old self.old.state)
+            journal.old }
         ensures { IsKeptAs (recorded_after plan.now change.old self.old.state)
             (with_change (scan self.old.state) change.old self.old.state) result self.old self.new journal.old
             journal.new }
     {
-        if let Change::Keep = change {
+        if let UnnamedChange::Keep = change {
             self.keep_call(journal, plan, Undone::Nothing);
             return Ok(());
         }
@@ -289,11 +287,11 @@ impl<E: TwoEnds<u8, A>, M: TwoEnds<Mark, A>, A: Allocator + Copy> Core<E, M, A> 
         &mut self,
         journal: &mut Journal<A>,
         plan: Plan,
-        change: &mut Change<A>,
+        change: &mut UnnamedChange<A>,
     ) -> Result<(), Refusal>
         requires can { CanChange self.old.state plan.beginning change.old }
-        requires room { HasRoomForCall self.old.state plan.called
-            (undone_of change.old (storage_of self.old.state)) journal.old }
+        requires room { HasRoomForCall self.old.state plan.called (undone_after change.old self.old.state)
+            journal.old }
         ensures { IsKeptAs (recorded_after plan change.old self.old.state)
             (with_change (scan self.old.state) change.old self.old.state) result self.old self.new journal.old
             journal.new }
@@ -310,12 +308,12 @@ impl<E: TwoEnds<u8, A>, M: TwoEnds<Mark, A>, A: Allocator + Copy> Core<E, M, A> 
         journal: &mut Journal<A>,
         plan: &Plan,
         made: &Made<A>,
-        change: &mut Change<A>,
+        change: &mut UnnamedChange<A>,
     ) -> Result<(), Refusal>
         requires ready { IsReady self.old.state made.now plan.now change.old }
         requires not_full { length journal.old.records < JOURNAL_LIMIT }
         requires fits { FitsJournal plan.now.called (arguments_in (scan self.old.state))
-            (undone_of change.old (storage_of self.old.state)) }
+            (undone_after change.old self.old.state) }
         ensures { IsKeptAs (recorded_after plan.now change.old self.old.state)
             (state_after plan.now made.now change.old (scan self.old.state)) result self.old self.new journal.old
             journal.new }
@@ -341,7 +339,7 @@ impl<E: TwoEnds<u8, A>, M: TwoEnds<Mark, A>, A: Allocator + Copy> Core<E, M, A> 
         ensures { IsStepped (environment_of self.old.width tape.entry) result self.old self.new journal.old
             journal.new }
     {
-        let mut change = Change::Keep;
+        let mut change = UnnamedChange::Keep;
         let Some(plan) = self.planned(tape, made, &mut change)? else {
             return self.delete_into(journal);
         };

@@ -2,10 +2,11 @@
 -- blocks, and whether it takes memory.
 use Rattle.std.specs.Prelude.{◌≡◌, ◌≤◌, ◌+◌, ℕ, List, [], ◌∷◌, IsTrue}
 use Rattle.std.specs.FinSet as set
-use Rattle.trac_change.specs.declared.change.Change as code
-use Rattle.trac_change.specs.declared.change.Change.TheVariants.{Keep, Put, Cut, Point, MoveIn, Bring, Erase}
+use Rattle.trac_change.specs.declared.change.UnnamedChange as code
+use Rattle.trac_change.specs.declared.change.UnnamedChange.TheVariants.{Keep, Put, Cut, Point, MoveIn, Bring, Erase}
 use Rattle.trac_change.specs.Changed.{named_forms}
 use Rattle.trac_forms.specs.Stored.{Names}
+use Rattle.trac_rules.specs.Effect.{argument}
 use Rattle.trac_rules.specs.State.{Held}
 use Rattle.trac_rules.specs.Undone.{names_in}
 
@@ -27,30 +28,31 @@ knowing (name ∷ names) known = knowing names (set.insert known name)
 abbrev pub KnowsSome : List (List ℕ) → Names → Names → Type 0
 KnowsSome names before after = AreAmong before after × AreAmong after (knowing names before)
 
--- the names under which a change puts forms
-abbrev pub names_put : {A : Type 0} → code.Change A → List (List ℕ)
-names_put (Put name form) = name.items ∷ []
-names_put (MoveIn held name address) = name.items ∷ []
-names_put (Bring number forms) = names_in (named_forms forms.items)
-names_put change = []
+-- the names under which a change by a call of these arguments puts forms
+abbrev pub names_put : {A : Type 0} → List (List ℕ) → code.UnnamedChange A → List (List ℕ)
+names_put arguments (Put form) = argument 1 arguments ∷ []
+names_put arguments (MoveIn held address) = argument 1 arguments ∷ []
+names_put arguments (Bring number forms) = names_in (named_forms forms.items)
+names_put arguments change = []
 
 -- the places for blocks that are spare before a change and after it: just as many, unless it puts a block, which takes
 -- one
-abbrev pub HasPlaces : {A : Type 0} → code.Change A → ℕ → ℕ → Type 0
-HasPlaces (MoveIn held name address) before after = before ≤ after + 1
+abbrev pub HasPlaces : {A : Type 0} → code.UnnamedChange A → ℕ → ℕ → Type 0
+HasPlaces (MoveIn held address) before after = before ≤ after + 1
 HasPlaces change before after = after ≡ before
 
--- a change takes no memory if these names are known: it changes what is there, or puts a form under one of them
-abbrev pub TakesNone : {A : Type 0} → Names → code.Change A → Type 0
-TakesNone known Keep = Unit {0}
-TakesNone known (Put name form) = IsTrue (set.contains known name.items)
-TakesNone known (Cut name cut) = Unit {0}
-TakesNone known (Point name place) = Unit {0}
-TakesNone known (Erase number name) = Unit {0}
-TakesNone known change = ⊥
+-- a change by a call of these arguments takes no memory if these names are known: it changes what is there, or puts a
+-- form under one of them
+abbrev pub TakesNone : {A : Type 0} → List (List ℕ) → Names → code.UnnamedChange A → Type 0
+TakesNone arguments known Keep = Unit {0}
+TakesNone arguments known (Put form) = IsTrue (set.contains known (argument 1 arguments))
+TakesNone arguments known (Cut cut) = Unit {0}
+TakesNone arguments known (Point place) = Unit {0}
+TakesNone arguments known (Erase number) = Unit {0}
+TakesNone arguments known change = ⊥
 
 -- a change that neither puts one form nor sets a pointer
-abbrev pub IsOther : {A : Type 0} → code.Change A → Type 0
-IsOther (Put name form) = ⊥
-IsOther (Point name place) = ⊥
+abbrev pub IsOther : {A : Type 0} → code.UnnamedChange A → Type 0
+IsOther (Put form) = ⊥
+IsOther (Point place) = ⊥
 IsOther change = Unit {0}

@@ -9,7 +9,7 @@ ghost use Rattle.trac_rules.specs.Handling.{without};
 ghost use Rattle.trac_rules.specs.Proper.{IsProperStorage};
 ghost use Rattle.trac_rules.specs.Undone.{MoveOut, Swap, block_lost, pointer_lost};
 ghost use Rattle.trac_forms.specs.Stored.{storage_in};
-ghost use Rattle.trac_change.specs.Changes.{NamesGiven, cut_lost, undone_of};
+ghost use Rattle.trac_change.specs.Changes.{PiecesAreOf, cut_lost, undone_of};
 ghost use Rattle.trac_change.specs.Changed.{changed, cut_in, pointed, with_form};
 ghost use Rattle.trac_text.specs.Framing.{texts_of};
 ghost use Rattle.trac_storage.specs.Changing.{HasPlaces, IsOther, KnowsSome, TakesNone, knowing, names_put};
@@ -19,7 +19,7 @@ use crate::blocking::move_into;
 use crate::leaving::{bring, delete_all, delete_each};
 use std::alloc::Allocator;
 use std::mem;
-use trac_change::{Change, Undone, after};
+use trac_change::{Undone, UnnamedChange, after};
 use trac_forms::{Block, Cut, Form, Store};
 use trac_rules::refusal::Refusal;
 use trac_text::Args;
@@ -35,26 +35,28 @@ pub fn change_forms<A: Allocator + Copy>(
     store: &mut Store<A>,
     alloc: A,
     arguments: &Args<'_>,
-    change: &mut Change<A>,
+    change: &mut UnnamedChange<A>,
 ) -> Result<Undone<A>, Refusal>
-    requires given { NamesGiven arguments.now (storage_in store.old) change.old }
+    requires pieces { PiecesAreOf arguments.now (storage_in store.old) change.old }
     requires proper { IsProperStorage (storage_in store.old) }
     ensures storage { OnOk result (storage_in store.new ≡ changed arguments.now change.old (storage_in store.old)) }
-    ensures undone { IfOk result (λ undone. undone_in undone ≡ undone_of change.old (storage_in store.old)) }
+    ensures undone { IfOk result
+        (λ undone. undone_in undone ≡ undone_of arguments.now change.old (storage_in store.old)) }
     ensures unchanged { OnErr result (storage_in store.new ≡ storage_in store.old) }
-    ensures names { OnOk result (store.new.known ≡ knowing (names_put change.old) store.old.known) }
-    ensures some { OnErr result (KnowsSome (names_put change.old) store.old.known store.new.known) }
+    ensures names { OnOk result (store.new.known ≡ knowing (names_put arguments.now change.old) store.old.known) }
+    ensures some { OnErr result (KnowsSome (names_put arguments.now change.old) store.old.known store.new.known) }
     ensures places { HasPlaces change.old store.old.spare store.new.spare }
-    ensures free { TakesNone store.old.known change.old → IsOk result }
+    ensures free { TakesNone arguments.now store.old.known change.old → IsOk result }
     ensures err { IsOkUnless result Refusal.Memory }
 {
     // Most changes set a pointer or define a form: these are made at once, and the first leaves the
     // change where it stands.
-    if let Change::Point(name, place) = change {
-        return Ok(set_pointer(store, name.as_slice(), *place));
+    let name = arguments.get(1);
+    if let UnnamedChange::Point(place) = change {
+        return Ok(set_pointer(store, name, *place));
     }
-    match mem::replace(change, Change::Keep) {
-        Change::Put(name, form) => Ok(Undone::Swap(store.insert(name.as_slice(), form)?)),
+    match mem::replace(change, UnnamedChange::Keep) {
+        UnnamedChange::Put(form) => Ok(Undone::Swap(store.insert(name, form)?)),
         other => change_other(store, alloc, arguments, other),
     }
 }
@@ -66,33 +68,30 @@ fn change_other<A: Allocator + Copy>(
     store: &mut Store<A>,
     alloc: A,
     arguments: &Args<'_>,
-    change: Change<A>,
+    change: UnnamedChange<A>,
 ) -> Result<Undone<A>, Refusal>
     requires other { IsOther change }
-    requires given { NamesGiven arguments.now (storage_in store.old) change }
+    requires pieces { PiecesAreOf arguments.now (storage_in store.old) change }
     requires proper { IsProperStorage (storage_in store.old) }
     ensures storage { OnOk result (storage_in store.new ≡ changed arguments.now change (storage_in store.old)) }
-    ensures undone { IfOk result (λ undone. undone_in undone ≡ undone_of change (storage_in store.old)) }
+    ensures undone { IfOk result (λ undone. undone_in undone ≡ undone_of arguments.now change (storage_in store.old)) }
     ensures unchanged { OnErr result (storage_in store.new ≡ storage_in store.old) }
-    ensures names { OnOk result (store.new.known ≡ knowing (names_put change) store.old.known) }
-    ensures some { OnErr result (KnowsSome (names_put change) store.old.known store.new.known) }
+    ensures names { OnOk result (store.new.known ≡ knowing (names_put arguments.now change) store.old.known) }
+    ensures some { OnErr result (KnowsSome (names_put arguments.now change) store.old.known store.new.known) }
     ensures places { HasPlaces change store.old.spare store.new.spare }
-    ensures free { TakesNone store.old.known change → IsOk result }
+    ensures free { TakesNone arguments.now store.old.known change → IsOk result }
     ensures err { IsOkUnless result Refusal.Memory }
 {
+    let name = arguments.get(1);
     match change {
-        Change::Put(_, _) | Change::Point(_, _) => unreachable!(),
-        Change::Keep => Ok(Undone::Nothing),
-        Change::Cut(name, cut) => Ok(cut_out(store, arguments, name.as_slice(), cut)),
-        Change::Remove(names) => delete_each(store, alloc, names),
-        Change::Clear => delete_all(store, alloc),
-        Change::MoveIn {
-            held,
-            name,
-            address,
-        } => put_aside(store, alloc, held, name.as_slice(), address),
-        Change::Bring { number, forms } => bring(store, alloc, number, forms),
-        Change::Erase { number, name } => Ok(erase(store, number, name.as_slice())),
+        UnnamedChange::Put(_) | UnnamedChange::Point(_) => unreachable!(),
+        UnnamedChange::Keep => Ok(Undone::Nothing),
+        UnnamedChange::Cut(cut) => Ok(cut_out(store, arguments, name, cut)),
+        UnnamedChange::Remove(names) => delete_each(store, alloc, names),
+        UnnamedChange::Clear => delete_all(store, alloc),
+        UnnamedChange::MoveIn { held, address } => put_aside(store, alloc, held, name, address),
+        UnnamedChange::Bring { number, forms } => bring(store, alloc, number, forms),
+        UnnamedChange::Erase { number } => Ok(erase(store, number, name)),
     }
 }
 

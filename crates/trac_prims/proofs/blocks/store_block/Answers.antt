@@ -9,7 +9,7 @@ use Rattle.trac_rules.specs.Form.{defined}
 use Rattle.trac_rules.specs.Handling.{without}
 use Rattle.trac_rules.specs.Limits.{may_be_put}
 use Rattle.trac_rules.specs.Undone.{names_in}
-use Rattle.trac_change.specs.declared.change.Change.TheVariants.{MoveIn}
+use Rattle.trac_change.specs.declared.change.UnnamedChange.TheVariants.{MoveIn}
 use Rattle.trac_text.specs.Framing.{texts_of}
 use Rattle.trac_prims.proofs.BlockPlans.{stored_so}
 use Rattle.trac_prims.proofs.Changes.{moves_in}
@@ -35,10 +35,10 @@ returns-clause-outcome g c = λ texts.
     omega (arith, length-map c.in_ok-held.held.items (λ text. text.items), c.in_ok-held.held.ok.0) in
     let more : length blocks < BLOCK_LIMIT = omega (arith, c.block_count-number.ensures.count) in
     let may : may_be_put name (defined (decimal (length blocks))) (without names storage.forms) ≡ true =
-    ap (λ (n : List ℕ). may_be_put n (defined (decimal (length blocks))) (without names storage.forms)) (sym c.get-name.ensures)
+    ap (λ (n : List ℕ). may_be_put n (defined (decimal (length blocks))) (without names storage.forms)) (sym c.get.ensures)
     ∙ sym (c.if-not-may_stand.ensures names (length blocks) (omega (arith, more)) slice) in
-    changed_so c.args.args.now storage texts (MoveIn c.in_ok-held.held c.in_ok-name.name c.in_ok-address.address)
-    (stored_so name names storage (texts_of c.in_ok-held.held.items) c.in_ok-name.name.items c.in_ok-address.address held (c.in_ok-name.ensures.items ∙ c.get-name.ensures)
+    changed_so c.args.args.now storage texts (MoveIn c.in_ok-held.held c.in_ok-address.address)
+    (stored_so name names storage (texts_of c.in_ok-held.held.items) c.in_ok-address.address held
     (c.in_ok-address.ensures.made ∙ ap (λ (n : ℕ). defined (decimal n)) c.block_count-number.ensures.count) few more may)
     refl
 
@@ -47,4 +47,4 @@ returns-clause-change g c =
     let storage = storage_in c.args.store.now in
     let held : texts_of c.in_ok-held.held.items ≡ names_in (moved_out (drop 2 c.args.args.now) storage.forms) =
     c.in_ok-held.ensures.made ∙ ap (λ (ns : List (List ℕ)). names_in (moved_out ns storage.forms)) c.after.ensures in
-    moves_in c.args.args.now storage c.in_ok-held.held c.in_ok-name.name c.in_ok-address.address (c.in_ok-name.ensures.items ∙ c.get-name.ensures) held
+    moves_in c.args.args.now storage c.in_ok-held.held c.in_ok-address.address held

@@ -5,7 +5,7 @@ use Rattle.std.proofs.lemmas.List.{append-nil, append_assoc}
 use Rattle.trac_rules.specs.Computing.{result_of}
 use Rattle.trac_rules.specs.Effect.{argument, forces, gives_or_forces}
 use Rattle.trac_rules.specs.Number.{number_text, prefix_of}
-use Rattle.trac_change.specs.declared.change.Change.TheVariants.{Keep}
+use Rattle.trac_change.specs.declared.change.UnnamedChange.TheVariants.{Keep}
 use Rattle.trac_prims.specs.Effects.{IsDone, nothing}
 use Rattle.trac_prims.proofs.Calculated.{calculated-None, calculated-Some}
 use Rattle.trac_prims.proofs.Kept.{as_said, given}

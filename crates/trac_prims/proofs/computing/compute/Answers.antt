@@ -6,7 +6,7 @@ use Rattle.trac_rules.specs.Effect.{Effect, argument, gives}
 use Rattle.trac_rules.specs.Number.{is_greater, numeral_of}
 use Rattle.trac_rules.specs.Octal.{bits_of, complement, meet, union}
 use Rattle.trac_rules.proofs.OctalTexts.{text_from_bits}
-use Rattle.trac_change.specs.declared.change.Change.TheVariants.{Keep}
+use Rattle.trac_change.specs.declared.change.UnnamedChange.TheVariants.{Keep}
 use Rattle.trac_prims.specs.Effects.{IsDone}
 use Rattle.trac_prims.proofs.OctalCalls.{gives_joined}
 use Rattle.trac_prims.proofs.computing.compute.Goals as goal

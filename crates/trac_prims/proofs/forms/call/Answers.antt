@@ -7,7 +7,7 @@ use Rattle.trac_rules.specs.Handling.{named_form, on_form}
 use Rattle.trac_rules.specs.Outcomes.{limited}
 use Rattle.trac_forms.specs.Stored.{storage_in}
 use Rattle.trac_prims.specs.Effects.{IsDone, pieces_fit, nothing}
-use Rattle.trac_change.specs.declared.change.Change.TheVariants.{Keep}
+use Rattle.trac_change.specs.declared.change.UnnamedChange.TheVariants.{Keep}
 use Rattle.trac_prims.proofs.Kept.{changed_so, given, value_beyond}
 use Rattle.trac_prims.proofs.forms.call.Goals as goal
 

@@ -4,7 +4,7 @@ use Rattle.trac_rules.specs.Effect.{prints}
 use Rattle.trac_rules.specs.Handling.{named_form, on_form}
 use Rattle.trac_rules.specs.Showing.{shown}
 use Rattle.trac_forms.specs.Stored.{storage_in}
-use Rattle.trac_change.specs.declared.change.Change.TheVariants.{Keep}
+use Rattle.trac_change.specs.declared.change.UnnamedChange.TheVariants.{Keep}
 use Rattle.trac_prims.specs.Effects.{IsDone, nothing}
 use Rattle.trac_prims.proofs.Kept.{changed_so, printed}
 use Rattle.trac_prims.proofs.forms.print_form.Goals as goal

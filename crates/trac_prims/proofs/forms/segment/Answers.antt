@@ -1,12 +1,11 @@
-use Rattle.std.proofs.Common.{◌≡◌, ℕ, List, Ok, Some, drop, sym, ap, ◌∙◌, refl}
+use Rattle.std.proofs.Common.{◌≡◌, ℕ, List, Some, drop, sym, ap, ◌∙◌, refl}
 use Rattle.std.specs.FinMap as finite
 use Rattle.trac_forms.specs.Stored.{storage_in}
-use Rattle.trac_rules.specs.Effect.{argument, leaves}
+use Rattle.trac_rules.specs.Effect.{argument}
 use Rattle.trac_rules.specs.Handling.{named_form}
 use Rattle.trac_rules.specs.Limits.{may_be_put}
 use Rattle.trac_rules.specs.Segmenting.{segmented}
-use Rattle.trac_change.specs.declared.change.Change.TheVariants.{Cut}
-use Rattle.trac_change.specs.Changed.{cut_in}
+use Rattle.trac_change.specs.declared.change.UnnamedChange.TheVariants.{Cut}
 use Rattle.trac_prims.proofs.Held.{is_segmented, not_segmented}
 use Rattle.trac_prims.proofs.Kept.{changed_so}
 use Rattle.trac_prims.proofs.Putting.{sound_segmented}
@@ -29,9 +28,7 @@ returns-clause-outcome g c = λ width texts.
     let form = c.in-Some.form.now in
     let held : named_form c.args.args.now storage ≡ Some form = ap (finite.get storage.forms) (sym c.get-name.ensures) ∙ sym c.in-Some.ensures.value in
     let may = c.if-not-may_put.ensures (segmented given form) (sound_segmented given form c.in-Some.ensures.sound) in
-    let named : argument 1 c.args.args.now ≡ c.in_ok-name.name.items = sym (c.in_ok-name.ensures.items ∙ c.get-name.ensures) in
-    changed_so c.args.args.now storage texts (Cut c.in_ok-name.name c.in_ok-cut.cut)
+    changed_so c.args.args.now storage texts (Cut c.in_ok-cut.cut)
     (is_segmented (argument 1 c.args.args.now) given (named_form c.args.args.now storage) form storage held
-    (ap (λ (name : List ℕ). may_be_put name (segmented given form) storage.forms) (sym c.get-name.ensures) ∙ sym may)
-    ∙ ap (λ (name : List ℕ). Ok (leaves (cut_in name given (finite.get storage.forms name) storage))) named)
+    (ap (λ (name : List ℕ). may_be_put name (segmented given form) storage.forms) (sym c.get-name.ensures) ∙ sym may))
     refl

@@ -4,7 +4,7 @@ use Rattle.std.proofs.lemmas.Bool.{eqb-false}
 use Rattle.trac_rules.specs.declared.refusal.Refusal.{Refusal}
 use Rattle.trac_rules.specs.Effect.{Effect, reads}
 use Rattle.trac_rules.specs.Reading.{byte_read}
-use Rattle.trac_change.specs.declared.change.Change.TheVariants.{Keep}
+use Rattle.trac_change.specs.declared.change.UnnamedChange.TheVariants.{Keep}
 use Rattle.trac_prims.specs.Effects.{IsDone}
 use Rattle.trac_prims.proofs.Kept.{byte_given}
 use Rattle.trac_prims.proofs.io.read_byte.Goals as goal

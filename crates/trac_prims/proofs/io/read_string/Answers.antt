@@ -5,7 +5,7 @@ use Rattle.trac_rules.specs.declared.refusal.Refusal.{Refusal}
 use Rattle.trac_rules.specs.Effect.{Effect, reads}
 use Rattle.trac_rules.specs.Outcomes.{limited}
 use Rattle.trac_rules.specs.Reading.{read_up_to, rest_read, string_read}
-use Rattle.trac_change.specs.declared.change.Change.TheVariants.{Keep}
+use Rattle.trac_change.specs.declared.change.UnnamedChange.TheVariants.{Keep}
 use Rattle.trac_prims.specs.Effects.{IsDone, pieces_fit}
 use Rattle.trac_prims.proofs.FirstPlaces.{first_byte}
 use Rattle.trac_prims.proofs.Kept.{rest_given}

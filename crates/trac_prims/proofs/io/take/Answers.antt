@@ -1,7 +1,7 @@
 use Rattle.std.proofs.Common.{refl, sym}
 use Rattle.std.proofs.lemmas.List.{append-nil}
 use Rattle.trac_rules.specs.Effect.{reads}
-use Rattle.trac_change.specs.declared.change.Change.TheVariants.{Keep}
+use Rattle.trac_change.specs.declared.change.UnnamedChange.TheVariants.{Keep}
 use Rattle.trac_prims.specs.Effects.{nothing}
 use Rattle.trac_prims.proofs.Kept.{as_said}
 use Rattle.trac_prims.proofs.io.take.Goals as goal

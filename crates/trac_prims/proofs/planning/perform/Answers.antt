@@ -9,7 +9,7 @@ use Rattle.trac_rules.specs.Reading.{byte_read, string_read}
 use Rattle.trac_rules.specs.State.{initial, storage_of}
 use Rattle.trac_rules.proofs.Steps.{effect_within}
 use Rattle.trac_forms.specs.Stored.{storage_in}
-use Rattle.trac_change.specs.declared.change.Change.TheVariants.{Keep}
+use Rattle.trac_change.specs.declared.change.UnnamedChange.TheVariants.{Keep}
 use Rattle.trac_prims.specs.Effects.{IsDone, nothing}
 use Rattle.trac_prims.proofs.Kept.{changed_so, keeps_so, left_so, meta_given, printed}
 use Rattle.trac_prims.proofs.ReadCounts.{done_unread}

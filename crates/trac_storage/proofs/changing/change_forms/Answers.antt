@@ -2,20 +2,21 @@
 use Rattle.std.proofs.Common.{List, ℕ, [], ◌∷◌, ap, sym, subst, ◌∙◌, IsTrue}
 use Rattle.std.specs.FinSet as set
 use Rattle.std.proofs.lemmas.Bool.{false≢true}
+use Rattle.trac_rules.specs.Effect.{argument}
 use Rattle.trac_forms.specs.Stored.{Stored}
 use Rattle.trac_forms.proofs.Going.{on_err}
 use Rattle.trac_storage.proofs.Known.{knows_same}
 use Rattle.trac_storage.proofs.changing.change_forms.Goals as goal
 
 pub returns-in-Point : goal.returns-in-Point
-returns-in-Point g c = rw (c.in-Point.is, ← c.as_slice.ensures.value) (assumption)
+returns-in-Point g c = rw (c.in-Point.is, ← c.get-name.ensures) (assumption)
 
 pub returns-in_err-insert-in-Put-clause-some : goal.returns-in_err-insert-in-Put-clause-some
 returns-in_err-insert-in-Put-clause-some g c =
     rw (sym c.replace.ensures.value ∙ c.in-Put.is)
-    (on_err _ (knows_same (c.in-Put.name.items ∷ []) c.args.store.now.known c.insert.new.self.known (ap (λ (s : Stored). s.known) c.in_err-insert-in-Put.ensures.unchanged)))
+    (on_err _ (knows_same (argument 1 c.args.arguments.now ∷ []) c.args.store.now.known c.insert.new.self.known (ap (λ (s : Stored). s.known) c.in_err-insert-in-Put.ensures.unchanged)))
 
 pub returns-in_err-insert-in-Put-clause-free : goal.returns-in_err-insert-in-Put-clause-free
 returns-in_err-insert-in-Put-clause-free g c =
     rw (sym c.replace.ensures.value ∙ c.in-Put.is)
-    (λ known. absurd (false≢true (c.in_err-insert-in-Put.ensures.again (subst (λ (n : List ℕ). IsTrue (set.contains c.args.store.now.known n)) (sym c.as_slice-in-Put.ensures.value) known))))
+    (λ known. absurd (false≢true (c.in_err-insert-in-Put.ensures.again (subst (λ (n : List ℕ). IsTrue (set.contains c.args.store.now.known n)) (sym c.get-name.ensures) known))))

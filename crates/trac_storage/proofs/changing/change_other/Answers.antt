@@ -11,12 +11,10 @@ pub returns-in-Keep : goal.returns-in-Keep
 returns-in-Keep g c = rw c.in-Keep.is (assumption)
 
 pub cut_out-requires : goal.cut_out-requires
-cut_out-requires g c =
-    let given = rw c.in-Cut.is at c.requires.given in
-    rw (c.as_slice.ensures.value, given.0) given.1
+cut_out-requires g c = rw c.get-name.ensures (rw c.in-Cut.is at c.requires.pieces)
 
 pub returns-in-Cut : goal.returns-in-Cut
-returns-in-Cut g c = rw (c.in-Cut.is, ← c.as_slice.ensures.value) (assumption)
+returns-in-Cut g c = rw (c.in-Cut.is, ← c.get-name.ensures) (assumption)
 
 pub returns-in-Remove : goal.returns-in-Remove
 returns-in-Remove g c =
@@ -31,11 +29,11 @@ returns-in-Clear g c =
 pub returns-in-MoveIn : goal.returns-in-MoveIn
 returns-in-MoveIn g c =
     let free : ⊥ → IsOk c.put_aside.result = λ none. absurd none in
-    let some = on_err_weaker c.put_aside.result (knows_same (c.as_slice-in-MoveIn.result.now ∷ []) c.args.store.now.known c.put_aside.new.store.known) c.put_aside.ensures.same in
-    rw (c.in-MoveIn.is, ← c.as_slice-in-MoveIn.ensures.value) (assumption (free, some))
+    let some = on_err_weaker c.put_aside.result (knows_same (c.get-name.result.now ∷ []) c.args.store.now.known c.put_aside.new.store.known) c.put_aside.ensures.same in
+    rw (c.in-MoveIn.is, ← c.get-name.ensures) (assumption (free, some))
 
 pub bring-requires : goal.bring-requires
-bring-requires g c = block_apart c.in-Bring.number c.args.store.now.blocks (named_forms c.in-Bring.forms.items) c.requires.proper.blocks (rw c.in-Bring.is at c.requires.given)
+bring-requires g c = block_apart c.in-Bring.number c.args.store.now.blocks (named_forms c.in-Bring.forms.items) c.requires.proper.blocks (rw c.in-Bring.is at c.requires.pieces)
 
 pub returns-in-Bring : goal.returns-in-Bring
 returns-in-Bring g c =
@@ -43,7 +41,7 @@ returns-in-Bring g c =
     rw c.in-Bring.is (assumption free)
 
 pub erase-requires : goal.erase-requires
-erase-requires g c = (rw c.in-Erase.is at c.requires.given).1
+erase-requires g c = rw c.in-Erase.is at c.requires.pieces
 
 pub returns-in-Erase : goal.returns-in-Erase
-returns-in-Erase g c = rw (c.in-Erase.is, ← c.as_slice-in-Erase.ensures.value) (assumption)
+returns-in-Erase g c = rw (c.in-Erase.is, ← c.get-name.ensures) (assumption)

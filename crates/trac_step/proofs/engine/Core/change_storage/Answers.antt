@@ -5,7 +5,7 @@ use Rattle.std.proofs.lemmas.Result.{on_err_weaker, on_ok_weaker}
 use Rattle.trac_rules.specs.Scanning.{scan}
 use Rattle.trac_rules.specs.State.{Storage, storage_of}
 use Rattle.trac_forms.specs.Stored.{storage_in}
-use Rattle.trac_change.specs.Changes.{NamesGiven, undone_of}
+use Rattle.trac_change.specs.Changes.{PiecesAreOf, undone_of}
 use Rattle.trac_change.specs.Changed.{changed}
 use Rattle.trac_change.specs.Undone.{undone_in}
 use Rattle.trac_storage.specs.Changing.{names_put}
@@ -22,12 +22,12 @@ arguments_at-arguments-requires g c =
     let i = c.self.inside in
     begun_here (parts_of (g.E.TwoEnds.ends i.text) (g.M.TwoEnds.ends i.marks) i.store i.meta i.trace i.position i.output) c.args.self.now c.args.beginning c.self.invariant.sound c.self.view_is c.requires.begins
 
-pub change_forms-requires-clause-given : goal.change_forms-requires-clause-given
-change_forms-requires-clause-given g c =
+pub change_forms-requires-clause-pieces : goal.change_forms-requires-clause-pieces
+change_forms-requires-clause-pieces g c =
     let i = c.self.inside in
     let given = c.arguments_at-arguments.ensures ∙ given_here (parts_of (g.E.TwoEnds.ends i.text) (g.M.TwoEnds.ends i.marks) i.store i.meta i.trace i.position i.output) c.args.self.now c.args.beginning c.self.invariant.sound c.self.view_is c.requires.begins c.requires.front in
-    subst (λ (texts : List (List ℕ)). NamesGiven texts (storage_in i.store) c.args.change.now) (sym given)
-    (subst (λ (m : Shown). NamesGiven (arguments_in (scan c.args.self.now.state)) (storage_of m.state) c.args.change.now) (sym c.self.view_is) c.requires.given)
+    subst (λ (texts : List (List ℕ)). PiecesAreOf texts (storage_in i.store) c.args.change.now) (sym given)
+    (subst (λ (m : Shown). PiecesAreOf (arguments_in (scan c.args.self.now.state)) (storage_of m.state) c.args.change.now) (sym c.self.view_is) c.requires.pieces)
 
 pub invariant_of-self : goal.invariant_of-self
 invariant_of-self g c =
@@ -60,7 +60,10 @@ returns-clause-changed g c =
 
 pub returns-clause-undone : goal.returns-clause-undone
 returns-clause-undone g c =
-    subst (λ (m : Shown). IfOk c.change_forms.result (λ undone. undone_in undone ≡ undone_of c.args.change.now (storage_of m.state))) c.self.view_is c.change_forms.ensures.undone
+    let i = c.self.inside in
+    let given = c.arguments_at-arguments.ensures ∙ given_here (parts_of (g.E.TwoEnds.ends i.text) (g.M.TwoEnds.ends i.marks) i.store i.meta i.trace i.position i.output) c.args.self.now c.args.beginning c.self.invariant.sound c.self.view_is c.requires.begins c.requires.front in
+    subst (λ (texts : List (List ℕ)). IfOk c.change_forms.result (λ undone. undone_in undone ≡ undone_of texts c.args.change.now (storage_of c.args.self.now.state))) given
+    (subst (λ (m : Shown). IfOk c.change_forms.result (λ undone. undone_in undone ≡ undone_of c.arguments_at-arguments.result c.args.change.now (storage_of m.state))) c.self.view_is c.change_forms.ensures.undone)
 
 pub returns-clause-unchanged : goal.returns-clause-unchanged
 returns-clause-unchanged g c =
@@ -77,4 +80,4 @@ returns-clause-room g c =
     let p = parts_of (g.E.TwoEnds.ends i.text) (g.M.TwoEnds.ends i.marks) i.store i.meta i.trace i.position i.output in
     let after = c.change_forms.new.store in
     IsNoLess-parts p (record p { storage = storage_in after; known = after.known; spare = after.spare }) c.args.self.now c.self.view_is (omega arith) (omega arith) (omega arith)
-    (none_forgotten c.change_forms.result (names_put c.args.change.now) i.store.known after.known c.change_forms.ensures.names c.change_forms.ensures.some)
+    (none_forgotten c.change_forms.result (names_put c.arguments_at-arguments.result c.args.change.now) i.store.known after.known c.change_forms.ensures.names c.change_forms.ensures.some)

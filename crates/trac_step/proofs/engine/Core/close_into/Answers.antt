@@ -4,12 +4,10 @@ use Rattle.trac_rules.specs.declared.refusal.Refusal.TheVariants.{Memory}
 use Rattle.trac_rules.specs.Outcomes.{MayRefuse}
 use Rattle.trac_rules.specs.Records.{record_of}
 use Rattle.trac_rules.specs.Scanning.{scan}
-use Rattle.trac_rules.specs.State.{storage_of}
 use Rattle.trac_rules.specs.Stepping.{step}
-use Rattle.trac_change.specs.Changes.{undone_of}
 use Rattle.trac_prims.specs.Tape.{environment_of}
 use Rattle.trac_step.specs.Calling.{state_after}
-use Rattle.trac_step.specs.Ready.{IsFound, recorded_after}
+use Rattle.trac_step.specs.Ready.{IsFound, recorded_after, undone_after}
 use Rattle.trac_step.specs.Room.{LacksRoomAhead}
 use Rattle.trac_step.proofs.Beginnings.{some_frame}
 use Rattle.trac_step.proofs.Fitting.{added_as, call_fits}
@@ -64,7 +62,7 @@ perform_into-requires-clause-fits g c =
     let plan = c.in-Some.plan in
     let planned = subst (IsFound e s c.planned.new.made c.planned.new.change) c.in-Some.is c.in_ok-plan.ensures.planned in
     let can = c.requires.can in
-    call_fits e s (state_after plan c.planned.new.made c.planned.new.change (scan s)) plan.called (undone_of c.planned.new.change (storage_of s)) can.proper
+    call_fits e s (state_after plan c.planned.new.made c.planned.new.change (scan s)) plan.called (undone_after c.planned.new.change s) can.proper
     planned.ready.proper c.requires.front (some_frame s.frames s.base plan.beginning planned.ready.begins) can.position can.short planned.taken planned.recorded
 
 pub returns : goal.returns

@@ -2,8 +2,7 @@ use Rattle.std.proofs.Common.{List, ℕ, ap, arith, length, subst, ◌∙◌}
 use Rattle.std.specs.List.{concat}
 use Rattle.trac_rules.specs.Proper.{IsProper}
 use Rattle.trac_rules.specs.Records.{Called}
-use Rattle.trac_rules.specs.State.{State, storage_of}
-use Rattle.trac_change.specs.Changes.{undone_of}
+use Rattle.trac_step.specs.Ready.{undone_after}
 use Rattle.trac_journal.specs.Told.{record_with}
 use Rattle.trac_step.specs.Layout.{Shown, parts_of}
 use Rattle.trac_step.proofs.Beginnings.{some_frame}
@@ -48,7 +47,7 @@ returns-clause-recorded g c =
     let i = c.self.inside in
     let p = parts_of (g.E.TwoEnds.ends i.text) (g.M.TwoEnds.ends i.marks) i.store i.meta i.trace i.position i.output in
     let given = c.in_ok-arguments.ensures.same ∙ c.arguments_at-lent.ensures ∙ given_here p c.args.self.now c.args.plan.now.beginning c.self.invariant.sound c.self.view_is c.requires.begins c.requires.front in
-    let undone = c.in_ok-undone.ensures.undone ∙ ap (λ (s : State). undone_of c.args.change.now (storage_of s)) c.make_room.ensures.state in
+    let undone = c.in_ok-undone.ensures.undone ∙ ap (undone_after c.args.change.now) c.make_room.ensures.state in
     c.of_call.ensures ∙ (λ i. Called (record_with c.args.plan.now.called (given i) (undone i)))
 
 pub returns-clause-room : goal.returns-clause-room

@@ -2,12 +2,11 @@ use Rattle.std.proofs.Common.{◌≡◌, ℕ, ◌-◌, List, ◌∷◌, length, 
 use Rattle.std.specs.List.{concat}
 use Rattle.trac_rules.specs.Records.{Record}
 use Rattle.trac_rules.specs.Scanning.{scan}
-use Rattle.trac_rules.specs.State.{State, storage_of}
-use Rattle.trac_change.specs.Changes.{undone_of}
+use Rattle.trac_rules.specs.State.{State}
 use Rattle.trac_journal.specs.Journaled.{HasPlaceForCall}
 use Rattle.trac_step.specs.Calling.{arguments_in}
 use Rattle.trac_step.specs.Kept.{HasRoomForCall}
-use Rattle.trac_step.specs.Ready.{recorded_after}
+use Rattle.trac_step.specs.Ready.{recorded_after, undone_after}
 use Rattle.trac_step.proofs.CallsPerformed.{can_change, can_end, ended_then, not_kept}
 use Rattle.trac_step.proofs.Rooms.{no_less, no_less_then}
 use Rattle.trac_step.proofs.engine.Core.perform_into.Goals as goal
@@ -20,7 +19,7 @@ change_into-requires-clause-room g c =
     let s = c.args.self.now.state in
     let ready = c.requires.ready in
     let commas : c.args.plan.now.commas ≡ length (arguments_in (scan s)) - 1 = omega (arith, ready.commas) in
-    subst (λ (t : State). HasRoomForCall t c.args.plan.now.called (undone_of c.args.change.now (storage_of t)) c.reserve_call.new.self) (sym c.make_room.ensures.state) (record {
+    subst (λ (t : State). HasRoomForCall t c.args.plan.now.called (undone_after c.args.change.now t) c.reserve_call.new.self) (sym c.make_room.ensures.state) (record {
       not_full = omega (arith, c.requires.not_full, ap (λ (records : List Record). length records) c.reserve_call.ensures.same);
       place =
           subst (λ (n : ℕ). HasPlaceForCall (length (concat (arguments_in (scan s)))) n c.reserve_call.new.self) commas

@@ -12,7 +12,7 @@ use Rattle.trac_step.specs.Calling.{state_after}
 use Rattle.trac_step.specs.Layout.{parts_of, Shown}
 use Rattle.trac_step.proofs.Beginnings.{begins_innermost}
 use Rattle.trac_step.proofs.Calls.{call_of, step_unplanned}
-use Rattle.trac_step.proofs.CallsPlanned.{arguments_found, names_given, planned_recorded, planned_taken}
+use Rattle.trac_step.proofs.CallsPlanned.{arguments_found, pieces_given, planned_recorded, planned_taken}
 use Rattle.trac_step.proofs.Limited.{proper_of_sound}
 use Rattle.trac_step.proofs.Planned.{outer, count_within, frames_of, given_here, now_of, text_within}
 use Rattle.trac_step.proofs.engine.Core.planned.Goals as goal
@@ -79,7 +79,7 @@ returns-clause-planned g c =
     let change = c.plan_into.new.change in
     let deed = c.in_ok-deed.deed in
     let planned = c.in_ok-deed.ensures.outcome (call_of s inner.frame rest) given in
-    let named = c.in_ok-deed.ensures.change in
+    let of_call = c.in_ok-deed.ensures.change in
     let told = c.called_by.ensures in
     let plan : Plan = record {
       beginning = record { number = f.number; place = f.place; kind = f.kind };
@@ -92,7 +92,7 @@ returns-clause-planned g c =
       trace = deed.trace;
     } in
     let found = arguments_found s c.neutral.result f.number f.place f.kind f.arguments c.requires.front c.neutral.ensures inner in
-    let taken = planned_taken e s inner.frame rest c.requires.front frames f.kind f.arguments c.self.inside.store now given made change deed planned named plan
+    let taken = planned_taken e s inner.frame rest c.requires.front frames f.kind f.arguments c.self.inside.store now given made change deed planned of_call plan
     told.kind told.value told.scanned told.printed told.read told.meta told.trace refl refl refl in
     rw width_is (record {
       ready = record {
@@ -101,10 +101,10 @@ returns-clause-planned g c =
         position = ap (λ (t : State). t.position + deed.read) state_is ∙ ap (λ (n : ℕ). s.position + n) (sym told.read);
         bytes = ap (λ (bytes : List ℕ). length bytes) c.joined.ensures ∙ ap (λ (texts : List (List ℕ)). length (concat texts)) found;
         commas = c.comma_count.ensures ∙ ap (λ (texts : List (List ℕ)). length texts) found;
-        given = names_given e s inner.frame rest c.requires.front frames f.kind f.arguments c.self.inside.store now given made change deed planned named;
+        pieces = pieces_given e s inner.frame rest c.requires.front frames f.kind f.arguments c.self.inside.store now given made change deed planned of_call;
         proper = step_proper e s (state_after plan made change (scan s)) proper taken;
       };
       taken = taken;
-      recorded = planned_recorded e s inner.frame rest c.requires.front frames f.kind f.arguments c.self.inside.store now given made change deed planned named plan
+      recorded = planned_recorded e s inner.frame rest c.requires.front frames f.kind f.arguments c.self.inside.store now given made change deed planned of_call plan
           told.kind told.value told.scanned told.printed told.read told.meta told.trace refl refl refl;
     })
