@@ -16,5 +16,5 @@ pub use session::Session;
 pub use trac_forms::Form;
 pub use trac_rules::doubt::Doubt;
 pub use trac_rules::refusal::Refusal;
-pub use trac_step::{Args, Block, Item, Kind, Machine, Store, Texts, Width};
+pub use trac_step::{Args, Block, Item, Kind, Machine, Mark, Store, Tape, Texts, Width};
 pub use walk::{Return, Walk};
