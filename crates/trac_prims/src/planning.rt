@@ -82,8 +82,9 @@ pub fn plan<A: Allocator + Copy>(
 }
 
 /// What `plan` says, its value and what it prints being made in buffers. What the buffers held before is gone, and they
-/// take more memory only if they have too little. The change of forms and blocks is put in place of one that keeps all.
-/// After a refusal the buffers hold any texts, and the change may be any; nothing else has changed.
+/// take more memory only if they have too little. The change of forms and blocks is put in place of one that keeps all,
+/// and holds no copy of the name that the call gives. After a refusal the buffers hold any texts, and the change may be
+/// any; nothing else has changed.
 pub fn plan_into<A: Allocator + Copy>(
     alloc: A,
     args: &Args<'_>,
