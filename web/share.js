@@ -1,6 +1,6 @@
 // Share: a link to what the page shows; and Open, which takes a file or such a link. The address is never written.
 
-// A link's run goes no further than this step by itself.
+// A link's run goes no further than this step, and by itself no further than any run.
 const MOST_LINK_STEPS = 100000000;
 
 // What is shared: the program as it stands in the editor; and if that was run, the input and the step.
@@ -19,11 +19,13 @@ async function openHeld(page, held) {
   openProgram(page, "shared.trac", held.program);
   if (held.step === null) return;
   const { program, inputs, isClosed } = held;
-  const budget = BUDGET * Math.ceil(Math.min(Math.max(held.step, 1), MOST_LINK_STEPS) / BUDGET);
+  const steps = Math.min(Math.max(held.step, 1), MOST_LINK_STEPS);
+  const isFar = steps > BUDGET && await ask(`The link is to step ${grouped(held.step)}. Run ${grouped(steps)} steps of this program?`);
+  const budget = isFar ? BUDGET * Math.ceil(steps / BUDGET) : BUDGET;
   await page.perform({ program, inputs, isClosed, budget, isNew: true });
   if (!page.run) return;
   await page.visit(held.step);
-  if (held.step > page.run.end) page.note(`the link is to step ${grouped(held.step)}, and the run ends before it`);
+  if (held.step > page.run.end) page.note(`the link is to step ${grouped(held.step)}, and the run ${isFar || steps <= BUDGET ? "ends" : "stops"} before it`);
 }
 
 // Opens the link that is the address, if there is one. If it is wrong, that is said beside an empty editor.
