@@ -1,5 +1,6 @@
 """What the tools in Python have in common: how they begin and end, what they write, and how they show a name."""
 import argparse
+import contextlib
 import errno
 import os
 import select
@@ -64,10 +65,8 @@ def write(text, to=1):
 
 def tell(words, end="\n"):
     """Writes words to standard error. If they cannot be written there, there is nobody to say so to."""
-    try:
+    with contextlib.suppress(Fault):
         write(printable(words) + end, 2)
-    except Fault:
-        pass
 
 
 def begin(command, **how):
@@ -117,8 +116,15 @@ def stop(number, _):
     raise Stopped(number)
 
 
+def take_signals():
+    """Has signals end the tool in its own way, but for those that whoever began it wants passed over."""
+    for number in (signal.SIGINT, signal.SIGTERM, signal.SIGHUP):
+        if signal.getsignal(number) != signal.SIG_IGN:
+            signal.signal(number, stop)
+
+
 def status_of(name, main):
-    """Does what a tool does; returns its exit status, or the negative number of the signal that ends it."""
+    """Does what a tool does; returns its exit status."""
     try:
         return main() or 0
     except Fault as fault:
@@ -128,31 +134,33 @@ def status_of(name, main):
     except MemoryError:
         tell("{}: there is no memory".format(name))
         return 5
-    except KeyboardInterrupt:
-        return -signal.SIGINT
-    except Stopped as stopped:
-        return -stopped.number
     except OSError as fault:
         tell("{}: {}".format(name, fault.strerror or fault))
         return 5 if fault.errno in SCARCE else 70
 
 
-def run(name, main):
-    """Runs a tool from its beginning to its end."""
-    hold_streams()
-    for number in (signal.SIGTERM, signal.SIGHUP):
-        if signal.getsignal(number) == signal.SIG_DFL:
-            signal.signal(number, stop)
-    status = status_of(name, main)
+def end(status):
+    """Ends the tool, and what it has begun, with an exit status or by a signal, of which this is the negative number."""
     for process in begun:
         if process.poll() is None:
             process.kill()
     if status < 0:
-        try:
+        with contextlib.suppress(OSError):
             signal.signal(-status, signal.SIG_DFL)
-        except OSError:
-            # (some signals are always taken so)
-            pass
         os.kill(os.getpid(), -status)
     # (what Python would do at its end could fail anew, as a stream that is full)
     os._exit(status)
+
+
+def run(name, main):
+    """Runs a tool from its beginning to its end. A signal may come at any moment of that."""
+    status = None
+    while True:
+        try:
+            if status is None:
+                hold_streams()
+                take_signals()
+                status = status_of(name, main)
+            end(status)
+        except Stopped as stopped:
+            status = -stopped.number
