@@ -18,7 +18,8 @@ const MOST_BYTES = 33554432;
 async function openFile(page, file) {
   if (!file) return;
   if (file.size > MOST_BYTES) {
-    refuseFile(page, `${file.name} has ${grouped(file.size)} bytes: a program may have at most ${grouped(MOST_BYTES)}. Nothing is opened.`);
+    const most = `a program may have at most ${grouped(MOST_BYTES)}`;
+    refuseFile(page, `${file.name} has ${grouped(file.size)} bytes: ${most}. Nothing is opened.`);
     return;
   }
   if (!await mayDrop(page)) return;

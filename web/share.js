@@ -20,12 +20,13 @@ async function openHeld(page, held) {
   if (held.step === null) return;
   const { program, inputs, isClosed } = held;
   const steps = Math.min(Math.max(held.step, 1), MOST_LINK_STEPS);
-  const isFar = steps > BUDGET && await ask(`The link is to step ${grouped(held.step)}. Run ${grouped(steps)} steps of this program?`);
+  const isFar = steps > BUDGET
+    && await ask(`The link is to step ${grouped(held.step)}. Run ${grouped(steps)} steps of this program?`);
   const budget = isFar ? BUDGET * Math.ceil(steps / BUDGET) : BUDGET;
   await page.perform({ program, inputs, isClosed, budget, isNew: true });
   if (!page.run) return;
   await page.visit(held.step);
-  if (held.step > page.run.end) page.note(`the link is to step ${grouped(held.step)}, and the run ${isFar || steps <= BUDGET ? "ends" : "stops"} before it`);
+  if (held.step > page.run.end) page.note(`the link is to step ${grouped(held.step)}, and the run ends before it`);
 }
 
 // Opens the link that is the address, if there is one. If it is wrong, that is said beside an empty editor.
