@@ -1,20 +1,15 @@
 """A session of `trac debug` or `trac-walk` over a file, for trac-page and trac-play: its replies, with bounds on memory."""
+import contextlib
 import os
 import re
 import resource
 import shutil
 import subprocess
 
+from tool import Fault, begin, shown, write
+
 # The most bytes of FILE that the debugger takes.
 TAPE = 33_554_432
-
-
-class Fault(Exception):
-    """Why there is nothing to show, and the exit status."""
-
-    def __init__(self, words, status=1):
-        super().__init__(words)
-        self.status = status
 
 
 class TooLarge(Exception):
@@ -22,11 +17,15 @@ class TooLarge(Exception):
 
 
 class Debugger:
-    """A session of a debugger, begun by a command. What it takes of memory is bounded."""
+    """A session of a debugger over a tape, begun by a command without FILE. What it takes of memory is bounded."""
 
-    def __init__(self, command, memory):
+    def __init__(self, command, memory, tape):
         self.memory = memory
-        self.process = subprocess.Popen(command, stdin=subprocess.PIPE, stdout=subprocess.PIPE, preexec_fn=self.bound)
+        with passed_on(tape) as (file, give):
+            self.process = begin(command + [file.name], stdin=subprocess.PIPE, stdout=subprocess.PIPE, preexec_fn=self.bound,
+                                 pass_fds=[file.number])
+            file.close()
+            give()
         # replies that are read, and how many of their bytes are taken
         self.replies, self.taken = b"", 0
         # how long the last state was
@@ -150,9 +149,46 @@ class Debugger:
         self.replies, self.taken = b"", 0
 
 
+class Passed:
+    """A file without a place, which a process that is begun finds by its name."""
+
+    def __init__(self, number):
+        self.number, self.name, self.is_open = number, "/dev/fd/{}".format(number), True
+
+    def close(self):
+        """Leaves it to the process."""
+        if self.is_open:
+            os.close(self.number)
+        self.is_open = False
+
+
+@contextlib.contextmanager
+def passed_on(tape):
+    """A file that has a tape for one process, and what gives it the tape. Nothing is kept on a disk."""
+    reads, writes = os.pipe()
+    file = Passed(reads)
+
+    def give():
+        """Gives it all, and waits for a process that reads, if it is long. (If that has ended, its status says why.)"""
+        with contextlib.suppress(Fault):
+            write(tape, writes)
+        os.close(writes)
+
+    try:
+        yield file, give
+    finally:
+        file.close()
+
+
 def inside(line):
     """The text of a line with one text."""
     return line[line.index("[") + 1:-1]
+
+
+def bytes_of(text):
+    """The bytes of a text as the debugger shows it."""
+    front, *rest = text.split("\\x")
+    return front.encode() + b"".join(bytes((int(part[:2], 16),)) + part[2:].encode() for part in rest)
 
 
 def tail(text, most):
@@ -167,7 +203,7 @@ def find(name, script):
     beside = os.path.join(os.path.dirname(os.path.realpath(script)), name)
     place = beside if os.access(beside, os.X_OK) else shutil.which(name)
     if place is None:
-        raise Fault("the program {} is missing: looked for {}, and on PATH".format(name, beside), 70)
+        raise Fault("the program {} is missing: looked for {}, and on PATH".format(name, shown(beside)), 70)
     return place
 
 
@@ -177,23 +213,21 @@ def read_file(name):
         with open(name, "rb") as file:
             tape = file.read(TAPE + 1)
     except OSError as fault:
-        raise Fault("{}: {}".format(printable(name), fault.strerror), 6)
+        raise Fault("{}: {}".format(shown(name), fault.strerror), 6)
+    except ValueError:
+        raise Fault("{}: no name of a file".format(shown(name)), 6)
     if len(tape) > TAPE:
-        raise Fault("{}: more than {:,} bytes".format(printable(name), TAPE), 4)
+        raise Fault("{}: more than {:,} bytes".format(shown(name), TAPE), 4)
     return tape
-
-
-def printable(name):
-    """A name of a file, of which each byte that is no UTF-8 is shown as such."""
-    return os.fsencode(name).decode("utf-8", "backslashreplace")
 
 
 def version_of(program):
     """What the program says of its version. This also has a launcher make it ready."""
     try:
         said = subprocess.run([program, "--version"], stdin=subprocess.DEVNULL, stdout=subprocess.PIPE)
-    except OSError as fault:
-        raise Fault("{}: {}".format(printable(program), fault.strerror), 70)
+    except (OSError, ValueError) as fault:
+        raise Fault("{}: {}".format(shown(program), getattr(fault, "strerror", fault)), 70)
     if said.returncode != 0:
-        raise Fault("{} --version ended with status {}".format(program, said.returncode), said.returncode)
+        raise Fault("{} --version ended with status {}".format(shown(program), said.returncode),
+                    said.returncode if said.returncode > 0 else 70)
     return said.stdout.decode("utf-8", "replace").strip()

@@ -12,9 +12,28 @@ async function mayDrop(page) {
   return !page.isTyped || await ask("The program in the editor is not saved. Open another in its place?");
 }
 
+// The most bytes that a program may have. A longer file is not even read: a tab has no room for any size.
+const MOST_BYTES = 33554432;
+
 async function openFile(page, file) {
-  if (!file || !await mayDrop(page)) return;
-  openProgram(page, file.name, new Uint8Array(await file.arrayBuffer()));
+  if (!file) return;
+  if (file.size > MOST_BYTES) {
+    const most = `a program may have at most ${grouped(MOST_BYTES)}`;
+    refuseFile(page, `${file.name} has ${grouped(file.size)} bytes: ${most}. Nothing is opened.`);
+    return;
+  }
+  if (!await mayDrop(page)) return;
+  try {
+    openProgram(page, file.name, new Uint8Array(await file.arrayBuffer()));
+  } catch {
+    refuseFile(page, `${file.name} cannot be read. Nothing is opened.`);
+  }
+}
+
+// Says that a file is not opened.
+function refuseFile(page, words) {
+  byId("ending").textContent = words;
+  page.announcer.say("ending", words);
 }
 
 // Writes the program to a file, by a link that is pressed.

@@ -1,6 +1,6 @@
 // Share: a link to what the page shows; and Open, which takes a file or such a link. The address is never written.
 
-// A link's run goes no further than this step by itself.
+// A link's run goes no further than this step, and by itself no further than any run.
 const MOST_LINK_STEPS = 100000000;
 
 // What is shared: the program as it stands in the editor; and if that was run, the input and the step.
@@ -19,7 +19,10 @@ async function openHeld(page, held) {
   openProgram(page, "shared.trac", held.program);
   if (held.step === null) return;
   const { program, inputs, isClosed } = held;
-  const budget = BUDGET * Math.ceil(Math.min(Math.max(held.step, 1), MOST_LINK_STEPS) / BUDGET);
+  const steps = Math.min(Math.max(held.step, 1), MOST_LINK_STEPS);
+  const isFar = steps > BUDGET
+    && await ask(`The link is to step ${grouped(held.step)}. Run ${grouped(steps)} steps of this program?`);
+  const budget = isFar ? BUDGET * Math.ceil(steps / BUDGET) : BUDGET;
   await page.perform({ program, inputs, isClosed, budget, isNew: true });
   if (!page.run) return;
   await page.visit(held.step);

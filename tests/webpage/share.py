@@ -214,6 +214,37 @@ def check_served(page, file):
         server.server_close()
 
 
+def check_far(page, file):
+    """A link to a step after the first 2,000,000 is run so far only if that is wanted."""
+    endless = b"#(ds,L,(#(cl,L)))'#(cl,L)'"
+    for answer, step in (("no", 2000000), ("yes", 3000000)):
+        page.load(file, link(body(endless, [], True, 3000000)))
+        page.until("document.getElementById('question').open", "a far link asks first")
+        check("The link is to step 3,000,000." in page.text("question-text"), "what it asks: " + page.text("question-text"))
+        check(page.text("output") == "" and page.script("document.getElementById('slider').value") != "3000000", "nothing runs before")
+        page.click("document.getElementById('question-{}')".format(answer))
+        page.at(step, "a far link goes")
+    page.well("far links")
+
+
+def check_large_file(page):
+    """A file that is too long is refused by its size: it is not read."""
+    page.type("#(ps,kept)'")
+    page.script("""(() => {
+      window.wasRead = false;
+      File.prototype.arrayBuffer = async () => { window.wasRead = true; return new ArrayBuffer(0); };
+      const given = new DataTransfer();
+      given.items.add(new File([new Uint8Array(33554433)], 'large.trac'));
+      const box = document.getElementById('file');
+      box.files = given.files;
+      box.dispatchEvent(new Event('change'));
+    })()""")
+    said = "large.trac has 33,554,433 bytes: a program may have at most 33,554,432."
+    page.until("document.getElementById('ending').textContent.startsWith('{}')".format(said), "it is said that a file is too long")
+    check(not page.script("window.wasRead || document.getElementById('question').open"), "it is not read, and nothing is asked")
+    check(page.script("document.getElementById('source').value") == "#(ps,kept)'", "the program stays")
+
+
 class Quiet(http.server.SimpleHTTPRequestHandler):
     """A server that says nothing."""
 
@@ -229,6 +260,10 @@ def check_share(page):
     check_wrong(page, file)
     check_pasted(page)
     check_without_packing(page)
+    check_far(page, file)
+    page.load(file)
+    ready(page)
+    check_large_file(page)
     check_served(page, file)
     page.load(file)
     ready(page)

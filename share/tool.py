@@ -1,0 +1,166 @@
+"""What the tools in Python have in common: how they begin and end, what they write, and how they show a name."""
+import argparse
+import contextlib
+import errno
+import os
+import select
+import signal
+import subprocess
+import sys
+
+# What the system says where there is too little of something for now.
+SCARCE = (errno.ENOMEM, errno.EAGAIN, errno.EMFILE, errno.ENFILE)
+# How the debugger shows each byte of a text.
+SIGNS = [chr(byte) if 32 <= byte <= 126 and chr(byte) not in "\\[]" else "\\x{:02x}".format(byte) for byte in range(256)]
+# The processes that were begun, of which none goes on when the tool ends.
+begun = []
+
+
+class Fault(Exception):
+    """Why a tool does not go on, in words if there is anything to say, and its exit status."""
+
+    def __init__(self, words, status=1):
+        super().__init__(words)
+        self.status = status
+
+
+class Stopped(BaseException):
+    """A signal has come that ends the tool."""
+
+    def __init__(self, number):
+        super().__init__(number)
+        self.number = number
+
+
+def shown(text):
+    """Bytes, or a name or word of the command line, as the debugger shows a text."""
+    return "".join(map(SIGNS.__getitem__, text if isinstance(text, (bytes, bytearray)) else os.fsencode(text)))
+
+
+def printable(words):
+    """Words with shown names in them: what a terminal might obey, or would not show, is shown as the debugger does."""
+    return "".join(sign if " " <= sign <= "~" or sign == "\n" else shown(sign.encode("utf-8", "surrogateescape"))
+                   for sign in words)
+
+
+def legible(words):
+    """The same for what a reader is to copy, or sees in a page: letters of all scripts stand as themselves."""
+    return "".join(sign if sign.isprintable() else shown(sign.encode("utf-8", "surrogateescape")) for sign in words)
+
+
+def write(text, to=1):
+    """Writes a whole text or bytes, also where a stream takes a part at a time. Where it takes no more, that is a fault of
+    status 7: in no words, if only the reader is gone."""
+    left = memoryview(text.encode("utf-8", "surrogateescape") if isinstance(text, str) else text)
+    while left:
+        try:
+            left = left[os.write(to, left):]
+        except BlockingIOError:
+            select.select([], [to], [])
+        except BrokenPipeError:
+            raise Fault("", 7)
+        except OSError as fault:
+            raise Fault("the output cannot be written: {}".format(fault.strerror), 7)
+
+
+def tell(words, end="\n"):
+    """Writes words to standard error. If they cannot be written there, there is nobody to say so to."""
+    with contextlib.suppress(Fault):
+        write(printable(words) + end, 2)
+
+
+def begin(command, **how):
+    """Begins a process, which ends with the tool."""
+    process = subprocess.Popen(command, **how)
+    begun.append(process)
+    return process
+
+
+class Words(argparse.ArgumentParser):
+    """A command line, of which no word reaches the terminal as it is."""
+
+    def parse_args(self, args=None, namespace=None):
+        chosen, others = self.parse_known_args(args, namespace)
+        if others:
+            self.error("unrecognized arguments: {}".format(" ".join(map(shown, others))))
+        return chosen
+
+    def error(self, message):
+        tell("{}{}: error: {}".format(self.format_usage(), self.prog, message))
+        raise Fault("", 2)
+
+    def exit(self, status=0, message=None):
+        raise Fault(message or "", status)
+
+    def _print_message(self, message, file=None):
+        write(message, 2 if file is not None and file is sys.stderr else 1)
+
+
+def hold_streams():
+    """Opens each standard stream that is closed so that its use fails: else the next file would take its place."""
+    for number, other in ((0, os.O_WRONLY), (1, os.O_RDONLY), (2, os.O_RDONLY)):
+        try:
+            os.fstat(number)
+        except OSError:
+            place = os.open(os.devnull, other)
+            if place != number:
+                os.dup2(place, number)
+                os.close(place)
+    # (who asks for a line at a terminal wants one)
+    sys.stderr = sys.stderr or open(os.devnull, "w")
+
+
+def stop(number, _):
+    """Takes a signal."""
+    signal.signal(number, signal.SIG_IGN)
+    raise Stopped(number)
+
+
+def take_signals():
+    """Has signals end the tool in its own way, but for those that whoever began it wants passed over."""
+    for number in (signal.SIGINT, signal.SIGTERM, signal.SIGHUP):
+        if signal.getsignal(number) != signal.SIG_IGN:
+            signal.signal(number, stop)
+
+
+def status_of(name, main):
+    """Does what a tool does; returns its exit status."""
+    try:
+        return main() or 0
+    except Fault as fault:
+        if str(fault):
+            tell("{}: {}".format(name, fault))
+        return fault.status
+    except MemoryError:
+        tell("{}: there is no memory".format(name))
+        return 5
+    except OSError as fault:
+        tell("{}: {}".format(name, fault.strerror or fault))
+        return 5 if fault.errno in SCARCE else 70
+
+
+def end(status):
+    """Ends the tool, and what it has begun, with an exit status or by a signal, of which this is the negative number."""
+    for process in begun:
+        if process.poll() is None:
+            process.kill()
+    if status < 0:
+        with contextlib.suppress(OSError):
+            signal.signal(-status, signal.SIG_DFL)
+        os.kill(os.getpid(), -status)
+    # (what Python would do at its end could fail anew, as a stream that is full)
+    os._exit(status)
+
+
+def run(name, main):
+    """Runs a tool from its beginning to its end. A signal may come at any moment of that."""
+    status = None
+    while True:
+        try:
+            if status is None:
+                hold_streams()
+                take_signals()
+                status = status_of(name, main)
+            end(status)
+        except Stopped as stopped:
+            status = -stopped.number
