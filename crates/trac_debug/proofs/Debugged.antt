@@ -1,6 +1,6 @@
 -- A session of the debugger, line by line.
 use Rattle.std.proofs.Common.{◌≡◌, ℕ, ◌+◌, ◌-◌, ◌*◌, ◌==◌, ◌<◌, ◌≤◌, not, Bool, true, false, List, [], ◌∷◌, ◌++◌, length, take, drop, refl, sym, ap, subst, ◌∙◌, arith, inl, inr, ⊎_elim}
-use Rattle.std.specs.Prelude.{Option, None, Some, Result, Ok, Err, IfErr, IsOkUnless, nat_le, if◌then◌else◌}
+use Rattle.std.specs.Prelude.{Option, None, Some, Result, Ok, Err, IfErr, OnErr, IsOkUnless, nat_le, if◌then◌else◌}
 use Rattle.std.specs.Io.KnownBytes.{Appends, Consumes, IsAtEnd, Keeps}
 use Rattle.std.proofs.lemmas.Bool.{false≢true, cond-true, cond-false, le-leb, lt-leb, cases_lt}
 use Rattle.std.proofs.lemmas.Bool.Decides.{nat_tests}
@@ -19,7 +19,7 @@ use Rattle.trac_streams.specs.declared.lines.NextLine.TheVariants.{Line, TooLong
 use Rattle.trac_streams.specs.declared.lines.TheConstants.{LINE_LIMIT, LINE_COUNT_LIMIT}
 use Rattle.trac_streams.specs.Lines.{lines_of, is_within}
 use Rattle.trac_debug.specs.Commands.{LineCommand, Forward, Back, Until, Return, Print, Commit, Quit, command_of}
-use Rattle.trac_debug.specs.Replies.{Replies}
+use Rattle.trac_debug.specs.Replies.{Replies, is_walk}
 use Rattle.trac_debug.specs.Debugging.{Turn, Passes, Does, Ends, Takes, MayWrite, MayFollow, FollowsFirst, MayShow, RepliesToFirst, ready, shown_where, turn_at, turn_of}
 use Rattle.trac_debug.specs.Debugs.{UnlessFault, UnlessWrite, Debugs, DebugsBy, MOST_READ, IsReady, IsNotReplied, Settles, Stops, Advances, Halts}
 use Rattle.trac_streams.specs.Pending.{Pending}
@@ -100,7 +100,7 @@ turn_sound number (b ∷ bs) =
 stop_sound : (turn : Turn) (p : PlainSession) (a b : Option (List ℕ)) (ending : Ending) → EndsSound turn → Stops turn p a b ending → fault_reads ending ≡ 0
 stop_sound Passes p a b ending sound stops = absurd stops
 stop_sound (Does command) p a b ending sound stops = ⊎_elim
-    (λ (none : (ending ≡ Memory) × (stops.front.written ≡ [])). ap fault_reads none.0)
+    (λ (none : (ending ≡ Memory) × (stops.front.written ≡ []) × (is_walk command ≡ false)). ap fault_reads none.0)
     (λ (fault : ending ≡ Write). ap fault_reads fault)
     stops.fault
 stop_sound (Ends stop) p a b ending sound stops = ap fault_reads stops.0 ∙ sound
@@ -160,11 +160,11 @@ stopped (Does command) p a b ending stops =
           let more = some_text lines number stops.new in
           (stops.reply ++ more.0, more.1, (stops.reply, stops.new, more.0, stops.replies, refl, more.2), front_before written stops.reply more.0 stops.front.front);
       whole = λ lines number. ⊎_elim
-          (λ (none : (ending ≡ Memory) × (written ≡ [])). unless_Memory ending (Takes (Does command) p (λ r rest. MayWrite lines number r rest ending) written ending) none.0)
+          (λ (none : (ending ≡ Memory) × (written ≡ []) × (is_walk command ≡ false)). unless_Memory ending (Takes (Does command) p (λ r rest. MayWrite lines number r rest ending) written ending) none.0)
           (λ (fault : ending ≡ Write). unless_Write ending (Takes (Does command) p (λ r rest. MayWrite lines number r rest ending) written ending) fault)
           stops.fault;
       nothing = ⊎_elim
-          (λ (none : (ending ≡ Memory) × (written ≡ [])). always_unless ending (written ≡ []) none.1)
+          (λ (none : (ending ≡ Memory) × (written ≡ []) × (is_walk command ≡ false)). always_unless ending (written ≡ []) none.1)
           (λ (fault : ending ≡ Write). write_unless ending (written ≡ []) fault)
           stops.fault;
     }
@@ -546,34 +546,32 @@ refused_too_long tape ending (inr why) long = why.0
 -- ---- replies
 
 -- no reply could be made
-pub not_made : (command : LineCommand) (old : PlainSession) (output : Option (List ℕ)) → IsNotReplied command old output output Memory
-not_made command old output =
+pub not_made : (command : LineCommand) (old : PlainSession) (output : Option (List ℕ)) → is_walk command ≡ false → IsNotReplied command old output output Memory
+not_made command old output other =
     let some = some_reply command old in
     record {
-      fault = inl (refl, refl);
+      fault = inl (refl, refl, other);
       reply = some.0;
       new = some.1;
       replies = some.2;
       front = record { written = []; front = front_of_nothing some.0; gave = Appends-nothing output };
     }
 
--- a reply could not be written
-pub not_written : (command : LineCommand) (old new : PlainSession) (reply : List ℕ) (a b : Option (List ℕ)) (ending : Ending) → Replies command old reply new → ending ≡ Write → WritesFront a b reply →
-    IsNotReplied command old a b ending
-not_written command old new reply a b ending replies fault front = record {
+-- a reply could not be written or flushed
+pub not_written : (command : LineCommand) (old new : PlainSession) (lent reply : List ℕ) (a b : Option (List ℕ)) (wrote : Result (Unit {0}) Ending) → lent ≡ reply → Replies command old reply new → IsOkUnless wrote Write → OnErr wrote (WritesFront a b lent) →
+    IfErr wrote (IsNotReplied command old a b)
+not_written command old new lent reply a b (Ok none) is replies fault front = tt
+not_written command old new lent reply a b (Err ending) is replies fault front = record {
   fault = inr fault;
   reply = reply;
   new = new;
   replies = replies;
-  front = front;
+  front = subst (WritesFront a b) is front;
 }
 
--- a reply was written, and could not be flushed
-pub not_flushed : (command : LineCommand) (old new : PlainSession) (reply : List ℕ) (a b c : Option (List ℕ)) (flushed : Result (Unit {0}) Ending) → Replies command old reply new →
-    Appends a b reply → Keeps b c → IsOkUnless flushed Write → IfErr flushed (IsNotReplied command old a c)
-not_flushed command old new reply a b c (Ok none) replies gave kept fault = tt
-not_flushed command old new reply a b c (Err ending) replies gave kept fault =
-    not_written command old new reply a c ending replies fault (record { written = reply; front = ([], sym (append-nil reply)); gave = Appends-kept a b c reply gave kept })
+-- a text was written, and perhaps not flushed
+pub all_written : (text : List ℕ) (a b c : Option (List ℕ)) → Appends a b text → Keeps b c → WritesFront a c text
+all_written text a b c gave kept = record { written = text; front = ([], sym (append-nil text)); gave = Appends-kept a b c text gave kept }
 
 -- ---- the session
 

@@ -1,5 +1,5 @@
 -- What the debugger reads and writes.
-use Rattle.std.specs.Prelude.{◌≡◌, ◌⊎◌, ℕ, ◌+◌, ◌*◌, ◌≤◌, Bool, true, List, [], ◌∷◌, ◌++◌, length, Option}
+use Rattle.std.specs.Prelude.{◌≡◌, ◌⊎◌, ℕ, ◌+◌, ◌*◌, ◌≤◌, Bool, true, false, List, [], ◌∷◌, ◌++◌, length, Option}
 use Rattle.std.specs.Io.KnownBytes.{Appends, Consumes, IsAtEnd, Keeps}
 use Rattle.trac_rules.specs.declared.width.Width.{Width}
 use Rattle.trac_rules.specs.declared.limit.TheConstants.{TAPE_LIMIT}
@@ -9,7 +9,7 @@ use Rattle.trac_streams.specs.declared.ending.Ending.{Ending}
 use Rattle.trac_streams.specs.declared.ending.Ending.TheVariants.{Memory, Read, Write}
 use Rattle.trac_streams.specs.Lines.{lines_of}
 use Rattle.trac_debug.specs.Commands.{LineCommand}
-use Rattle.trac_debug.specs.Replies.{Replies}
+use Rattle.trac_debug.specs.Replies.{Replies, is_walk}
 use Rattle.trac_debug.specs.Debugging.{Turn, Passes, Does, Ends, MayWrite, ready}
 use Rattle.trac_streams.specs.declared.lines.TheConstants.{LINE_LIMIT, LINE_COUNT_LIMIT}
 use Rattle.trac_streams.specs.Pending.{Pending}
@@ -79,14 +79,15 @@ pub record IsReplied (command : LineCommand) (old new : PlainSession) (out_old o
   pub replies : Replies command old reply new
   pub gave : Appends out_old out_new reply
 
--- a reply could not be made, and nothing was written; or it could not be written: then a front of it was
+-- a reply could not be made, and nothing was written, which comes of no walk; or it could not be written: then a front
+-- of it was
 pub record IsNotReplied
     (command : LineCommand) (old : PlainSession) (out_old out_new : Option (List ℕ)) (ending : Ending) : Type 0 where
   pub reply : List ℕ
   pub new : PlainSession
   pub replies : Replies command old reply new
   pub front : WritesFront out_old out_new reply
-  pub fault : ((ending ≡ Memory) × (front.written ≡ [])) ⊎ (ending ≡ Write)
+  pub fault : ((ending ≡ Memory) × (front.written ≡ []) × (is_walk command ≡ false)) ⊎ (ending ≡ Write)
 
 -- a turn is done with, and the session goes on
 abbrev pub Settles : Turn → PlainSession → PlainSession → Option (List ℕ) → Option (List ℕ) → Type 0

@@ -1,5 +1,5 @@
 -- The reply to a command, and the session after it.
-use Rattle.std.specs.Prelude.{◌≡◌, ℕ, List, [], ◌++◌, length, max, Option, None, Some, codes, decimal}
+use Rattle.std.specs.Prelude.{◌≡◌, ℕ, Bool, true, false, List, [], ◌++◌, length, max, Option, None, Some, codes, decimal}
 use Rattle.trac_rules.specs.declared.refusal.Refusal.{Refusal}
 use Rattle.trac_rules.specs.declared.refusal.Refusal.TheVariants as refusals
 use Rattle.trac_rules.specs.Session as session
@@ -81,3 +81,13 @@ HasMemoryReply text =
 abbrev pub StandsUnreplied : LineCommand → PlainSession → PlainSession → Type 0
 StandsUnreplied (Commit keep) old new = new ≡ old
 StandsUnreplied command old new = (reply : List ℕ) × Replies command old reply new
+
+-- the command is a walk. No memory is requested for the reply to it, but it is for the state and for what was released
+abbrev pub is_walk : LineCommand → Bool
+is_walk (Forward n) = true
+is_walk (Back n) = true
+is_walk (Until name n) = true
+is_walk (Return name) = true
+is_walk Print = false
+is_walk (Commit keep) = false
+is_walk Quit = false

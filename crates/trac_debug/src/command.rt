@@ -110,3 +110,8 @@ fn count(word: &[u8]) -> Option<u64>
     }
     Some(number)
 }
+
+/// The limit on the digits of a count is that of this project's profile.
+pub fn digits_are_as_stated()
+    ensures { DIGIT_LIMIT ≡ 9 }
+{}

@@ -1,15 +1,16 @@
 //! A session of the debugger: commands from a reader, replies to a writer.
-ghost use Rattle.std.specs.Prelude.{◌≡◌, ◌+◌, ◌<◌, ◌≤◌, ℕ, List, Option, true, length, IfOk, IfErr, OnOk};
-ghost use Rattle.std.specs.Io.KnownBytes.{IsAtEnd};
+ghost use Rattle.std.specs.Prelude.{◌≡◌, ◌+◌, ◌<◌, ◌≤◌, ℕ, List, Option, true, length, IfOk, IfErr, IsOkUnless, OnErr, OnOk};
+ghost use Rattle.std.specs.Io.KnownBytes.{Appends, IsAtEnd};
 ghost use Rattle.trac_rules.specs.Session.{PlainSession};
 ghost use Rattle.trac_debug.specs.Debugging.{FollowsFirst, MayFollow, MayShow, RepliesToFirst, turn_at, turn_of};
 ghost use Rattle.trac_debug.specs.Debugs.{Advances, Debugs, DebugsBy, Halts, MOST_READ, IsReady, IsReplied};
 ghost use Rattle.trac_debug.specs.Debugs.{IsNotReplied, Settles, Stops};
 ghost use Rattle.trac_debug.specs.Views.{command_seen};
 ghost use Rattle.trac_streams.specs.Tape.{MayRefuseTape};
+ghost use Rattle.trac_streams.specs.Written.{WritesFront};
 
 use crate::command::{LineCommand, command_in};
-use crate::replies::reply_to;
+use crate::replies::{reply_to, reply_to_walk};
 use std::alloc::Allocator;
 use std::io::{Read, Write};
 use trac_rules::limit::{JOURNAL_LIMIT, TAPE_LIMIT};
@@ -213,9 +214,21 @@ fn reply<W: Write, A: Allocator + Copy>(
     ensures err { IfErr result
         (IsNotReplied (command_seen command.entry) session.old (W.contents output.old) (W.contents output.new)) }
 {
+    if let Some(line) = reply_to_walk(session, command) {
+        return write_reply(output, line.as_slice());
+    }
     let Ok(reply) = reply_to(alloc, session, command) else {
         return Err(Ending::Memory);
     };
-    write_whole(output, reply.as_slice())?;
+    write_reply(output, reply.as_slice())
+}
+
+// Writes and flushes a reply.
+fn write_reply<W: Write>(output: &mut W, reply: &[u8]) -> Result<(), Ending>
+    ensures ok { OnOk result (Appends (W.contents output.old) (W.contents output.new) reply.now) }
+    ensures err { OnErr result (WritesFront (W.contents output.old) (W.contents output.new) reply.now) }
+    ensures fault { IsOkUnless result Ending.Write }
+{
+    write_whole(output, reply)?;
     flush(output)
 }

@@ -17,8 +17,8 @@ use Rattle.trac_streams.specs.Reading.{end_reads}
 use Rattle.trac_streams.proofs.Gathered.{end_reads_one}
 use Rattle.trac_streams.proofs.Known.{Appends-nothing, Consumes-nothing, front_after, front_of_nothing, empty_front}
 use Rattle.trac_run.proofs.Stepped.{no_step, steps_both, steps_none}
-use Rattle.trac_run.proofs.Transfers.{only_written, both_moved, goes_on_twice}
-use Rattle.trac_run.proofs.Turned.{Shows-Write}
+use Rattle.trac_run.proofs.Transfers.{only_written, both_moved, goes_on_twice, rest_left}
+use Rattle.trac_run.proofs.Turned.{Shows-Write, no_steps_write}
 
 -- what a run has done so far: it goes on from a new session to this one, which so many steps of it made
 pub record SoFar (in_old in_now out_old out_now : Option (List ℕ)) (width : Width) (budget : ℕ) (start p : PlainSession) (left reads : ℕ) : Type 0 where
@@ -39,7 +39,8 @@ so_far_new input output width budget limit p some e =
         moved = only_written input output output [] (Appends-nothing output);
         closed = λ over. absurd (false≢true over);
         at_end = λ over. absurd (false≢true over);
-        rest = λ more none. refl;
+        within = omega arith;
+        rest = λ k more none. let count : k + (budget - budget) ≡ k = omega arith in ap (going_on_from (new_session limit width) more) count;
         fits = λ fits. fits;
         few = λ _. omega arith;
         counted = refl;
@@ -52,8 +53,8 @@ so_far_new input output width budget limit p some e =
 -- what is stated of the input is what goes on from the new session; and what was read is no more than its steps may take
 -- and what is unread
 module _ {in_old in_now out_old out_now : Option (List ℕ)} {width : Width} {budget : ℕ} {start p : PlainSession} {left reads : ℕ} (far : SoFar in_old in_now out_old out_now width budget start p left reads) where
-  stated : (text : List ℕ) → output_of width text budget ≡ going_on_from start text budget
-  stated text = rw far.new.1 refl
+  stated : (text : List ℕ) (n : ℕ) → output_of width text n ≡ going_on_from start text n
+  stated text n = rw far.new.1 refl
 
   so_far : (length far.on.moved.got + left * TAPE_LIMIT ≤ unread_count p + budget * TAPE_LIMIT) × (reads ≡ far.on.moved.full + end_reads p.tape.ended)
   so_far =
@@ -99,15 +100,16 @@ Shows-prepended (NotUnderstood line) text written o shows = absurd shows
 -- the last turn
 pub ran : (in_old in_now in_new out_old out_now out_new : Option (List ℕ)) (width : Width) (budget : ℕ) (start p : PlainSession) (m n reads_now reads_new : ℕ) (ending : Ending) →
     SoFar in_old in_now out_old out_now width budget start p m reads_now → Finishes in_now in_new out_now out_new reads_now reads_new p m n ending → n ≤ m →
-    RunsBy in_old in_new out_old out_new (λ text. output_of width text budget) (budget - n) reads_new ending
+    RunsBy in_old in_new out_old out_new (output_of width) budget (budget - n) reads_new ending
 ran in_old in_now in_new out_old out_now out_new width budget start p m n reads_now reads_new ending far last fewer =
     let one = far.on.moved in
     let two = last.moved in
     let both = both_moved one two in
     let all : (more : List ℕ) → (p.tape.ended ≡ true → more ≡ []) → output_of width ((one.got ++ two.got) ++ more) budget ≡ prepended one.written (going_on_from p (two.got ++ more) m) =
     λ more none.
-    stated far ((one.got ++ two.got) ++ more) ∙ ap (λ text. going_on_from start text budget) (append_assoc one.got two.got more)
-    ∙ far.on.rest (two.got ++ more) (λ over. ap (λ g. g ++ more) (last.closed over) ∙ none over) in
+    stated far ((one.got ++ two.got) ++ more) budget ∙ ap (λ text. going_on_from start text budget) (append_assoc one.got two.got more)
+    ∙ rest_left far.on (two.got ++ more) (λ over. ap (λ g. g ++ more) (last.closed over) ∙ none over) in
+    let count : budget - n ≡ (m - n) + (budget - m) = omega (arith, far.within, fewer) in
     let taken : (steps : ℕ) → steps + n ≡ budget → length (one.got ++ two.got) ≤ most_read steps =
     λ steps all_. omega (arith, all_, length-append one.got two.got, (so_far far).0, last.few far.fits) in
     let read : (steps : ℕ) → steps + n ≡ budget → reads_new ≤ most_reads steps =
@@ -116,9 +118,11 @@ ran in_old in_now in_new out_old out_now out_new width budget start p m n reads_
     record {
       runs = record {
         got = both.got;
-        few = taken (budget - n) all_steps;
         written = both.written;
         saw_end = p.tape.ended;
+        steps = budget - n;
+        within = omega arith;
+        few = taken (budget - n) all_steps;
         took = both.took;
         gave = both.gave;
         at_end = last.at_end;
@@ -126,7 +130,14 @@ ran in_old in_now in_new out_old out_now out_new width budget start p m n reads_
             (front_after one.written two.written (going_on_from p (two.got ++ more) m).bytes (last.front more none));
         shows = λ more none. subst (λ (o : Output). Shows ending both.written o) (sym (all more none))
             (Shows-prepended ending one.written two.written (going_on_from p (two.got ++ more) m) (last.shows more none));
+        exact = λ sound more none.
+            stated far ((one.got ++ two.got) ++ more) (budget - n)
+            ∙ ap (λ text. going_on_from start text (budget - n)) (append_assoc one.got two.got more)
+            ∙ ap (going_on_from start (one.got ++ (two.got ++ more))) count
+            ∙ far.on.rest (m - n) (two.got ++ more) (λ over. ap (λ g. g ++ more) (last.closed over) ∙ none over)
+            ∙ ap (prepended one.written) (last.exact sound more none);
       };
+      taken = refl;
       counted = (both.full, both.came, omega (arith, (so_far far).1, last.counted));
       few_reads = read (budget - n) all_steps;
     }
@@ -136,38 +147,28 @@ pub ran_steps : (in_old in_now out_old out_now : Option (List ℕ)) (width : Wid
     SoFar in_old in_now out_old out_now width budget start p m reads → n ≤ m → TakesSteps (m - n) p q → TakesSteps (budget - n) start q
 ran_steps in_old in_now out_old out_now width budget start p q m n reads far fewer steps = steps_so_far budget m n start p q far.within fewer far.steps steps
 
--- what may be read by the steps that were taken may be by all that are allowed
-pub ran_by_all : (in_old in_new out_old out_new : Option (List ℕ)) (stated : List ℕ → Output) (steps reads budget : ℕ) (ending : Ending) → steps ≤ budget →
-    RunsBy in_old in_new out_old out_new stated steps reads ending → Runs in_old in_new out_old out_new stated (most_read budget) ending
-ran_by_all in_old in_new out_old out_new stated steps reads budget ending within by = record {
-  got = by.runs.got;
-  few = omega (arith, by.runs.few, within);
-  written = by.runs.written;
-  saw_end = by.runs.saw_end;
-  took = by.runs.took;
-  gave = by.runs.gave;
-  at_end = by.runs.at_end;
-  front = by.runs.front;
-  shows = by.runs.shows;
-}
-
 -- a run that did not begin for want of memory
-pub ran_not : (input : Option (List ℕ)) (out_old out_new : Option (List ℕ)) (text : List ℕ) (stated : List ℕ → Output) (most : ℕ) (result : Ending) → text ≡ [] → Closes out_old out_new text Memory result →
-    Runs input input out_old out_new stated most result
-ran_not input out_old out_new text stated most result none closes = record {
-  got = [];
-  few = omega arith;
-  written = closes.written;
-  saw_end = false;
-  took = Consumes-nothing input;
-  gave = closes.gave;
-  at_end = λ over. absurd (false≢true over);
-  front = λ more _. subst (λ t. IsFrontOf t (stated more).bytes) (sym (empty_front closes.written text closes.front none)) (front_of_nothing (stated more).bytes);
-  shows = λ more _. ⊎_elim
-      (λ (all : (result ≡ Memory) × (closes.written ≡ text)). subst (λ w. Shows w closes.written (stated more)) (sym all.0) tt)
-      (λ (fault : result ≡ Write). Shows-Write result closes.written (stated more) fault)
-      closes.ends;
-}
+pub ran_not : (input : Option (List ℕ)) (out_old out_new : Option (List ℕ)) (text : List ℕ) (width : Width) (budget : ℕ) (result : Ending) → text ≡ [] → Closes out_old out_new text Memory result →
+    Runs input input out_old out_new (output_of width) budget result
+ran_not input out_old out_new text width budget result none closes =
+    let nothing : closes.written ≡ [] = empty_front closes.written text closes.front none in
+    record {
+      got = [];
+      written = closes.written;
+      saw_end = false;
+      steps = 0;
+      within = omega arith;
+      few = omega arith;
+      took = Consumes-nothing input;
+      gave = closes.gave;
+      at_end = λ over. absurd (false≢true over);
+      front = λ more _. subst (λ t. IsFrontOf t (output_of width more budget).bytes) (sym nothing) (front_of_nothing (output_of width more budget).bytes);
+      shows = λ more _. ⊎_elim
+          (λ (all : (result ≡ Memory) × (closes.written ≡ text)). subst (λ w. Shows w closes.written (output_of width more budget)) (sym all.0) tt)
+          (λ (fault : result ≡ Write). Shows-Write result closes.written (output_of width more budget) fault)
+          closes.ends;
+      exact = λ _ more _. no_steps_write (new_session 1 width) 0 more closes.written nothing;
+    }
 
 -- a new session is new by its own limit and width
 pub new_by_itself : (limit : ℕ) (width : Width) (p : PlainSession) → p ≡ new_session limit width → p ≡ new_session p.limit p.width

@@ -20,7 +20,7 @@ use Rattle.trac_streams.specs.Written.{WritesFront, Closes}
 use Rattle.trac_run.specs.Runs.{Shows, ending_of_feed, IsFresh, turns_left, unread_count, most_read, GoesOn, Finishes, EndsFor, TakesNone, TakesMore}
 use Rattle.trac_streams.proofs.Gathered.{came_by_none, came_by_one, empty_reads_open, end_reads_ended, end_reads_open, fault_reads_one, if_ended, if_open}
 use Rattle.trac_streams.proofs.Known.{Appends-both, Appends-kept, front_of_itself, empty_front}
-use Rattle.trac_run.proofs.Turned.{closed_sound, finishes_here, front_pending, Shows-Write, ended_after_Commit, end_turns, unread_after_Commit, writer_sound}
+use Rattle.trac_run.proofs.Turned.{closed_sound, finishes_here, front_pending, no_steps_write, Shows-Write, ended_after_Commit, end_turns, unread_after_Commit, writer_sound}
 
 -- ---- one read
 
@@ -140,10 +140,14 @@ taken_on in_old in_new out_old out_new reads_old reads_new q r s n wanted on_tap
           (λ (more : (0 < length taken.got) × (answer (Feed taken.got) r ≡ done s)).
           absurd (false≢true (sym (after_Feed r s taken.got (on_tape_after_Commit q r e) more.1).4 ∙ over)))
           taken.fed;
-      rest = λ more none. ⊎_elim
+      within = omega arith;
+      rest = λ k more none.
+          let count : k + (n - n) ≡ k = omega arith in
+          ap (going_on_from q (taken.got ++ more)) count
+          ∙ ⊎_elim
           (λ (end : (taken.got ≡ []) × IsAtEnd in_new × (answer End r ≡ done s)).
-          ended_rest q r s taken.got more n on_tape e end.0 (none (after_End r s (on_tape_after_Commit q r e) end.2).4) end.2)
-          (λ (fed : (0 < length taken.got) × (answer (Feed taken.got) r ≡ done s)). fed_rest q r s taken.got more n on_tape e fed.1)
+          ended_rest q r s taken.got more k on_tape e end.0 (none (after_End r s (on_tape_after_Commit q r e) end.2).4) end.2)
+          (λ (fed : (0 < length taken.got) × (answer (Feed taken.got) r ≡ done s)). fed_rest q r s taken.got more k on_tape e fed.1)
           taken.fed;
       fits = (unread_taken in_old in_new q r s e taken).1;
       few = λ fits. omega (arith, (unread_taken in_old in_new q r s e taken).0);
@@ -196,7 +200,7 @@ pub unwritten_finish : (input : Option (List ℕ)) (out_old out_new : Option (Li
     WritesFront out_old out_new q.last.output → Finishes input input out_old out_new reads reads q n n ending
 unwritten_finish input out_old out_new reads q n ending wanted fault front =
     finishes_here input out_old out_new reads q n front.written ending (writer_sound ending fault) (λ over. absurd (false≢true (sym (wanted_open q wanted) ∙ over))) front.front front.gave
-    (λ more none. Shows-Write ending front.written (going_on_from q more n) fault)
+    (λ more none. Shows-Write ending front.written (going_on_from q more n) fault) (λ sound. absurd (sound fault))
 
 -- all that is pending was written, and a flush failed
 pub unflushed_finish : (input : Option (List ℕ)) (out_old out_mid out_new : Option (List ℕ)) (reads : ℕ) (q : PlainSession) (n : ℕ) (ending : Ending) → answer Step q ≡ refused refusals.NeedInput q → ending ≡ Write →
@@ -251,6 +255,8 @@ unfed_ends {in_old} {in_new} {out_old} {out_new} reads_old reads_new q r s n end
       at_end = λ over. absurd (shut over);
       front = λ more none. front_pending q (taken.got ++ more) (n + 1);
       shows = λ more none. shows (taken.got ++ more);
+      within = omega arith;
+      exact = λ sound more none. no_steps_write q (n + 1) (taken.got ++ more) q.last.output refl;
       few = few_of_read q (n + 1) taken.got taken.few;
       counted = read_counted q reads_old reads_new result unended once;
       few_reads = few_reads_of_read q (n + 1) result unended;

@@ -10,7 +10,7 @@ use Rattle.trac_rules.specs.declared.refusal.Refusal.{Refusal}
 use Rattle.trac_rules.specs.declared.refusal.Refusal.TheVariants as refusals
 use Rattle.trac_rules.specs.declared.reply.Reply.TheVariants.{Refused}
 use Rattle.trac_rules.specs.Session.{PlainSession, Step, Commit, done, refused, answer, Answers, repeated, HasEnded, IsWalk, no_goal}
-use Rattle.trac_rules.specs.Running.{Output, LimitPassed}
+use Rattle.trac_rules.specs.Running.{Output, BudgetSpent, LimitPassed}
 use Rattle.trac_rules.specs.GoingOn.{prepended, going_on_from}
 use Rattle.trac_rules.proofs.GoingOn.{after_repeated, going_on-repeated, after_Commit, going_on-Commit, going_on_spent, going_on_ended, going_on_too_long}
 use Rattle.trac_rules.proofs.Replies.{Commit_done, Step_refused_JournalFull, Step_refusals}
@@ -35,7 +35,7 @@ pub record AfterWalk (p : PlainSession) (m k : ℕ) (q : PlainSession) : Type 0 
   pub on_tape : q.last.position ≤ length q.tape.bytes
   pub taken : length q.earlier ≡ k
   pub unmoved : k ≡ 0 → q ≡ p
-  pub rest : (more : List ℕ) → (p.tape.ended ≡ true → more ≡ []) → going_on_from p more m ≡ going_on_from q more (m - k)
+  pub rest : (n : ℕ) → (more : List ℕ) → (p.tape.ended ≡ true → more ≡ []) → going_on_from p more (n + k) ≡ going_on_from q more n
 
 -- no step at all
 pub unmoved_by_none : (k : ℕ) (p q : PlainSession) → repeated Step k p ≡ Some q → k ≡ 0 → q ≡ p
@@ -48,7 +48,6 @@ after_walk {most} {n} {p} {m} {k} {why} {q} fewer fresh walk =
     let start : p.last.position ≤ length p.tape.bytes = omega (arith, fresh.nothing_read) in
     let after = after_repeated k p q start walk.walk.walked in
     let l : k ≤ m = omega (arith, walk.walk.within, walk.within, fewer) in
-    let count : m ≡ (m - k) + k = omega (arith, l) in
     record {
       within = l;
       tape = after.tape;
@@ -56,8 +55,14 @@ after_walk {most} {n} {p} {m} {k} {why} {q} fewer fresh walk =
       on_tape = after.within;
       taken = omega (arith, after.earlier, ap length fresh.first);
       unmoved = unmoved_by_none k p q walk.walk.walked;
-      rest = λ more none. ap (going_on_from p more) count ∙ going_on-repeated k (m - k) p q more start none walk.walk.walked;
+      rest = λ n more none. going_on-repeated k n p q more start none walk.walk.walked;
     }
+
+-- with the steps that are left
+pub walked_left : (p : PlainSession) (m k : ℕ) (q : PlainSession) → AfterWalk p m k q → (more : List ℕ) → (p.tape.ended ≡ true → more ≡ []) → going_on_from p more m ≡ going_on_from q more (m - k)
+walked_left p m k q after more none =
+    let count : m ≡ (m - k) + k = omega (arith, after.within) in
+    ap (going_on_from p more) count ∙ after.rest (m - k) more none
 
 -- the tape after a walk is the one before
 pub tape_after_walk : (p : PlainSession) (m k : ℕ) (q : PlainSession) → AfterWalk p m k q → length q.tape.bytes ≡ length p.tape.bytes
@@ -160,16 +165,24 @@ Shows-closed ending result written text o ends shows =
     (λ (fault : result ≡ Write). Shows-Write result written o fault)
     ends
 
+-- without a step what is pending is written, and no more
+pub no_steps_write : (q : PlainSession) (n : ℕ) (more written : List ℕ) → written ≡ q.last.output → going_on_from q more (n - n) ≡ record { bytes = written; stop = BudgetSpent }
+no_steps_write q n more written all =
+    let count : n - n ≡ 0 = omega arith in
+    ap (going_on_from q more) count ∙ going_on_spent q more ∙ ap (λ (bytes : List ℕ). record { bytes = bytes; stop = BudgetSpent }) (sym all)
+
 -- a run that ends here, with nothing read
 pub finishes_here : (input : Option (List ℕ)) (out_old out_new : Option (List ℕ)) (reads : ℕ) (q : PlainSession) (n : ℕ) (written : List ℕ) (ending : Ending) → fault_reads ending ≡ 0 →
     (q.tape.ended ≡ true → IsAtEnd input) → IsFrontOf written q.last.output → Appends out_old out_new written → ((more : List ℕ) → (q.tape.ended ≡ true → more ≡ []) → Shows ending written (going_on_from q more n)) →
-    Finishes input input out_old out_new reads reads q n n ending
-finishes_here input out_old out_new reads q n written ending sound at_end front gave shows = record {
+    ((ending ≡ Write → ⊥) → written ≡ q.last.output) → Finishes input input out_old out_new reads reads q n n ending
+finishes_here input out_old out_new reads q n written ending sound at_end front gave shows all = record {
   moved = only_written input out_old out_new written gave;
   closed = λ _. refl;
   at_end = at_end;
   front = λ more none. front_of_front written q.last.output (going_on_from q more n).bytes front (front_pending q more n);
   shows = shows;
+  within = omega arith;
+  exact = λ sound_ more none. no_steps_write q n more written (all sound_);
   few = few_of_none q n n (omega arith);
   counted = none_counted reads q ending sound;
   few_reads = few_reads_of_none q n n ending (omega arith);
@@ -181,13 +194,19 @@ walked_end : (in_old in_new out_old out_new : Option (List ℕ)) (reads_old read
 walked_end in_old in_new out_old out_new reads_old reads_new p m k q n ending after on =
     let ended : q.tape.ended ≡ p.tape.ended = ap (λ t. t.ended) after.tape in
     let all : (more : List ℕ) → (p.tape.ended ≡ true → more ≡ []) → going_on_from p (on.moved.got ++ more) m ≡ going_on_from q (on.moved.got ++ more) (m - k) =
-    λ more none. after.rest (on.moved.got ++ more) (λ over. ap (λ g. g ++ more) (on.closed (ended ∙ over)) ∙ none over) in
+    λ more none. walked_left p m k q after (on.moved.got ++ more) (λ over. ap (λ g. g ++ more) (on.closed (ended ∙ over)) ∙ none over) in
+    let count : m - n ≡ (m - k - n) + k = omega (arith, after.within, on.within) in
     record {
       moved = on.moved;
       closed = λ over. on.closed (ended ∙ over);
       at_end = λ over. on.at_end (ended ∙ over);
       front = λ more none. subst (λ (o : Output). IsFrontOf on.moved.written o.bytes) (sym (all more none)) (on.front more (λ over. none (sym ended ∙ over)));
       shows = λ more none. subst (λ (o : Output). Shows ending on.moved.written o) (sym (all more none)) (on.shows more (λ over. none (sym ended ∙ over)));
+      within = omega (arith, after.within, on.within);
+      exact = λ sound more none.
+          ap (going_on_from p (on.moved.got ++ more)) count
+          ∙ after.rest (m - k - n) (on.moved.got ++ more) (λ over. ap (λ g. g ++ more) (on.closed (ended ∙ over)) ∙ none over)
+          ∙ on.exact sound more (λ over. none (sym ended ∙ over));
       few = λ fits_. omega (arith, on.few (omega (arith, fits_, tape_after_walk p m k q after)), unread_by_walk p m k q after fits_, after.within);
       counted = omega (arith, on.counted, ap end_reads ended, ap (λ b. empty_reads b ending) ended);
       few_reads = λ fits_. omega (
@@ -202,10 +221,10 @@ walked_end in_old in_new out_old out_new reads_old reads_new p m k q n ending af
 -- a run that ends after the walk, with nothing read since
 ends_after : (input : Option (List ℕ)) (out_old out_new : Option (List ℕ)) (reads : ℕ) (p : PlainSession) (m k : ℕ) (q : PlainSession) (written : List ℕ) (ending : Ending) → AfterWalk p m k q →
     (p.tape.ended ≡ true → IsAtEnd input) → fault_reads ending ≡ 0 → IsFrontOf written q.last.output → Appends out_old out_new written →
-    ((more : List ℕ) → (q.tape.ended ≡ true → more ≡ []) → Shows ending written (going_on_from q more (m - k))) → Finishes input input out_old out_new reads reads p m (m - k) ending
-ends_after input out_old out_new reads p m k q written ending after at_end sound front gave shows =
+    ((more : List ℕ) → (q.tape.ended ≡ true → more ≡ []) → Shows ending written (going_on_from q more (m - k))) → ((ending ≡ Write → ⊥) → written ≡ q.last.output) → Finishes input input out_old out_new reads reads p m (m - k) ending
+ends_after input out_old out_new reads p m k q written ending after at_end sound front gave shows all =
     walked_end input input out_old out_new reads reads p m k q (m - k) ending after
-    (finishes_here input out_old out_new reads q (m - k) written ending sound (λ over. at_end (sym (ap (λ t. t.ended) after.tape) ∙ over)) front gave shows)
+    (finishes_here input out_old out_new reads q (m - k) written ending sound (λ over. at_end (sym (ap (λ t. t.ended) after.tape) ∙ over)) front gave shows all)
 
 -- the same by its last writes
 pub closed_run : (input : Option (List ℕ)) (out_old out_new : Option (List ℕ)) (reads : ℕ) {p : PlainSession} {m k : ℕ} {q : PlainSession} (text : List ℕ) (ending result : Ending) →
@@ -216,6 +235,7 @@ closed_run input out_old out_new reads {p} {m} {k} {q} text ending result sound 
     ends_after input out_old out_new reads p m k q closes.written result after at_end (closed_sound ending result closes.ends sound) (subst (IsFrontOf closes.written) pending closes.front) closes.gave
     (λ more none. Shows-closed ending result closes.written q.last.output (going_on_from q more (m - k))
     (subst (λ t. ((result ≡ ending) × (closes.written ≡ t)) ⊎ (result ≡ Write)) pending closes.ends) (shows more none))
+    (λ sound_. ⊎_elim (λ (all : (result ≡ ending) × (closes.written ≡ text)). all.1 ∙ pending) (λ (fault : result ≡ Write). absurd (sound_ fault)) closes.ends)
 
 -- the budget is spent
 pub shows_spent : (q : PlainSession) (n : ℕ) → n ≡ 0 → (more : List ℕ) → (q.tape.ended ≡ true → more ≡ []) → Shows Budget q.last.output (going_on_from q more n)
@@ -256,8 +276,10 @@ none_taken_of_test q empty is none = grind (arith, nat_tests)
 
 -- what was to be written is the pending output, and what is to be written from the committed session on
 pub released_rest : (p : PlainSession) (m k : ℕ) (q r : PlainSession) → AfterWalk p m k q → answer (Commit 0) q ≡ done r →
-    (more : List ℕ) → (p.tape.ended ≡ true → more ≡ []) → going_on_from p more m ≡ prepended q.last.output (going_on_from r more (m - k))
-released_rest p m k q r after h more none = after.rest more none ∙ going_on-Commit q r more (m - k) after.on_tape h
+    (n : ℕ) → (more : List ℕ) → (p.tape.ended ≡ true → more ≡ []) → going_on_from p more (n + (m - (m - k))) ≡ prepended q.last.output (going_on_from r more n)
+released_rest p m k q r after h n more none =
+    let count : n + (m - (m - k)) ≡ n + k = omega (arith, after.within) in
+    ap (going_on_from p more) count ∙ after.rest n more none ∙ going_on-Commit q r more n after.on_tape h
 
 -- the tape of the committed session has ended where the first one had
 pub ended_after_Commit : (q r : PlainSession) → answer (Commit 0) q ≡ done r → r.tape.ended ≡ q.tape.ended
@@ -286,7 +308,7 @@ released input out_old out_new reads {p} {m} {k} {q} r (Err ending) after at_end
     let front = failed.1 in (
       tt,
       ends_after input out_old out_new reads p m k q front.written ending after at_end (writer_sound ending fault) front.front front.gave
-          (λ more none. Shows-Write ending front.written (going_on_from q more (m - k)) fault),
+          (λ more none. Shows-Write ending front.written (going_on_from q more (m - k)) fault) (λ sound_. absurd (sound_ fault)),
       tt,
       tt,
     )
@@ -297,7 +319,8 @@ released input out_old out_new reads {p} {m} {k} {q} r (Ok u) after at_end some 
         moved = only_written input out_old out_new q.last.output gave;
         closed = λ over. (refl, ended ∙ over);
         at_end = λ over. at_end (sym ended ∙ over);
-        rest = λ more none. released_rest p m k q r after h more (λ over. none (ended ∙ over));
+        within = omega arith;
+        rest = λ n more none. released_rest p m k q r after h n more (λ over. none (ended ∙ over));
         fits = λ fits_. omega (arith, fits_, (unread_after_Commit q r h).0, tape_after_walk p m k q after);
         few = λ fits_. omega (arith, (unread_after_Commit q r h).1, unread_by_walk p m k q after fits_, after.within);
         counted = omega (arith, ap end_reads ended);
@@ -329,9 +352,12 @@ walked_on in_old in_new out_old out_new reads_old reads_new {p} {m} {k} {q} r (O
       moved = on.moved;
       closed = λ over. on.closed (ended ∙ over);
       at_end = on.at_end;
-      rest = λ more none.
-          after.rest (on.moved.got ++ more) (λ over. let at = on.closed (ended ∙ over) in ap (λ g. g ++ more) at.0 ∙ none at.1)
-          ∙ on.rest more none;
+      within = omega arith;
+      rest = λ n more none.
+          let count : n + (m - (m - k)) ≡ n + ((m - k) - (m - k)) + k = omega (arith, after.within) in
+          ap (going_on_from p (on.moved.got ++ more)) count
+          ∙ after.rest (n + ((m - k) - (m - k))) (on.moved.got ++ more) (λ over. let at = on.closed (ended ∙ over) in ap (λ g. g ++ more) at.0 ∙ none at.1)
+          ∙ on.rest n more none;
       fits = λ fits_. on.fits (omega (arith, fits_, tape_after_walk p m k q after));
       few = λ fits_. omega (arith, on.few (omega (arith, fits_, tape_after_walk p m k q after)), unread_by_walk p m k q after fits_, after.within);
       counted = omega (arith, on.counted, ap end_reads ended);

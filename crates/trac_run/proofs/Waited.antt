@@ -1,5 +1,5 @@
 -- Input that is taken piece after piece, for a step that goes on waiting.
-use Rattle.std.proofs.Common.{◌≡◌, ℕ, ◌+◌, ◌<◌, ◌≤◌, Bool, true, false, List, ◌++◌, length, refl, sym, ap, subst, ◌∙◌, arith, ⊎_elim}
+use Rattle.std.proofs.Common.{◌≡◌, ℕ, ◌+◌, ◌-◌, ◌<◌, ◌≤◌, Bool, true, false, List, ◌++◌, length, refl, sym, ap, subst, ◌∙◌, arith, ⊎_elim}
 use Rattle.std.specs.Prelude.{Option, None, Some, is_some, not}
 use Rattle.std.proofs.lemmas.Bool.{cases_Bool, false≢true, true≢false}
 use Rattle.std.proofs.lemmas.List.{append_assoc, length-append}
@@ -16,7 +16,7 @@ use Rattle.trac_streams.proofs.Gathered.{empty_reads_open, end_reads_one}
 use Rattle.trac_streams.proofs.Known.{front_after}
 use Rattle.trac_run.proofs.Taken.{wanted_open}
 use Rattle.trac_run.proofs.Ran.{Shows-prepended}
-use Rattle.trac_run.proofs.Transfers.{both_moved, goes_on_twice}
+use Rattle.trac_run.proofs.Transfers.{both_moved, goes_on_twice, rest_left}
 use Rattle.trac_run.proofs.Stepped.{steps_both}
 
 -- ---- one part of a run after another
@@ -32,7 +32,8 @@ goes_on_to_finish in_old in_now in_new out_old out_now out_new reads_old reads_n
     let one = on.moved in
     let two = last.moved in
     let all : (more : List ℕ) → going_on_from p ((one.got ++ two.got) ++ more) l ≡ prepended one.written (going_on_from q (two.got ++ more) m) =
-    λ more. ap (λ text. going_on_from p text l) (append_assoc one.got two.got more) ∙ on.rest (two.got ++ more) (λ over. absurd (shut over)) in
+    λ more. ap (λ text. going_on_from p text l) (append_assoc one.got two.got more) ∙ rest_left on (two.got ++ more) (λ over. absurd (shut over)) in
+    let count : l - n ≡ (m - n) + (l - m) = omega (arith, on.within, last.within) in
     record {
       moved = both_moved one two;
       closed = λ over. absurd (shut (on.closed over).1);
@@ -41,6 +42,12 @@ goes_on_to_finish in_old in_now in_new out_old out_now out_new reads_old reads_n
           (front_after one.written two.written (going_on_from q (two.got ++ more) m).bytes (last.front more (λ over. absurd (shut over))));
       shows = λ more none. subst (λ (o : Output). Shows ending (one.written ++ two.written) o) (sym (all more))
           (Shows-prepended ending one.written two.written (going_on_from q (two.got ++ more) m) (last.shows more (λ over. absurd (shut over))));
+      within = omega (arith, on.within, last.within);
+      exact = λ sound more none.
+          ap (λ text. going_on_from p text (l - n)) (append_assoc one.got two.got more)
+          ∙ ap (going_on_from p (one.got ++ (two.got ++ more))) count
+          ∙ on.rest (m - n) (two.got ++ more) (λ over. absurd (shut over))
+          ∙ ap (prepended one.written) (last.exact sound more (λ over. absurd (shut over)));
       few = λ fits_. omega (arith, length-append one.got two.got, on.few fits_, last.few (on.fits fits_));
       counted = omega (arith, on.counted, last.counted, faults);
       few_reads = λ fits_. omega (arith, one.came.0, on.few fits_, last.few_reads (on.fits fits_), faults);

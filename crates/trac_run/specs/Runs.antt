@@ -41,21 +41,26 @@ Shows (NotUnderstood line) written o = ⊥
 abbrev pub most_read : ℕ → ℕ
 most_read steps = steps * TAPE_LIMIT + (TAPE_LIMIT + READ_SIZE)
 
--- a run read some bytes, and perhaps saw the end of the input, and wrote some. However the input goes on after what was
--- read (not at all if the end was seen), what was written is a front of the output that is stated for all of the input.
--- The ending of the run is the stated one if it is not a fault or want of memory: all is written then. It read no more
--- than `most`
-pub record Runs (in_old in_new out_old out_new : Option (List ℕ)) (stated : List ℕ → Output) (most : ℕ)
+-- a run read some bytes, and perhaps saw the end of the input, and wrote some. `stated` is the output that is stated for
+-- an input and a budget. However the input goes on after what was read (not at all if the end was seen), what was
+-- written is a front of the output that is stated for all of it. The ending of the run is the stated one if it is not a
+-- fault or want of memory: all is written then. The run took so many steps within its budget, and read no more than they
+-- may. Unless the writer failed, it wrote just what they print: a run with these steps for its budget writes the same
+pub record Runs (in_old in_new out_old out_new : Option (List ℕ)) (stated : List ℕ → ℕ → Output) (budget : ℕ)
     (ending : Ending) : Type 0 where
   pub got : List ℕ
-  pub few : length got ≤ most
   pub written : List ℕ
   pub saw_end : Bool
+  pub steps : ℕ
+  pub within : steps ≤ budget
+  pub few : length got ≤ most_read steps
   pub took : Consumes in_old in_new got
   pub gave : Appends out_old out_new written
   pub at_end : saw_end ≡ true → IsAtEnd in_new
-  pub front : (more : List ℕ) → (saw_end ≡ true → more ≡ []) → IsFrontOf written (stated (got ++ more)).bytes
-  pub shows : (more : List ℕ) → (saw_end ≡ true → more ≡ []) → Shows ending written (stated (got ++ more))
+  pub front : (more : List ℕ) → (saw_end ≡ true → more ≡ []) → IsFrontOf written (stated (got ++ more) budget).bytes
+  pub shows : (more : List ℕ) → (saw_end ≡ true → more ≡ []) → Shows ending written (stated (got ++ more) budget)
+  pub exact : (ending ≡ Write → ⊥) → (more : List ℕ) → (saw_end ≡ true → more ≡ []) →
+      stated (got ++ more) steps ≡ record { bytes = written; stop = BudgetSpent }
 
 -- ---- what a run did
 
@@ -63,11 +68,12 @@ pub record Runs (in_old in_new out_old out_new : Option (List ℕ)) (stated : Li
 abbrev pub most_reads : ℕ → ℕ
 most_reads steps = (steps + 1) * (TAPE_LIMIT + 1)
 
--- a run, of which what it did is counted: it read no more bytes than so many steps may take, and just so often, by one
--- read for each byte at most and one that gave nothing
-pub record RunsBy (in_old in_new out_old out_new : Option (List ℕ)) (stated : List ℕ → Output) (steps reads : ℕ)
-    (ending : Ending) : Type 0 where
-  pub runs : Runs in_old in_new out_old out_new stated (most_read steps) ending
+-- a run, of which what it did is counted: it took so many steps, and read just so often, by one read for each byte at
+-- most and one that gave nothing
+pub record RunsBy (in_old in_new out_old out_new : Option (List ℕ)) (stated : List ℕ → ℕ → Output)
+    (budget steps reads : ℕ) (ending : Ending) : Type 0 where
+  pub runs : Runs in_old in_new out_old out_new stated budget ending
+  pub taken : runs.steps ≡ steps
   pub counted : CountsReads reads runs.got runs.saw_end ending
   pub few_reads : reads ≤ most_reads steps
 
@@ -115,22 +121,25 @@ pub record Transfer (in_old in_new out_old out_new : Option (List ℕ)) : Type 0
   pub full : ℕ
   pub came : CameBy full got
 
--- what was to be written from one session on, is what was written and what is to be written from the other on. What was
--- read is unread there, or steps took it, each no more than a tape may have
+-- steps were taken, as many as are left less. What they and any number of steps more write from one session on, is what
+-- was written and what these steps more write from the other on. What was read is unread there, or steps took it, each
+-- no more than a tape may have
 pub record GoesOn (in_old in_new out_old out_new : Option (List ℕ)) (reads_old reads_new : ℕ) (p : PlainSession) (m : ℕ)
     (q : PlainSession) (n : ℕ) : Type 0 where
   pub moved : Transfer in_old in_new out_old out_new
   pub closed : p.tape.ended ≡ true → (moved.got ≡ []) × (q.tape.ended ≡ true)
   pub at_end : q.tape.ended ≡ true → IsAtEnd in_new
-  pub rest : (more : List ℕ) → (q.tape.ended ≡ true → more ≡ []) →
-      going_on_from p (moved.got ++ more) m ≡ prepended moved.written (going_on_from q more n)
+  pub within : n ≤ m
+  pub rest : (k : ℕ) → (more : List ℕ) → (q.tape.ended ≡ true → more ≡ []) →
+      going_on_from p (moved.got ++ more) (k + (m - n)) ≡ prepended moved.written (going_on_from q more k)
   pub fits : length p.tape.bytes ≤ TAPE_LIMIT → length q.tape.bytes ≤ TAPE_LIMIT
   pub few : length p.tape.bytes ≤ TAPE_LIMIT →
       length moved.got + unread_count p + n * TAPE_LIMIT ≤ unread_count q + m * TAPE_LIMIT
   pub counted : reads_new + end_reads p.tape.ended ≡ reads_old + moved.full + end_reads q.tape.ended
 
--- what was written is a front of what was to be written from a session on, and the ending is the stated one. No more
--- was read than may be, with so many of the steps still left, and no more often
+-- what was written is a front of what was to be written from a session on, and the ending is the stated one. Unless the
+-- writer failed, it is just what the steps print that were taken. No more was read than may be, with so many of the
+-- steps still left, and no more often
 pub record Finishes (in_old in_new out_old out_new : Option (List ℕ)) (reads_old reads_new : ℕ) (p : PlainSession)
     (m n : ℕ) (ending : Ending) : Type 0 where
   pub moved : Transfer in_old in_new out_old out_new
@@ -140,6 +149,9 @@ pub record Finishes (in_old in_new out_old out_new : Option (List ℕ)) (reads_o
       IsFrontOf moved.written (going_on_from p (moved.got ++ more) m).bytes
   pub shows : (more : List ℕ) → (p.tape.ended ≡ true → more ≡ []) →
       Shows ending moved.written (going_on_from p (moved.got ++ more) m)
+  pub within : n ≤ m
+  pub exact : (ending ≡ Write → ⊥) → (more : List ℕ) → (p.tape.ended ≡ true → more ≡ []) →
+      going_on_from p (moved.got ++ more) (m - n) ≡ record { bytes = moved.written; stop = BudgetSpent }
   pub few : length p.tape.bytes ≤ TAPE_LIMIT → length moved.got + unread_count p + n * TAPE_LIMIT ≤ most_read m
   pub counted : reads_new + end_reads p.tape.ended ≡ reads_old + moved.full + empty_reads p.tape.ended ending
   pub few_reads : length p.tape.bytes ≤ TAPE_LIMIT →

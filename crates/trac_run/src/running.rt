@@ -4,7 +4,7 @@ ghost use Rattle.std.specs.Io.KnownBytes.{Appends, IsAtEnd};
 ghost use Rattle.trac_rules.specs.Session.{PlainSession, Feed, Step, Commit, done, new_session, refused, answer};
 ghost use Rattle.trac_rules.specs.Running.{output_of};
 ghost use Rattle.trac_streams.specs.Written.{WritesFront};
-ghost use Rattle.trac_run.specs.Runs.{Runs, RunsBy, TakesSteps, most_read, most_reads, ending_of_feed as ending_of};
+ghost use Rattle.trac_run.specs.Runs.{Runs, RunsBy, TakesSteps, most_reads, ending_of_feed as ending_of};
 ghost use Rattle.trac_run.specs.Runs.{IsFresh, GoesOn, Finishes, TakesMore, TakesNone, StillWaits, turns_left};
 
 use memchr::memchr;
@@ -39,8 +39,9 @@ pub struct RunReport {
 
 /// Runs what the reader gives, and writes what it prints, until the budget is spent, the input has ended, or a limit,
 /// memory, the reader or the writer ends it. Output is written and flushed before each read, and before the end.
-/// After a read fault it does not flush again. Each read asks for at most 4,096 bytes, and all of them together give no
-/// more than 33,554,432 for each step that it may take, as many once more, and one read.
+/// After a read fault it does not flush again. However it ends, unless the writer fails, it writes just what the steps
+/// print that it takes. Each read asks for at most 4,096 bytes, and all of them together give no more than 33,554,432 for
+/// each of these steps, as many once more, and one read.
 pub fn run<R: Read, W: Write, A: Allocator + Copy>(
     alloc: A,
     input: &mut R,
@@ -52,7 +53,7 @@ pub fn run<R: Read, W: Write, A: Allocator + Copy>(
     requires some_records { 1 ≤ options.journal }
     requires most_records { options.journal ≤ JOURNAL_LIMIT }
     ensures { Runs (R.remaining input.old) (R.remaining input.new) (W.contents output.old) (W.contents output.new)
-        (λ text. output_of options.decimals text options.budget) (most_read options.budget) result }
+        (output_of options.decimals) options.budget result }
 {
     let Ok(mut session) = Session::new(alloc, options.journal, options.decimals) else {
         return finish(output, &[], Ending::Memory);
@@ -74,7 +75,7 @@ pub fn run_session<R: Read, W: Write, A: Allocator + Copy>(
     requires most_steps { budget ≤ BUDGET_LIMIT }
     ensures runs { RunsBy (R.remaining input.old)
         (R.remaining input.new) (W.contents output.old) (W.contents output.new)
-        (λ text. output_of session.old.width text budget) result.steps result.reads result.ending }
+        (output_of session.old.width) budget result.steps result.reads result.ending }
     ensures within { result.steps ≤ budget }
     ensures steps { TakesSteps result.steps session.old session.new }
 {

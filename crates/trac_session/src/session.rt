@@ -1,8 +1,10 @@
 //! A session: a processor that goes forwards and backwards over an input that is fed to it.
 ghost use Rattle.std.specs.Prelude.{◌≡◌, ◌==◌, ◌≤◌, ◌∷◌, drop, length, take, IfOk, IsOkUnless};
+ghost use Rattle.std.specs.FinSet as set;
 ghost use Rattle.std.specs.List.{All};
 ghost use Rattle.trac_rules.specs.declared.reply.Reply.TheVariants.{Done};
 ghost use Rattle.trac_rules.specs.Fronts.{IsFrontOf};
+ghost use Rattle.trac_rules.specs.Listing.{names_of};
 ghost use Rattle.trac_rules.specs.Reading.{unread};
 ghost use Rattle.trac_rules.specs.Session.{new_session, Feed, End, Step, Back, Commit, answer, Answers, first_kept};
 ghost use Rattle.trac_rules.specs.Session.{settled};
@@ -228,8 +230,9 @@ impl<A: Allocator + Copy> Session<A> {
     }
 }
 
-// Releases what is printed, and takes what is read off the front of the tape. The machine may be of any representation:
-// a proof for a certain one shows anew, at each call, what its lists are.
+// Releases what is printed, takes what is read off the front of the tape, and forgets the names of deleted forms: the
+// machine knows just the names of its forms then. The machine may be of any representation: a proof for a certain one
+// shows anew, at each call, what its lists are.
 fn settle<E: TwoEnds<u8, A>, M: TwoEnds<Mark, A>, A: Allocator + Copy>(
     machine: &mut Core<E, M, A>,
     tape: &mut SlidingBuf<u8, A>,
@@ -237,6 +240,7 @@ fn settle<E: TwoEnds<u8, A>, M: TwoEnds<Mark, A>, A: Allocator + Copy>(
     requires { machine.old.state.position ≤ length tape.old.items }
     ensures state { machine.new.state ≡ settled machine.old.state }
     ensures width { machine.new.width ≡ machine.old.width }
+    ensures names { machine.new.known ≡ set.from_list (names_of machine.old.state.forms) }
     ensures tape { tape.new.items ≡ drop machine.old.state.position tape.old.items }
 {
     tape.drop_front(machine.position());

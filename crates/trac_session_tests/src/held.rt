@@ -130,3 +130,38 @@ fn bytes_of_records(rt: HostRuntime) {
     expect_run(&rt, rt.alloc(), 50, None);
     expect_run(&rt, rt.alloc(), 1, Some(5));
 }
+
+// How many names are given and deleted again.
+const NAMES: usize = 2_000;
+
+// A form of this number is put and deleted, and the session commits: how many bytes are held then.
+fn put_and_delete(
+    rt: &impl Abort,
+    alloc: Global,
+    heap: Heap<'_>,
+    session: &mut Session<Heap<'_>>,
+    number: usize,
+) -> usize {
+    let text = format!(in alloc; "#(ds,a name of some length {:05},b)#(dd,a name of some length {:05})'", number, number)
+        .expect(rt, "there was no memory");
+    feed(session, text.as_bytes()).expect(rt, "it was refused");
+    assert!(rt; go_on(session, u64::MAX) == Some(Refusal::NeedInput));
+    session.commit(0);
+    heap.used()
+}
+
+// Names of deleted forms take nothing once a commit keeps the last state alone.
+#[test]
+fn bytes_of_deleted_names(rt: HostRuntime) {
+    let heap = LocalHeap::new(rt.alloc(), HEAP_SIZE).expect(&rt, "there was no memory");
+    let mut session = new_session(&heap).expect(&rt, "there was no memory");
+    let mut most = 0;
+    for number in 0..NAMES {
+        let held = put_and_delete(&rt, rt.alloc(), &heap, &mut session, number);
+        if number < 9 {
+            most = held.max(most);
+        }
+        assert!(rt; held <= most, "{held} bytes of {most} at {number}");
+    }
+    let_go(session);
+}

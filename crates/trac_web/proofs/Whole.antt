@@ -20,9 +20,9 @@ use Rattle.trac_web.specs.Replies.{Delivers, Gives}
 use Rattle.trac_web.specs.Requests.{WritesDoubts, WritesReplies, WritesRun, WritesTalk, search_ending}
 
 -- a run that read this text, of which a rest was left, and wrote all of that, where nothing was before
-pub whole_run : (width : Width) (budget most : ℕ) (text rest before all : List ℕ) (ending : Ending) → before ≡ [] →
-    Runs (Some text) (Some rest) (Some before) (Some all) (λ t. output_of width t budget) most ending → WritesRun width budget text all ending
-whole_run width budget most text rest before all ending none r =
+pub whole_run : (width : Width) (budget : ℕ) (text rest before all : List ℕ) (ending : Ending) → before ≡ [] →
+    Runs (Some text) (Some rest) (Some before) (Some all) (output_of width) budget ending → WritesRun width budget text all ending
+whole_run width budget text rest before all ending none r =
     let stated : List ℕ → Output = λ t. output_of width t budget in
     let is_text : r.got ++ rest ≡ text = sym r.took in
     let is_all : r.written ≡ all = sym (r.gave ∙ ap (λ b. b ++ r.written) none) in

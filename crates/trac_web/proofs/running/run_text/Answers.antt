@@ -12,7 +12,7 @@ returns-in_default-clause-counted g c = (_, steps_none _ _ refl)
 pub returns-clause-gives : goal.returns-clause-gives
 returns-clause-gives g c =
     let report = c.run_session-report.result in
-    let written = whole_run _ _ _ _ _ _ _ report.ending c.new-reply.ensures c.run_session-report.ensures.runs.runs in
+    let written = whole_run _ _ _ _ _ _ report.ending c.new-reply.ensures c.run_session-report.ensures.runs.runs in
     let of_width = subst (λ width. WritesRun width c.args.budget c.args.input.now c.run_session-report.new.output.text.items report.ending) (ap (λ (p : PlainSession). p.width) c.in-Ok.ensures.made) written in
     gives_all c.text.ensures of_width c.deliver-2.ensures
 
