@@ -16,7 +16,7 @@ use Rattle.trac_follow.specs.Following.{IsFollowed, IsOrigin, IsSource, quiet_st
 use Rattle.trac_follow.specs.Kept.{IsLong}
 use Rattle.trac_follow.specs.Passing.{IsUnpassed, Passing, UnpassedBy, passed_by, passings}
 use Rattle.trac_follow.specs.Places.{IsPassed, is_in_storage, is_passed, place_of}
-use Rattle.trac_follow.specs.Tracing.{EndsAs, LeadsTo, LeadsToLong, ToldAll, WasPassed, source_of}
+use Rattle.trac_follow.specs.Tracing.{EndsAs, LeadsTo, LeadsToLong, ToldAll, WasPassed, source_of, told_steps}
 use Rattle.trac_follow.proofs.StepsBack.{followed_on, last_of_all, went_so}
 
 -- ---- steps that pass nothing on
@@ -176,19 +176,42 @@ module _ (cur next : PlainSession) (here : Place) (most : ℕ) (found : Found) (
       ∙ silent environment (take before cur.earlier) next.last k here here o
       (ap (λ (states : List State). followed environment states here) (sym (split before one)) ∙ told ∙ ap (λ n. record { carried = n; origin = o }) (sym (count before one))) unpassed
 
+  -- none over steps that all carried it on
+  none_over : (n k : ℕ) (q : Place) (told : IsOrigin cur here n n (Carried q)) → IsUnpassed environment (take n cur.earlier) here → passings environment (take n cur.earlier) k here here ≡ []
+  none_over n k q told unpassed =
+      ap (λ (states : List State). passings environment states k here here) (sym (append-nil (take n cur.earlier)))
+      ∙ quiet environment (take n cur.earlier) [] k here here q (ap (λ (f : Followed). f.origin) told) unpassed
+
   -- none where it is followed no further
-  pub no_call_of_leg : (end : ends.End) → EndsAs found.source end → (k : ℕ) → passings environment (take found.steps cur.earlier) k here here ≡ []
+  pub no_call_of_leg : (end : ends.End) → EndsAs found.source end → (k : ℕ) → passings environment (take (told_steps found.steps end) cur.earlier) k here here ≡ []
   no_call_of_leg end ends_as k = go found.source ends_as leg.source leg.unpassed
     where
+      said : (x : ends.End) → end ≡ x → passings environment (take (told_steps found.steps x) cur.earlier) k here here ≡ [] → passings environment (take (told_steps found.steps end) cur.earlier) k here here ≡ []
+      said x e h = ap (λ y. passings environment (take (told_steps found.steps y) cur.earlier) k here here) e ∙ h
+
       go : (source : code.Source) → EndsAs source end → IsSource cur here most next found.steps source → IsUnpassed environment (take (quiet_steps found.steps source) cur.earlier) here →
-          passings environment (take found.steps cur.earlier) k here here ≡ []
-      go code.TheVariants.Nothing e told unpassed = ap (λ n. passings environment (take n cur.earlier) k here here) told.0
-      go (code.TheVariants.Here q) e told unpassed =
-          ap (λ (states : List State). passings environment states k here here) (sym (append-nil (take found.steps cur.earlier)))
-          ∙ quiet environment (take found.steps cur.earlier) [] k here here (place_of q) (ap (λ (f : Followed). f.origin) told.0) unpassed
-      go (code.TheVariants.Read n) e told unpassed = from_there k (Read n) told.0 told.1 unpassed
-      go code.TheVariants.Made e told unpassed = from_there k Made told.0 told.1 unpassed
+          passings environment (take (told_steps found.steps end) cur.earlier) k here here ≡ []
+      go code.TheVariants.Nothing e told unpassed = said ends.TheVariants.Nothing e (ap (λ n. passings environment (take n cur.earlier) k here here) told.0)
+      go (code.TheVariants.Here q) e told unpassed = said ends.TheVariants.Earlier e (none_over found.steps k (place_of q) told.0 unpassed)
+      go (code.TheVariants.Read n) e told unpassed = said (ends.TheVariants.Read n) e (from_there k (Read n) told.0 told.1 unpassed)
+      go code.TheVariants.Made e told unpassed = said ends.TheVariants.Made e (from_there k Made told.0 told.1 unpassed)
+      go code.TheVariants.Memory e told unpassed = said ends.TheVariants.Memory e (none_over (found.steps - 1) k told.1.0 told.1.1 unpassed)
       go other e told unpassed = absurd e
+
+  -- over how many steps it is told of calls, after some more
+  pub told_further : (steps : ℕ) (end : ends.End) → EndsAs found.source end → told_steps (steps + found.steps) end ≡ steps + told_steps found.steps end
+  told_further steps end ends_as = go found.source ends_as leg.source
+    where
+      said : (x : ends.End) → end ≡ x → told_steps (steps + found.steps) x ≡ steps + told_steps found.steps x → told_steps (steps + found.steps) end ≡ steps + told_steps found.steps end
+      said x e h = subst (λ y. told_steps (steps + found.steps) y ≡ steps + told_steps found.steps y) (sym e) h
+
+      go : (source : code.Source) → EndsAs source end → IsSource cur here most next found.steps source → told_steps (steps + found.steps) end ≡ steps + told_steps found.steps end
+      go code.TheVariants.Nothing e told = said ends.TheVariants.Nothing e refl
+      go (code.TheVariants.Here q) e told = said ends.TheVariants.Earlier e refl
+      go (code.TheVariants.Read n) e told = said (ends.TheVariants.Read n) e refl
+      go code.TheVariants.Made e told = said ends.TheVariants.Made e refl
+      go code.TheVariants.Memory e told = said ends.TheVariants.Memory e (omega (arith, told.0))
+      go other e told = absurd e
 
 -- ---- a witness
 

@@ -31,7 +31,7 @@ use Rattle.trac_follow.specs.Items.{IsMeasured}
 use Rattle.trac_follow.specs.Offsets.{IsPlaced}
 use Rattle.trac_follow.specs.Passing.{IsUnpassed, UnpassedBy}
 use Rattle.trac_follow.specs.Running.{IsTurn}
-use Rattle.trac_follow.specs.Places.{AreLengths, IsPassed, Stands, Tells, TellsOf, is_in_form, is_in_storage, place_of}
+use Rattle.trac_follow.specs.Places.{AreLengths, IsListing, IsPassed, Stands, Tells, TellsOf, is_in_form, is_in_storage, place_of}
 
 -- ---- over some states, and then over more
 
@@ -355,6 +355,21 @@ module _ (width : Width) (old cur next : PlainSession) (place : Place) (now : co
           found_is most found code.TheVariants.Made count (is ∙ ends) quiet trail
           (omega arith, over_step Made (told_as code_origin.TheVariants.Made from trail) ∙ ap (λ m. record { carried = m; origin = Made }) (omega arith))
       go code_origin.TheVariants.Nothing from at = absurd (told_as code_origin.TheVariants.Nothing from trail)
+
+-- a call of `ln` of which memory was refused to tell
+pub refused_end : (width : Width) (old cur next : PlainSession) (place here : Place) (steps bytes : ℕ) (gap : Bool) (v : State) (most : ℕ) (found : Found) → GoesBack width old cur place here steps bytes gap → WentBack cur next →
+    v ≡ next.last → IsListing v → found.steps ≡ steps + 1 → found.source ≡ code.TheVariants.Memory → IsKnown width old place → IsFollowed old place most next found
+refused_end width old cur next place here steps bytes gap v most found goes went is_next listing count source trail =
+    let all : steps + 1 - 1 ≡ steps = omega arith in
+    record {
+      source = subst (λ n. IsSource old place most next n found.source) (sym count) (subst (λ s. IsSource old place most next (steps + 1) s) (sym source) (
+        omega arith,
+        (here, subst (λ n. IsOrigin old place n n (Carried here)) (sym all) (carried_so width old cur place here steps bytes gap goes trail)),
+        subst (λ (s : State). IsListing s) is_next listing,
+      ));
+      unpassed = subst (λ n. IsUnpassed (over old.width old.tape) (take n old.earlier) place) (sym (ap₂ quiet_steps count source ∙ all)) (goes.stood trail).unpassed;
+      nothing = λ bare. absurd (bare trail.2.0 trail.2.1);
+    }
 
 -- a step over which it is told where it stood before
 pub step_to : (width : Width) (old cur next : PlainSession) (place here there : Place) (steps bytes : ℕ) (gap : Bool) (v : State) → GoesBack width old cur place here steps bytes gap → WentBack cur next → v ≡ next.last →

@@ -18,8 +18,8 @@ use Rattle.trac_follow.specs.declared.tracing.Traced.{Traced}
 use Rattle.trac_follow.specs.Following.{IsFollowed, IsKnown, IsOrigin, IsSource}
 use Rattle.trac_follow.specs.Passing.{Passing, passings}
 use Rattle.trac_follow.specs.Places.{place_of}
-use Rattle.trac_follow.specs.Tracing.{AllCarried, EndsAs, IsEnd, IsTold, IsTraced, LeadsTo, LeadsToLong, ToldAll, source_of, way_of}
-use Rattle.trac_follow.proofs.Legs.{HadFrom, call_of_leg, had_from, had_somewhere, no_call_of_leg, told_more}
+use Rattle.trac_follow.specs.Tracing.{AllCarried, EndsAs, IsEnd, IsTold, IsTraced, LeadsTo, LeadsToLong, ToldAll, source_of, told_steps, way_of}
+use Rattle.trac_follow.proofs.Legs.{HadFrom, call_of_leg, had_from, had_somewhere, no_call_of_leg, told_further, told_more}
 use Rattle.trac_follow.proofs.RunsBack.{last_steps}
 use Rattle.trac_follow.proofs.StepsBack.{WentSo, after_some, all_carried, followed_on, longer, went_so}
 
@@ -79,14 +79,14 @@ module _ (width : Width) (old cur : PlainSession) (place here : Place) (steps le
     found_so : (from : onwards.Onward) → found.source ≡ source_of from → IsKnown width old place → IsSource cur here most next found.steps (source_of from)
     found_so from source known = subst (λ source. IsSource cur here most next found.steps source) source (leg (known_there known)).source
 
-    -- the calls on the way after one leg more
-    longer_way : IsKnown width old place → (post : List State) →
-        passings (over old.width old.tape) (take (steps + found.steps) old.earlier ++ post) 0 place place
-        ≡ way_of old place steps ++ passings (over cur.width cur.tape) (take found.steps cur.earlier ++ post) steps here here
-    longer_way known post =
+    -- the calls on the way after more steps
+    longer_way : IsKnown width old place → (n : ℕ) (post : List State) →
+        passings (over old.width old.tape) (take (steps + n) old.earlier ++ post) 0 place place
+        ≡ way_of old place steps ++ passings (over cur.width cur.tape) (take n cur.earlier ++ post) steps here here
+    longer_way known n post =
         let environment = over old.width old.tape in
-        let legs : List State = take found.steps cur.earlier in
-        ap (λ (states : List State). passings environment (states ++ post) 0 place place) (longer old cur steps found.steps went)
+        let legs : List State = take n cur.earlier in
+        ap (λ (states : List State). passings environment (states ++ post) 0 place place) (longer old cur steps n went)
         ∙ ap (λ (states : List State). passings environment states 0 place place) (append_assoc (take steps old.earlier) legs post)
         ∙ way.calls known (legs ++ post)
         ∙ ap (λ e. way_of old place steps ++ passings e (legs ++ post) steps here here) (sym (ap₂ over went.same_width went.same_tape))
@@ -96,16 +96,18 @@ module _ (width : Width) (old cur : PlainSession) (place here : Place) (steps le
         way_of old place (steps + found.steps) ≡ way_of old place steps ++ record { state = s; steps = steps + found.steps; from = here } ∷ []
     one_more_call s from q is passed leads known =
         ap (λ (states : List State). passings (over old.width old.tape) states 0 place place) (sym (append-nil (take (steps + found.steps) old.earlier)))
-        ∙ longer_way known []
+        ∙ longer_way known found.steps []
         ∙ ap (λ (later : List Passing). way_of old place steps ++ later) (call_of_leg cur next here most found h (leg (known_there known)) s from q is passed leads steps [])
         ∙ ap (λ (t : State). way_of old place steps ++ record { state = t; steps = steps + found.steps; from = here } ∷ []) (sym is)
 
     -- and no more where it ends
-    pub no_more_calls : (end : ends.End) → EndsAs found.source end → IsKnown width old place → way_of old place (steps + found.steps) ≡ way_of old place steps
+    pub no_more_calls : (end : ends.End) → EndsAs found.source end → IsKnown width old place → way_of old place (told_steps (steps + found.steps) end) ≡ way_of old place steps
     no_more_calls end ends_as known =
-        ap (λ (states : List State). passings (over old.width old.tape) states 0 place place) (sym (append-nil (take (steps + found.steps) old.earlier)))
-        ∙ longer_way known []
-        ∙ ap (λ (states : List State). way_of old place steps ++ passings (over cur.width cur.tape) states steps here here) (append-nil (take found.steps cur.earlier))
+        let n : ℕ = told_steps found.steps end in
+        ap (way_of old place) (told_further cur next here most found h (leg (known_there known)) steps end ends_as)
+        ∙ ap (λ (states : List State). passings (over old.width old.tape) states 0 place place) (sym (append-nil (take (steps + n) old.earlier)))
+        ∙ longer_way known n []
+        ∙ ap (λ (states : List State). way_of old place steps ++ passings (over cur.width cur.tape) states steps here here) (append-nil (take n cur.earlier))
         ∙ ap (λ (later : List Passing). way_of old place steps ++ later) (no_call_of_leg cur next here most found h (leg (known_there known)) end ends_as steps)
         ∙ append-nil (way_of old place steps)
 
@@ -116,7 +118,7 @@ module _ (width : Width) (old cur : PlainSession) (place here : Place) (steps le
           let had = had_from cur next here most found.steps s is from q (found_so from passed known) leads in
           (omega (arith, had.passed.1.1, (way.known known).0), ap (λ (f : Followed). f.origin) (on known found.steps found.steps (Carried q) had.origin));
       calls = λ known post.
-          longer_way known post
+          longer_way known found.steps post
           ∙ ap (λ (later : List Passing). way_of old place steps ++ later) (call_of_leg cur next here most found h (leg (known_there known)) s from q is passed leads steps post)
           ∙ sym (append_assoc (way_of old place steps) (record { state = next.last; steps = steps + found.steps; from = here } ∷ []) (passings (over cur.width cur.tape) post (steps + found.steps) q q))
           ∙ ap (λ (t : State). (way_of old place steps ++ record { state = t; steps = steps + found.steps; from = here } ∷ []) ++ passings (over cur.width cur.tape) post (steps + found.steps) q q) (sym is)
@@ -145,6 +147,14 @@ module _ (width : Width) (old cur : PlainSession) (place here : Place) (steps le
             )
         go (code.TheVariants.Read n) e told = said (ends.TheVariants.Read n) e (omega (arith, told.0), one_less told.0 (Read n) told.1)
         go code.TheVariants.Made e told = said ends.TheVariants.Made e (omega (arith, told.0), one_less told.0 Made told.1)
+        go code.TheVariants.Memory e told = said ends.TheVariants.Memory e (
+          omega (arith, told.0),
+          (
+            told.1.0,
+            subst (λ n. IsOrigin old place n n (Carried told.1.0)) (omega (arith, told.0)) (on known (found.steps - 1) (found.steps - 1) (Carried told.1.0) told.1.1),
+          ),
+          told.2,
+        )
         go other e told = absurd e
 
     -- where its name cannot be kept, or the witness refuses to be told
@@ -188,7 +198,7 @@ module _ (width : Width) (old cur : PlainSession) (place here : Place) (steps le
 
     -- where no call passed it on, it is told of no more
     pub told_to_the_end : {W : Type 0} (passes refuses : W → Passing → W → Type 0) (first last : W) (end : ends.End) → EndsAs found.source end → IsKnown width old place →
-        ToldAll passes first (way_of old place steps) last → IsTold passes refuses (way_of old place (steps + found.steps)) (steps + found.steps) end first last
+        ToldAll passes first (way_of old place steps) last → IsTold passes refuses (way_of old place (told_steps (steps + found.steps) end)) (steps + found.steps) end first last
     told_to_the_end {W} passes refuses first last end ends_as known told =
         subst (λ way. IsTold passes refuses way (steps + found.steps) end first last) (sym (no_more_calls end ends_as known)) (go found.source ends_as)
       where
@@ -200,6 +210,7 @@ module _ (width : Width) (old cur : PlainSession) (place here : Place) (steps le
         go (code.TheVariants.Here q) e = said ends.TheVariants.Earlier e told
         go (code.TheVariants.Read n) e = said (ends.TheVariants.Read n) e told
         go code.TheVariants.Made e = said ends.TheVariants.Made e told
+        go code.TheVariants.Memory e = said ends.TheVariants.Memory e told
         go other e = absurd e
 
 -- what was found, in a record
@@ -212,9 +223,10 @@ traced_so width old new place most steps end found count is known h = record {
 
 -- who was told, in a record
 pub told_so : {W : Type 0} (passes refuses : W → Passing → W → Type 0) (old : PlainSession) (place : Place) (steps : ℕ) (end : ends.End) (first last : W) (found : Traced) → found.steps ≡ steps → found.end ≡ end →
-    IsTold passes refuses (way_of old place steps) steps end first last → IsTold passes refuses (way_of old place found.steps) found.steps found.end first last
+    IsTold passes refuses (way_of old place (told_steps steps end)) steps end first last → IsTold passes refuses (way_of old place (told_steps found.steps found.end)) found.steps found.end first last
 told_so passes refuses old place steps end first last found count is h =
-    subst (λ n. IsTold passes refuses (way_of old place n) n found.end first last) (sym count) (subst (λ e. IsTold passes refuses (way_of old place steps) steps e first last) (sym is) h)
+    subst (λ n. IsTold passes refuses (way_of old place (told_steps n found.end)) n found.end first last) (sym count)
+    (subst (λ e. IsTold passes refuses (way_of old place (told_steps steps e)) steps e first last) (sym is) h)
 
 -- after as many legs as steps were wanted
 pub way_is_long : (width : Width) (old cur : PlainSession) (place here : Place) (steps most : ℕ) → Way width old cur place here steps most → steps ≤ most → IsKnown width old place →

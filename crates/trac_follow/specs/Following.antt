@@ -10,7 +10,7 @@ use Rattle.trac_origins.specs.Places.{Place, InForm, Origin, Carried, Read, Made
 use Rattle.trac_follow.specs.declared.history.Followed.{Followed as Found}
 use Rattle.trac_follow.specs.declared.history.Source as code
 use Rattle.trac_follow.specs.Passing.{IsUnpassed}
-use Rattle.trac_follow.specs.Places.{IsBare, IsPassed, Stands, is_in_form, is_in_storage, place_of}
+use Rattle.trac_follow.specs.Places.{IsBare, IsListing, IsPassed, Stands, is_in_form, is_in_storage, place_of}
 
 -- a session of numbers of this width, whose states are steps of one another, and something stands at a place
 abbrev pub IsKnown : Width → PlainSession → Place → Type 0
@@ -22,7 +22,8 @@ IsOrigin p place steps carried source =
     followed (over p.width p.tape) (take steps p.earlier) place ≡ record { carried = carried; origin = source }
 
 -- what was found: nothing stood there; all steps carried the byte and it is followed no further; or the last of them
--- carried it from a place that a reader wants to see, took it out of a form, read it or made it
+-- carried it from a place that a reader wants to see, took it out of a form, read it or made it; or the last of them is
+-- a call of `ln` of which memory was refused to tell, and the others carried it
 abbrev pub IsSource : PlainSession → Place → ℕ → PlainSession → ℕ → code.Source → Type 0
 IsSource old place most new steps code.TheVariants.Nothing = (steps ≡ 0) × IsBare old.last place
 IsSource old place most new steps (code.TheVariants.Here there) =
@@ -37,6 +38,8 @@ IsSource old place most new steps (code.TheVariants.OfForm i) = ((call : Call) �
 IsSource old place most new steps (code.TheVariants.Read n) =
     (0 < steps) × IsOrigin old place steps (steps - 1) (Read n)
 IsSource old place most new steps code.TheVariants.Made = (0 < steps) × IsOrigin old place steps (steps - 1) Made
+IsSource old place most new steps code.TheVariants.Memory = (0 < steps)
+    × ((here : Place) × IsOrigin old place (steps - 1) (steps - 1) (Carried here)) × IsListing new.last
 
 -- over how many steps it is known that none passed the byte on: all if it is followed no further, else all before the
 -- last

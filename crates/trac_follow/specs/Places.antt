@@ -3,10 +3,11 @@ use Rattle.std.specs.Prelude.{◌≡◌, ◌⊎◌, ℕ, ◌+◌, ◌^◌, ◌<�
 use Rattle.std.specs.Prelude.{Some, Ok}
 use Rattle.trac_rules.specs.declared.item.Item.{Item}
 use Rattle.trac_rules.specs.declared.primitive.Computation.{Computation}
-use Rattle.trac_rules.specs.declared.primitive.Primitive.TheVariants.{Compute}
+use Rattle.trac_rules.specs.declared.primitive.FormAction.TheVariants.{ListNames}
+use Rattle.trac_rules.specs.declared.primitive.Primitive.TheVariants.{Compute, Handle}
 use Rattle.trac_rules.specs.declared.width.Width.{Width}
 use Rattle.trac_rules.specs.Effect.{Effect, argument}
-use Rattle.trac_rules.specs.Performing.{performed}
+use Rattle.trac_rules.specs.Performing.{performed, primitive_of}
 use Rattle.trac_rules.specs.Scanning.{Call, Calls, Scanned, scan}
 use Rattle.trac_rules.specs.State.{Environment, State}
 use Rattle.trac_rules.specs.Stepping.{step}
@@ -35,6 +36,11 @@ calls function depth other = false
 -- the step from a state performs a call that has these arguments
 abbrev pub IsCalling : State → List (List ℕ) → Type 0
 IsCalling s arguments = (call : Call) × (scan s ≡ Calls call) × (call.arguments ≡ arguments)
+
+-- it performs a call of `ln`
+abbrev pub IsListing : State → Type 0
+IsListing s =
+    (call : Call) × (scan s ≡ Calls call) × (primitive_of (argument 0 call.arguments) ≡ Handle ListNames)
 
 -- whether a place is in a form; and whether it is in a form or in a block
 abbrev pub is_in_form : Place → Bool

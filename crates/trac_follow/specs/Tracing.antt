@@ -1,5 +1,5 @@
 -- A byte that was followed back to where it comes from, in the words of `trac_origins`.
-use Rattle.std.specs.Prelude.{◌≡◌, ◌⊎◌, ◌+◌, ℕ, List, [], ◌∷◌, ◌++◌, take, true}
+use Rattle.std.specs.Prelude.{◌≡◌, ◌⊎◌, ◌+◌, ◌-◌, ℕ, List, [], ◌∷◌, ◌++◌, take, true}
 use Rattle.trac_rules.specs.Effect.{argument}
 use Rattle.trac_rules.specs.Scanning.{Call, Calls, scan}
 use Rattle.trac_rules.specs.Session.{PlainSession, over}
@@ -24,8 +24,9 @@ WasPassed old place steps new q = (before : ℕ) × ((here : Place) × (steps �
     × IsOrigin old place before before (Carried here) × IsPassed new.last here q)
 
 -- where it comes from: nothing stood there; all steps carried it, and there are no more, or as many were wanted; the
--- last of them read or made it, and the others carried it; or all carried it, and the last of them passed it on, from a
--- form whose name of more than 256 bytes could not be kept, or by a call of which the witness refused to be told
+-- last of them read or made it, and the others carried it; all carried it, and the last of them passed it on, from a
+-- form whose name of more than 256 bytes could not be kept, or by a call of which the witness refused to be told; or the
+-- last of them is a call of `ln` of which memory was refused to tell, and the others carried it
 abbrev pub IsEnd : PlainSession → Place → ℕ → PlainSession → ℕ → ends.End → Type 0
 IsEnd old place most new steps ends.TheVariants.Nothing = IsSource old place most new steps code.TheVariants.Nothing
 IsEnd old place most new steps ends.TheVariants.Earlier =
@@ -35,6 +36,7 @@ IsEnd old place most new steps ends.TheVariants.Made = IsSource old place most n
 IsEnd old place most new steps ends.TheVariants.Unkept =
     (q : Place) × IsOrigin old place steps steps (Carried q) × IsLong q × WasPassed old place steps new q
 IsEnd old place most new steps ends.TheVariants.Untold = AllCarried old place steps
+IsEnd old place most new steps ends.TheVariants.Memory = IsSource old place most new steps code.TheVariants.Memory
 
 pub record IsTraced (old : PlainSession) (place : Place) (most : ℕ) (new : PlainSession) (found : Traced) : Type 0 where
   pub end : IsEnd old place most new found.steps found.end
@@ -55,6 +57,11 @@ abbrev pub IsTold : {W : Type 0} → (W → Passing → W → Type 0) → (W →
 IsTold {W} passes refuses way steps ends.TheVariants.Untold old new = (before : List Passing) × ((p : Passing)
     × ((m : W) × (way ≡ before ++ p ∷ []) × (p.steps ≡ steps) × ToldAll passes old before m × refuses m p new))
 IsTold passes refuses way steps end old new = ToldAll passes old way new
+
+-- over how many of the steps it was told of them: over all, but for one of which memory was refused to tell
+abbrev pub told_steps : ℕ → ends.End → ℕ
+told_steps steps ends.TheVariants.Memory = steps - 1
+told_steps steps end = steps
 
 -- the calls on the way of a byte over the last so many steps
 abbrev pub way_of : PlainSession → Place → ℕ → List Passing
@@ -89,4 +96,5 @@ EndsAs code.TheVariants.Nothing end = end ≡ ends.TheVariants.Nothing
 EndsAs (code.TheVariants.Here there) end = end ≡ ends.TheVariants.Earlier
 EndsAs (code.TheVariants.Read n) end = end ≡ ends.TheVariants.Read n
 EndsAs code.TheVariants.Made end = end ≡ ends.TheVariants.Made
+EndsAs code.TheVariants.Memory end = end ≡ ends.TheVariants.Memory
 EndsAs source end = ⊥

@@ -1,5 +1,5 @@
 //! Where bytes come from by a call.
-ghost use Rattle.std.specs.Prelude.{◌≡◌, ◌+◌, false, length, true, MatchBool};
+ghost use Rattle.std.specs.Prelude.{◌≡◌, ◌+◌, false, length, true, IfOk, MatchBool, OnErr};
 ghost use Rattle.trac_origins.specs.Lengths.{is_silent};
 ghost use Rattle.trac_origins.specs.Places.{InActive, InForm, InHeld, InOutput};
 ghost use Rattle.trac_rules.specs.declared.primitive.BlockAction.TheVariants.{StoreBlock};
@@ -10,38 +10,40 @@ ghost use Rattle.trac_rules.specs.Performing.{primitive_of};
 ghost use Rattle.trac_rules.specs.Scanning.{Call, Calls, scan};
 ghost use Rattle.trac_follow.specs.declared.place.After.{After as Lengths};
 ghost use Rattle.trac_follow.specs.Putting.{put_by};
-ghost use Rattle.trac_follow.specs.Places.{IsCalling, IsTakenOut, TellsOf, ToldAsPrinted, is_from_form};
-ghost use Rattle.trac_follow.specs.Places.{is_in_text, place_of};
+ghost use Rattle.trac_follow.specs.Places.{IsCalling, IsListing, IsTakenOut, TellsOf, ToldAsPrinted};
+ghost use Rattle.trac_follow.specs.Places.{is_from_form, is_in_text, place_of};
 
 use crate::fetched::before_fetch;
 use crate::formed::{Printed, cut_item, printed_at, shown_byte};
 use crate::place::{After, Origin, Place};
 use crate::standing::{past_current, stands_around};
 use crate::valued::{Asked, argument_byte, value_byte};
-use std::alloc::Allocator;
+use std::alloc::{AllocError, Allocator};
 use trac_gap::TwoEnds;
 use trac_prims::{Args, primitive_named};
 use trac_rules::primitive::{BlockAction, FormAction, Primitive};
 use trac_rules::width::Width;
 use trac_step::{Core, Mark};
 
-// Where what stands at a place comes from, after a step that performs this call and leaves texts of these lengths.
+// Where what stands at a place comes from, after a step that performs this call and leaves texts of these lengths. The
+// error is that memory was refused, here and below.
 pub(crate) fn called<'a, E: TwoEnds<u8, A>, M: TwoEnds<Mark, A>, A: Allocator + Copy>(
     before: &Core<E, M, A>,
     width: Width,
     after: After,
     arguments: &Args<'_>,
     place: Place<'a>,
-) -> Origin<'a>
+) -> Result<Origin<'a>, AllocError>
     requires call { IsCalling before.now.state arguments.now }
-    ensures tells { TellsOf before.now.state width after (place_of place.entry) result }
-    ensures taken { IsTakenOut (place_of place.entry) result }
+    ensures tells { IfOk result (λ origin. TellsOf before.now.state width after (place_of place.entry) origin) }
+    ensures taken { IfOk result (λ origin. IsTakenOut (place_of place.entry) origin) }
+    ensures lists { OnErr result (IsListing before.now.state) }
 {
     match place {
         Place::Active(i) => of_active(before, width, after, arguments, i),
-        Place::Form(name, i) => of_form(before, after, arguments, name, i),
-        Place::Held(number, name, i) => of_block(before, arguments, number, name, i),
-        Place::Output(i) => of_output(before, after, arguments, i),
+        Place::Form(name, i) => Ok(of_form(before, after, arguments, name, i)),
+        Place::Held(number, name, i) => Ok(of_block(before, arguments, number, name, i)),
+        Place::Output(i) => Ok(of_output(before, after, arguments, i)),
         Place::Base(_) | Place::Argument { .. } => of_text(before, width, arguments, place),
     }
 }
@@ -62,14 +64,15 @@ fn of_active<'a, E: TwoEnds<u8, A>, M: TwoEnds<Mark, A>, A: Allocator + Copy>(
     after: After,
     arguments: &Args<'_>,
     i: usize,
-) -> Origin<'a>
+) -> Result<Origin<'a>, AllocError>
     requires call { IsCalling before.now.state arguments.now }
-    ensures tells { TellsOf before.now.state width after (InActive i) result }
-    ensures taken { IsTakenOut (InActive i) result }
+    ensures tells { IfOk result (λ origin. TellsOf before.now.state width after (InActive i) origin) }
+    ensures taken { IfOk result (λ origin. IsTakenOut (InActive i) origin) }
+    ensures lists { OnErr result (IsListing before.now.state) }
 {
     let rest = before.active().len().saturating_sub(1);
     if after.active < rest {
-        return Origin::Nothing;
+        return Ok(Origin::Nothing);
     }
     let value = after.active - rest;
     if i < value {
@@ -82,9 +85,9 @@ fn of_active<'a, E: TwoEnds<u8, A>, M: TwoEnds<Mark, A>, A: Allocator + Copy>(
         return value_byte(before, arguments, asked);
     }
     if i - value >= rest {
-        return Origin::Nothing;
+        return Ok(Origin::Nothing);
     }
-    Origin::Carried(Place::Active(i - value + 1))
+    Ok(Origin::Carried(Place::Active(i - value + 1)))
 }
 
 // Of the texts without the function: what stood there, and after the current text the value, if it is not scanned.
@@ -93,15 +96,17 @@ fn of_text<'a, E: TwoEnds<u8, A>, M: TwoEnds<Mark, A>, A: Allocator + Copy>(
     width: Width,
     arguments: &Args<'_>,
     place: Place<'a>,
-) -> Origin<'a>
+) -> Result<Origin<'a>, AllocError>
     requires call { IsCalling before.now.state arguments.now }
     requires text { is_in_text (place_of place) ≡ true }
-    ensures tells { (after : Lengths) → TellsOf before.now.state width after (place_of place.entry) result }
-    ensures taken { IsTakenOut (place_of place.entry) result }
+    ensures tells { IfOk result
+        (λ origin. (after : Lengths) → TellsOf before.now.state width after (place_of place.entry) origin) }
+    ensures taken { IfOk result (λ origin. IsTakenOut (place_of place.entry) origin) }
+    ensures lists { OnErr result (IsListing before.now.state) }
 {
     let function = innermost(before);
     if stands_around(before, function, place) {
-        return Origin::Carried(place);
+        return Ok(Origin::Carried(place));
     }
     let asked = Asked {
         function,

@@ -39,6 +39,9 @@ pub enum Source<'a> {
     Read(usize),
     /// The step that comes next made it.
     Made,
+    /// All steps that were gone back over after the step that comes next carried it. That step performs a call of `ln`,
+    /// and memory was refused to tell where the byte comes from.
+    Memory,
 }
 
 /// How a byte was followed back.
@@ -52,8 +55,8 @@ pub struct Followed<'a> {
 
 /// Goes back over up to `most` steps, as long as these carried the byte at a place, or the item of a form. It does so
 /// until a step made or read it, has it from a form, or performs a call that passed it on. Bytes that moved one by one
-/// are passed at once, as `Session::back` passes them. It takes no memory, and says that nothing is there only if
-/// nothing stands at the place.
+/// are passed at once, as `Session::back` passes them. It says that nothing is there only if nothing stands at the
+/// place. It takes no memory, but for a list of all names if the byte may be of the value of `ln`.
 pub fn follow<'a, A: Allocator + Copy>(
     session: &mut Session<A>,
     place: Place<'a>,
@@ -107,7 +110,10 @@ pub(crate) fn follow_from<'a, A: Allocator + Copy>(
         if stays(session.machine(), measure, here) {
             continue;
         }
-        let origin = origin_of(session.machine(), width, after, here);
+        let Ok(origin) = origin_of(session.machine(), width, after, here) else {
+            let source = Source::Memory;
+            return Followed { steps, source };
+        };
         match turn_of(session.machine(), here, origin) {
             Turn::On(there) => {
                 measure = measured(session.machine(), there);

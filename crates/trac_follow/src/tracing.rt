@@ -7,7 +7,7 @@ ghost use Rattle.trac_follow.specs.Kept.{IsFormless, named};
 ghost use Rattle.trac_follow.specs.Passing.{Passing};
 ghost use Rattle.trac_follow.specs.Places.{place_of};
 ghost use Rattle.trac_follow.specs.Tracing.{EndsAs, IsOfStorage, IsTold, IsTraced, LeadsTo, LeadsToLong, source_of};
-ghost use Rattle.trac_follow.specs.Tracing.{way_of};
+ghost use Rattle.trac_follow.specs.Tracing.{told_steps, way_of};
 ghost use Rattle.trac_rules.specs.Session.{Back, repeated};
 ghost use Rattle.trac_rules.specs.State.{State};
 
@@ -66,6 +66,9 @@ pub enum End {
     Unkept,
     /// The call that comes next passed it on, and the witness refused to be told of that.
     Untold,
+    /// The step that comes next performs a call of `ln`, and memory was refused to tell where the byte comes from. The
+    /// witness was not told of that call.
+    Memory,
 }
 
 /// How far a byte was followed back.
@@ -83,9 +86,11 @@ pub struct Traced {
 ///
 /// The witness is told of just the calls that passed the byte on. If it refuses, the trace ends.
 ///
-/// The trace takes no memory but what the witness takes. If a call took the byte from a form, of the store or of a
-/// block, the trace keeps the form's name. It copies a name of up to 256 bytes, and shares a longer one with the store.
-/// If it cannot, it ends as `End::Unkept`.
+/// The trace takes no memory but what the witness takes, and a list of all names if the byte may be of the value of
+/// `ln`. If that is refused, it ends as `End::Memory`.
+///
+/// If a call took the byte from a form, of the store or of a block, the trace keeps the form's name. It copies a name of
+/// up to 256 bytes, and shares a longer one with the store. If it cannot, it ends as `End::Unkept`.
 ///
 /// `End::Nothing` is answered only if nothing stands at the place.
 pub fn trace<A: Allocator + Copy, W: Witness<A>>(
@@ -97,8 +102,9 @@ pub fn trace<A: Allocator + Copy, W: Witness<A>>(
     ensures back { repeated Back result.steps session.old ≡ Some session.new }
     ensures most { result.steps ≤ most }
     ensures traced { IsTraced session.old (place_of place.entry) most session.new result }
-    ensures told { IsTold W.passes W.refuses (way_of session.old (place_of place.entry) result.steps) result.steps
-        result.end witness.old witness.new }
+    ensures told { IsTold W.passes W.refuses
+        (way_of session.old (place_of place.entry) (told_steps result.steps result.end)) result.steps result.end
+        witness.old witness.new }
 {
     if !stands(session.machine(), place) {
         return ended(0, End::Nothing);
@@ -175,6 +181,7 @@ fn onward_of<'a>(source: Source<'a>) -> Result<Onward<'a>, End>
         Source::Here(_) => Err(End::Earlier),
         Source::Read(n) => Err(End::Read(n)),
         Source::Made => Err(End::Made),
+        Source::Memory => Err(End::Memory),
         // It is not found on a leg: something stands where each begins.
         Source::Nothing => Err(End::Nothing),
     }

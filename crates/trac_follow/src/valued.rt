@@ -1,5 +1,5 @@
 //! Where the bytes of a value come from.
-ghost use Rattle.std.specs.Prelude.{◌≡◌, ◌+◌, false, length, ℕ};
+ghost use Rattle.std.specs.Prelude.{◌≡◌, ◌+◌, false, length, ℕ, IfOk, OnErr};
 ghost use Rattle.trac_rules.specs.Effect.{argument};
 ghost use Rattle.trac_rules.specs.Number.{is_greater, numeral_of};
 ghost use Rattle.trac_rules.specs.Performing.{primitive_of};
@@ -10,11 +10,12 @@ ghost use Rattle.trac_origins.specs.Lengths.{number_chosen};
 ghost use Rattle.trac_follow.specs.declared.place.Origin.TheVariants.{Carried};
 ghost use Rattle.trac_follow.specs.declared.place.Place.TheVariants.{Argument};
 ghost use Rattle.trac_follow.specs.Formed.{ToldAsListed};
-ghost use Rattle.trac_follow.specs.Places.{IsCalling, TellsComputed, TellsValue, ToldAsRead, is_from_form};
+ghost use Rattle.trac_follow.specs.Places.{IsCalling, IsListing, TellsComputed, TellsValue, ToldAsRead};
+ghost use Rattle.trac_follow.specs.Places.{is_from_form};
 
 use crate::formed::{called_byte, read_byte_of};
 use crate::place::{Origin, Place};
-use std::alloc::Allocator;
+use std::alloc::{AllocError, Allocator};
 use trac_gap::TwoEnds;
 use trac_num::{greater, read_tail};
 use trac_prims::{Args, primitive_named, result_on};
@@ -36,22 +37,23 @@ pub(crate) struct Asked {
 }
 
 // Where the byte comes from that is asked for of the value of the next step, which performs a call with these
-// arguments.
+// arguments. The error is that memory was refused, here and below.
 pub(crate) fn value_byte<'a, E: TwoEnds<u8, A>, M: TwoEnds<Mark, A>, A: Allocator + Copy>(
     before: &Core<E, M, A>,
     arguments: &Args<'_>,
     asked: Asked,
-) -> Origin<'a>
+) -> Result<Origin<'a>, AllocError>
     requires call { IsCalling before.now.state arguments.now }
     requires number { asked.function + 1 ≡ length before.now.state.frames }
-    ensures tells { TellsValue before.now.state asked.width asked.seen asked.byte result }
-    ensures taken { is_from_form result ≡ false }
+    ensures tells { IfOk result (λ origin. TellsValue before.now.state asked.width asked.seen asked.byte origin) }
+    ensures taken { IfOk result (λ origin. is_from_form origin ≡ false) }
+    ensures lists { OnErr result (IsListing before.now.state) }
 {
     match primitive_named(arguments.get(0)) {
-        Primitive::ReadString | Primitive::ReadByte => read_byte(before.position(), asked.byte),
-        Primitive::Compute(computation) => computed_byte(computation, arguments, asked),
+        Primitive::ReadString | Primitive::ReadByte => Ok(read_byte(before.position(), asked.byte)),
+        Primitive::Compute(computation) => Ok(computed_byte(computation, arguments, asked)),
         Primitive::Handle(action) => handled_byte(action, before, arguments, asked),
-        _ => Origin::Nothing,
+        _ => Ok(Origin::Nothing),
     }
 }
 
@@ -61,23 +63,24 @@ fn handled_byte<'a, E: TwoEnds<u8, A>, M: TwoEnds<Mark, A>, A: Allocator + Copy>
     before: &Core<E, M, A>,
     arguments: &Args<'_>,
     asked: Asked,
-) -> Origin<'a>
+) -> Result<Origin<'a>, AllocError>
     requires call { IsCalling before.now.state arguments.now }
     requires named { primitive_of (argument 0 arguments.now) ≡ Handle action }
     requires number { asked.function + 1 ≡ length before.now.state.frames }
-    ensures tells { TellsValue before.now.state asked.width asked.seen asked.byte result }
-    ensures taken { is_from_form result ≡ false }
+    ensures tells { IfOk result (λ origin. TellsValue before.now.state asked.width asked.seen asked.byte origin) }
+    ensures taken { IfOk result (λ origin. is_from_form origin ≡ false) }
+    ensures lists { OnErr result (IsListing before.now.state) }
 {
     if let FormAction::ListNames = action {
         return listed_byte(before, arguments.get(1).len(), asked.function, asked.byte);
     }
     let Some(form) = before.store().get(arguments.get(1)) else {
-        return Origin::Nothing;
+        return Ok(Origin::Nothing);
     };
     match action {
-        FormAction::Call => called_byte(form, arguments, asked.function, asked.byte),
-        FormAction::Read(reading) => read_byte_of(reading, form, arguments, asked),
-        _ => Origin::Nothing,
+        FormAction::Call => Ok(called_byte(form, arguments, asked.function, asked.byte)),
+        FormAction::Read(reading) => Ok(read_byte_of(reading, form, arguments, asked)),
+        _ => Ok(Origin::Nothing),
     }
 }
 
@@ -87,14 +90,17 @@ fn listed_byte<'a, E: TwoEnds<u8, A>, M: TwoEnds<Mark, A>, A: Allocator + Copy>(
     text: usize,
     function: usize,
     i: usize,
-) -> Origin<'a>
-    ensures tells { ToldAsListed before.now.state.forms text function i result }
-    ensures taken { is_from_form result ≡ false }
+) -> Result<Origin<'a>, AllocError>
+    ensures tells { IfOk result (λ origin. ToldAsListed before.now.state.forms text function i origin) }
+    ensures taken { IfOk result (λ origin. is_from_form origin ≡ false) }
 {
-    match before.store().byte_listed(text, i) {
-        Some(byte) if byte < text => argument_byte(function, 1, byte),
-        Some(_) => Origin::Made,
-        None => Origin::Nothing,
+    let Ok(found) = before.store().byte_listed(text, i) else {
+        return Err(AllocError);
+    };
+    match found {
+        Some(byte) if byte < text => Ok(argument_byte(function, 1, byte)),
+        Some(_) => Ok(Origin::Made),
+        None => Ok(Origin::Nothing),
     }
 }
 

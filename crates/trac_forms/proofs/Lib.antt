@@ -12,5 +12,4 @@ pub mod Passing
 pub mod ByteRuns
 pub mod RunLengths
 pub mod Searching
-pub mod InOrder
 pub mod TextsAlone

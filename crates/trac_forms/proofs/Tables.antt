@@ -59,7 +59,7 @@ get-with_entry name q (Some form) forms =
     finite.get-insert nat_list_cmp_total forms name form q ∙ ap (λ b. cond b (Some form) (finite.get forms q)) (is_eq-slice_cmp q name)
 
 -- the form of a name is that of its first entry
-pub get-forms_of : (es : Entries) (q : List ℕ) → finite.get (forms_of es) q ≡ option_flatten (lookup (bytes_eq q) es)
+get-forms_of : (es : Entries) (q : List ℕ) → finite.get (forms_of es) q ≡ option_flatten (lookup (bytes_eq q) es)
 get-forms_of [] q = finite.get-empty (slice_cmp nat_cmp) q
 get-forms_of (e ∷ es) q =
     get-with_entry e.0 q e.1 (forms_of es)
@@ -133,10 +133,6 @@ nothing_taken forms name none =
     cond-true (bytes_eq q name) None (finite.get forms q) t ∙ sym (ap (finite.get forms) same ∙ none))
     (λ (t : bytes_eq q name ≡ false). cond-false (bytes_eq q name) None (finite.get forms q) t)
     (cases_Bool (bytes_eq q name)))
-
--- the same of one without an entry
-pub forms_not_taken : (es : Entries) (name : List ℕ) → lookup (bytes_eq name) es ≡ None → finite.remove (forms_of es) name ≡ forms_of es
-forms_not_taken es name none = nothing_taken (forms_of es) name (get-forms_of es name ∙ ap option_flatten none)
 
 -- a form changed in its entry is changed under its name
 with_changed : (name : List ℕ) (change : Form → Form) (forms : Forms) → with_entry name (option_map change (finite.get forms name)) forms ≡ changed_at name change forms
@@ -226,7 +222,7 @@ known_swept es apart =
     ∙ sym (set.contains-from_list nat_list_cmp_total (names_of (forms_of es)) q))
 
 -- no entry where no key is equal
-pub lookup_none : (q : List ℕ) (es : Entries) → AllByRecursion (λ y. bytes_eq q y ≡ false) (keys_of es) → lookup (bytes_eq q) es ≡ None
+lookup_none : (q : List ℕ) (es : Entries) → AllByRecursion (λ y. bytes_eq q y ≡ false) (keys_of es) → lookup (bytes_eq q) es ≡ None
 lookup_none q [] h = refl
 lookup_none q (e ∷ es) h = cond-false (bytes_eq q e.0) (Some e.1) (lookup (bytes_eq q) es) h.0 ∙ lookup_none q es h.1
 

@@ -6,8 +6,6 @@ ghost use Rattle.std.specs.FinMap as finite;
 ghost use Rattle.std.specs.FinSet as set;
 ghost use Rattle.std.specs.List.Sorted.{IsPermutation};
 ghost use Rattle.std.specs.Option.{option_copied, option_flatten};
-ghost use Rattle.std.specs.Cmp.Lexicographic.{slice_cmp};
-ghost use Rattle.std.specs.Ordering.{is_lt, nat_cmp};
 ghost use Rattle.std.specs.Arc.{arc_slice_items};
 ghost use Rattle.std.specs.Str.{bytes_eq};
 ghost use Rattle.indexmap.specs.IndexMap.{get_by, index_map_len, set_value_at, values, IsUnique};
@@ -17,7 +15,7 @@ ghost use Rattle.trac_rules.specs.Form.{all_items, pointed_at};
 ghost use Rattle.trac_rules.specs.Listing.{names_of};
 ghost use Rattle.trac_rules.specs.Segmenting.{segmented};
 ghost use Rattle.trac_forms.specs.Layout.{IsSound};
-ghost use Rattle.trac_forms.specs.Listed.{AreMissed, IsHit, IsListed, lesser_len, listed_len};
+ghost use Rattle.trac_forms.specs.Listed.{IsListed, listed_len};
 ghost use Rattle.trac_forms.specs.Stored.{KnowsAll, changed_at, nothing_stored, swept, unsegmented};
 ghost use Rattle.trac_forms.specs.Table.{IsParted, full_keys};
 
@@ -29,7 +27,6 @@ use crate::name::Name;
 use crate::text_lists::Texts;
 use indexmap::IndexMap;
 use std::alloc::{Allocator, Global};
-use std::cmp::Ordering;
 use std::hash::{BuildHasher, BuildHasherDefault, FoldHasher, Hash};
 use std::marker::Model;
 use std::sync::ArcSlice;
@@ -481,74 +478,36 @@ fn full_names<A: Allocator + Copy>(table: &Table<A>) -> Result<Vec<&[u8], A>, Fo
     Ok(names)
 }
 
-// ---- names in order, without memory
+// ---- names in order
 
 impl<A: Allocator + Copy> Store<A> {
     /// Where the byte of this number stands in the list of all names of forms: how many bytes of its own text and name
     /// stand before it. The names rise by their bytes, each with a text of this length before it. `None` past the end
-    /// of the list. It takes no memory, and for each name that is tried time for all names.
-    pub fn byte_listed(&self, text: usize, i: usize) -> Option<usize>
-        ensures { MatchOption result (listed_len text (names_of self.now.forms) ≤ i)
-            (IsListed (names_of self.now.forms) text i) }
+    /// of the list. It takes memory for one reference a form, and the time to put the names in order.
+    /// Refused with `Memory` if the allocator refuses.
+    pub fn byte_listed(&self, text: usize, i: usize) -> Result<Option<usize>, FormError>
+        ensures found { IfOk result (λ found. MatchOption found (listed_len text (names_of self.now.forms) ≤ i)
+            (IsListed (names_of self.now.forms) text i)) }
+        ensures err { IsOkUnless result FormError.Memory }
     {
-        // The contract of `len` says that no key stands twice.
-        let _len = self.table.len();
-        byte_in_list(&self.table, text, i)
+        let names = self.names()?;
+        Ok(byte_in_names(&names, text, i))
     }
 }
 
-// The same, of the entries that have a form.
-fn byte_in_list<A: Allocator + Copy>(table: &Table<A>, text: usize, i: usize) -> Option<usize>
-    ensures { MatchOption result (AreMissed text i (full_keys table.now.entries))
-        (IsHit text i (full_keys table.now.entries)) }
-{
-    for (name, held) in table.iter() {
-        if held.is_none() {
-            continue;
-        }
-        let bytes = name.as_slice();
-        let Some(byte) = past_lesser(table, bytes, text, i) else {
-            continue;
-        };
-        if is_within(byte, text, bytes.len()) {
-            return Some(byte);
-        }
-    }
-    None
-}
-
-// How far a byte of the list is past the names that are less than this one.
-fn past_lesser<A: Allocator + Copy>(
-    table: &Table<A>,
-    name: &[u8],
-    text: usize,
-    i: usize,
-) -> Option<usize>
-    ensures { MatchOption result (i < lesser_len text name.now (full_keys table.now.entries))
-        (λ byte. lesser_len text name.now (full_keys table.now.entries) + byte ≡ i) }
+// The same, of these names as they stand.
+fn byte_in_names(names: &[&[u8]], text: usize, i: usize) -> Option<usize>
+    ensures { MatchOption result (listed_len text (map (λ name. name.now) names.now) ≤ i)
+        (IsListed (map (λ name. name.now) names.now) text i) }
 {
     let mut left = i;
-    for (other, held) in table.iter() {
-        if held.is_none() {
-            continue;
+    for name in names {
+        if is_within(left, text, name.len()) {
+            return Some(left);
         }
-        let bytes = other.as_slice();
-        if !is_less(bytes, name) {
-            continue;
-        }
-        if is_within(left, text, bytes.len()) {
-            return None;
-        }
-        left = left - text - bytes.len();
+        left = left - text - name.len();
     }
-    Some(left)
-}
-
-// Whether a name stands before another one.
-fn is_less(name: &[u8], other: &[u8]) -> bool
-    ensures { result ≡ is_lt (slice_cmp nat_cmp name.now other.now) }
-{
-    name.cmp(other) == Ordering::Less
+    None
 }
 
 // Whether a byte of this number is one of a text and a name of these lengths.

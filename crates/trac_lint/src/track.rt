@@ -127,7 +127,7 @@ impl<A: Allocator + Copy> Track<A> {
         post: Post,
         most: u64,
     ) -> Result<Option<Next>, AllocError> {
-        match leg_of(walker, with_name(self.stand, self.name.as_slice()), most) {
+        match leg_of(walker, with_name(self.stand, self.name.as_slice()), most)? {
             Leg::Here(stand) => return Ok(self.stay(walker, sources, stand)),
             Leg::On(stand) => self.stand = stand,
             Leg::OfForm(item) => {
@@ -204,17 +204,23 @@ enum Leg {
     Nothing,
 }
 
-// Follows a byte over so many steps at most. Of one that a call made, the name of the call is followed on.
-fn leg_of<A: Allocator + Copy>(walker: &mut Walker<A>, place: Place<'_>, most: u64) -> Leg {
+// Follows a byte over so many steps at most. Of one that a call made, the name of the call is followed on. The error is
+// that memory was refused.
+fn leg_of<A: Allocator + Copy>(
+    walker: &mut Walker<A>,
+    place: Place<'_>,
+    most: u64,
+) -> Result<Leg, AllocError> {
     match walker.follow(place, most).source {
-        Source::Here(there) => Leg::Here(parts(there).0),
-        Source::Passed(there) => Leg::On(parts(there).0),
-        Source::OfForm(item) => Leg::OfForm(item),
-        Source::Read(n) => Leg::Read(n),
+        Source::Here(there) => Ok(Leg::Here(parts(there).0)),
+        Source::Passed(there) => Ok(Leg::On(parts(there).0)),
+        Source::OfForm(item) => Ok(Leg::OfForm(item)),
+        Source::Read(n) => Ok(Leg::Read(n)),
         Source::Made if walker.glance().performs => {
-            Leg::On(parts(place_of(walker, Doubt::NoPrimitive)).0)
+            Ok(Leg::On(parts(place_of(walker, Doubt::NoPrimitive)).0))
         }
-        Source::Made => Leg::Idle,
-        Source::Nothing => Leg::Nothing,
+        Source::Made => Ok(Leg::Idle),
+        Source::Nothing => Ok(Leg::Nothing),
+        Source::Memory => Err(AllocError),
     }
 }

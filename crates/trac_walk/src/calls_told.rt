@@ -1,7 +1,7 @@
 //! The calls that passed a byte on, of which a reply is made.
 ghost use Rattle.std.specs.Prelude.{◌≡◌, length};
 ghost use Rattle.trac_follow.specs.Places.{place_of};
-ghost use Rattle.trac_follow.specs.Tracing.{way_of};
+ghost use Rattle.trac_follow.specs.Tracing.{told_steps, way_of};
 ghost use Rattle.trac_walk.specs.Ways.{AreTold, Tells, deed_at, number_of_step};
 
 use crate::walker::Walker;
@@ -95,7 +95,8 @@ pub(crate) fn told_way<A: Allocator + Copy>(
     place: Place<'_>,
 ) -> (Way<A>, Traced)
     ensures { AreTold (number_of_step walker.old.window.forgotten (length walker.old.window.session.earlier))
-        (way_of walker.old.window.session (place_of place.entry) result.1.steps) result.1.end result.0 }
+        (way_of walker.old.window.session (place_of place.entry) (told_steps result.1.steps result.1.end)) result.1.end
+        result.0 }
 {
     let mut way = Way {
         alloc,

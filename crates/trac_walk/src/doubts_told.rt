@@ -47,7 +47,7 @@ fn place_into<A: Allocator + Copy>(
     let found = walker.trace(place, &mut Unsaid).end;
     let source = walker.step();
     let origin = match found {
-        End::Unkept | End::Untold => return Err(AllocError),
+        End::Unkept | End::Untold | End::Memory => return Err(AllocError),
         End::Nothing => None,
         found => Some(written_at(walker, program, found)),
     };

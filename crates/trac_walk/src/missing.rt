@@ -158,7 +158,7 @@ fn gap_at<A: Allocator + Copy>(walker: &Walker<A>, item: usize) -> Option<u32> {
 // That a way was told to its end. The error is that it was not, for want of memory.
 fn is_told(end: End) -> Result<(), AllocError> {
     match end {
-        End::Unkept | End::Untold => Err(AllocError),
+        End::Unkept | End::Untold | End::Memory => Err(AllocError),
         _ => Ok(()),
     }
 }

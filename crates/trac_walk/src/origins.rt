@@ -10,7 +10,7 @@ use trac_follow::{End, Place, Witness};
 use trac_orders::Spot;
 use trac_rules::byte::LINE_FEED;
 use trac_screen::{Origin, Stop, Treatment, left_out_into, origin_into, piece_into, step_line};
-use trac_session::Machine;
+use trac_session::{Machine, Refusal};
 
 /// A witness of a byte's way of which nothing is said.
 #[derive(Clone, Copy)]
@@ -25,8 +25,9 @@ impl<A: Allocator + Copy> Witness<A> for Unsaid {
 impl<A: Allocator + Copy> Telling<'_, A> {
     /// Goes back to the step that made a byte, or read it, and tells the way there. That is a line for each call that
     /// carried it, the latest first, and then where it stands. Of a byte of the program it says the line and the
-    /// column. It takes memory for the lines alone. The error is that memory was refused, here and below, or that the
-    /// name of a form could not be kept.
+    /// column. It takes memory for the lines, and for the names at a call of `ln`: if that is refused, it says so, and
+    /// stands before that call. The error is that memory was refused, here and below, or that the name of a form could
+    /// not be kept.
     pub(crate) fn way_into(&mut self, spot: Spot<'_>) -> Result<(), AllocError> {
         if let Some(argument) = argument_meant(self.walker, spot) {
             return self.argument_into(argument, true);
@@ -66,6 +67,7 @@ impl<A: Allocator + Copy> Telling<'_, A> {
         let read = number_read(self.walker, &end);
         let origin = match end {
             End::Nothing => return self.stay(Stop::NoByte),
+            End::Memory => return self.stay(Stop::Refused(Refusal::Memory)),
             End::Unkept | End::Untold => return Err(AllocError),
             end => origin_of(self.walker, self.program, end),
         };
@@ -101,6 +103,7 @@ impl<A: Allocator + Copy> Telling<'_, A> {
         }
         match found {
             End::Nothing => return self.stay(Stop::NoName),
+            End::Memory => return self.stay(Stop::Refused(Refusal::Memory)),
             End::Unkept | End::Untold => return Err(AllocError),
             _ if is_idle => return self.stay(Stop::Idle),
             _ => {}

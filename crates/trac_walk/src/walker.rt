@@ -2,7 +2,7 @@
 ghost use Rattle.std.specs.Prelude.{◌≡◌, ◌≤◌, length, not, true, IfErr, None, OnOk};
 ghost use Rattle.trac_follow.specs.Following.{IsFollowed};
 ghost use Rattle.trac_follow.specs.Places.{place_of};
-ghost use Rattle.trac_follow.specs.Tracing.{IsTold, IsTraced, way_of};
+ghost use Rattle.trac_follow.specs.Tracing.{IsTold, IsTraced, told_steps, way_of};
 ghost use Rattle.trac_streams.specs.Tape.{MayRefuseTape};
 ghost use Rattle.trac_walk.specs.Aims.{MeetsAim, goal_of_aim};
 ghost use Rattle.trac_walk.specs.Ways.{number_of_step};
@@ -190,7 +190,8 @@ impl<A: Allocator + Copy> Walker<A> {
     pub fn trace<W: Witness<A>>(&mut self, place: Place<'_>, witness: &mut W) -> Traced
         ensures traced { IsTraced self.old.window.session (place_of place.entry)
             (length self.old.window.session.earlier) self.new.window.session result }
-        ensures told { IsTold W.passes W.refuses (way_of self.old.window.session (place_of place.entry) result.steps)
+        ensures told { IsTold W.passes W.refuses
+            (way_of self.old.window.session (place_of place.entry) (told_steps result.steps result.end))
             result.steps result.end witness.old witness.new }
     {
         let most = self.window.session.len() as u64;

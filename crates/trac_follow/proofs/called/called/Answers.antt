@@ -1,4 +1,5 @@
 use Rattle.std.proofs.Common.{sym, subst}
+use Rattle.std.proofs.lemmas.Result.{IfOk-weaker}
 use Rattle.trac_follow.specs.Places.{TellsOf, place_of}
 use Rattle.trac_follow.proofs.called.called.Goals as goal
 
@@ -11,4 +12,4 @@ returns-in-Held-clause-tells g c =
     subst (λ p. TellsOf c.args.before.now.state c.args.width c.args.after (place_of p) c.of_block.result) (sym c.in-Held.is) (c.of_block.ensures.tells c.args.width c.args.after)
 
 pub returns-in-Base-clause-tells : goal.returns-in-Base-clause-tells
-returns-in-Base-clause-tells g c = c.of_text.ensures.tells c.args.after
+returns-in-Base-clause-tells g c = IfOk-weaker c.of_text.result _ _ (λ origin tells. tells c.args.after) c.of_text.ensures.tells

@@ -1,4 +1,5 @@
 use Rattle.std.proofs.Common.{◌≡◌, ◌-◌, length, ap, ◌∙◌, arith}
+use Rattle.std.proofs.lemmas.Result.{IfOk-weaker}
 use Rattle.trac_origins.proofs.Told.{byte_within}
 use Rattle.trac_follow.proofs.CallsTold.{active_kept, rest_carried, tells_active}
 use Rattle.trac_follow.proofs.called.of_active.Goals as goal
@@ -9,10 +10,10 @@ returns-then-after-rest-clause-tells g c = λ environment t item wide h lengths 
     absurd (omega (arith, same, lengths.active, c.if-after-rest.true, active_kept environment c.args.before.now.state t c.requires.call.0 item h c.requires.call.1 c.args.width wide))
 
 pub returns-then-i-value-clause-tells : goal.returns-then-i-value-clause-tells
-returns-then-i-value-clause-tells g c = λ environment t item wide h lengths stands.
+returns-then-i-value-clause-tells g c = IfOk-weaker c.value_byte.result _ _ (λ origin tells environment t item wide h lengths stands.
     let same : c.saturating_sub-rest.result ≡ length c.args.before.now.state.active - 1 = c.saturating_sub-rest.ensures ∙ ap (λ text. length text - 1) c.active.ensures in
-    tells_active environment c.args.before.now.state t c.requires.call.0 item h c.requires.call.1 c.args.width wide c.value_byte.result c.args.i (c.args.after.active - c.saturating_sub-rest.result) c.value_byte.ensures.tells lengths.read
-    (omega (arith, same, lengths.active)) c.if-i-value.true stands
+    tells_active environment c.args.before.now.state t c.requires.call.0 item h c.requires.call.1 c.args.width wide origin c.args.i (c.args.after.active - c.saturating_sub-rest.result) tells lengths.read
+    (omega (arith, same, lengths.active)) c.if-i-value.true stands) c.value_byte.ensures.tells
 
 pub returns-then-i-value-2-clause-tells : goal.returns-then-i-value-2-clause-tells
 returns-then-i-value-2-clause-tells g c = λ environment t item wide h lengths stands.

@@ -4,7 +4,7 @@ use Rattle.trac_rules.specs.Session.{PlainSession}
 use Rattle.trac_rules.specs.State.{State}
 use Rattle.trac_follow.specs.Places.{place_of}
 use Rattle.trac_follow.proofs.RunsBack.{run_on, same_session}
-use Rattle.trac_follow.proofs.StepsBack.{GoesBack, HasTold, WentBack, has_told, no_way_back, none_by_test, some_by_test, step_to, stops, turned_end, turned_on, went_back}
+use Rattle.trac_follow.proofs.StepsBack.{GoesBack, HasTold, WentBack, has_told, no_way_back, none_by_test, refused_end, some_by_test, step_to, stops, turned_end, turned_on, went_back}
 use Rattle.trac_follow.proofs.history.follow_from.Given.{Over}
 use Rattle.trac_follow.proofs.history.follow_from.Goals as goal
 use Rattle.trac_follow.proofs.history.follow_from.Goals.{After-machine-in-loop-steps-2, After-turn_of, else-loop-steps-test, then-loop-steps-test+else-count-gt0+then-is_some}
@@ -30,13 +30,13 @@ came g c =
 
 -- and what is told of it
 told : (g : Over) (c : After-turn_of g) →
-    HasTold c.args.width c.args.session.now c.pass_back-count.new.self c.back.new.self (place_of c.args.place) (place_of c.loop-steps.here) c.loop-steps.steps c.loop-steps.measure.0 c.loop-steps.measure.1 c.origin_of-origin.result
+    HasTold c.args.width c.args.session.now c.pass_back-count.new.self c.back.new.self (place_of c.args.place) (place_of c.loop-steps.here) c.loop-steps.steps c.loop-steps.measure.0 c.loop-steps.measure.1 c.in-Ok.origin
 told g c =
     let known = came g (goal.at.After-turn_of g c).After-machine-in-loop-steps-2 in
     let seen = c.seen_after-after.ensures in
     has_told c.args.width c.args.session.now c.pass_back-count.new.self c.back.new.self (place_of c.args.place) (place_of c.loop-steps.here) c.loop-steps.steps c.loop-steps.measure.0 c.loop-steps.measure.1
-    c.seen_after-after.result c.machine-in-loop-steps.result.now.state c.machine-in-loop-steps-4.result.now.state c.origin_of-origin.result known.0 known.1 seen.active seen.output seen.extent seen.gap seen.read
-    c.machine-in-loop-steps.ensures.last c.machine-in-loop-steps-4.ensures.last c.origin_of-origin.ensures.tells
+    c.seen_after-after.result c.machine-in-loop-steps.result.now.state c.machine-in-loop-steps-4.result.now.state c.in-Ok.origin known.0 known.1 seen.active seen.output seen.extent seen.gap seen.read
+    c.machine-in-loop-steps.ensures.last c.machine-in-loop-steps-4.ensures.last c.in-Ok.ensures.tells
 
 pub loop-steps-preserved-in-Some : goal.loop-steps-preserved-in-Some
 loop-steps-preserved-in-Some g c =
@@ -63,15 +63,21 @@ pub loop-steps-preserved : goal.loop-steps-preserved
 loop-steps-preserved g c = (
   omega (arith, c.loop-steps-test.true),
   turned_on c.args.width c.args.session.now c.pass_back-count.new.self c.back.new.self (place_of c.args.place) c.loop-steps.here c.loop-steps.steps c.loop-steps.measure.0 c.loop-steps.measure.1
-      c.origin_of-origin.result (told g (goal.at.loop-steps-preserved g c).After-turn_of) c.machine-in-loop-steps-5.result.now.state c.machine-in-On.result.now.state c.turn_of.result c.in-On.there
+      c.in-Ok.origin (told g (goal.at.loop-steps-preserved g c).After-turn_of) c.machine-in-loop-steps-5.result.now.state c.machine-in-On.result.now.state c.turn_of.result c.in-On.there
       c.measured-measure-in-On.result.0 c.measured-measure-in-On.result.1 c.machine-in-loop-steps-5.ensures.last c.turn_of.ensures c.in-On.is c.machine-in-On.ensures.last c.measured-measure-in-On.ensures,
 )
 
 pub returns-in-Found-clause-followed : goal.returns-in-Found-clause-followed
 returns-in-Found-clause-followed g c =
     turned_end c.args.width c.args.session.now c.pass_back-count.new.self c.back.new.self (place_of c.args.place) c.loop-steps.here c.loop-steps.steps c.loop-steps.measure.0 c.loop-steps.measure.1
-    c.origin_of-origin.result (told g (goal.at.returns-in-Found-clause-followed g c).After-turn_of) c.machine-in-loop-steps-5.result.now.state c.args.most c.turn_of.result c.in-Found.source _
+    c.in-Ok.origin (told g (goal.at.returns-in-Found-clause-followed g c).After-turn_of) c.machine-in-loop-steps-5.result.now.state c.args.most c.turn_of.result c.in-Found.source _
     c.machine-in-loop-steps-5.ensures.last c.turn_of.ensures c.in-Found.is refl refl
+
+pub returns-in_default-origin_of-clause-followed : goal.returns-in_default-origin_of-clause-followed
+returns-in_default-origin_of-clause-followed g c =
+    let known = came g (goal.at.returns-in_default-origin_of-clause-followed g c).After-machine-in-loop-steps-2 in
+    refused_end c.args.width c.args.session.now c.pass_back-count.new.self c.back.new.self (place_of c.args.place) (place_of c.loop-steps.here) c.loop-steps.steps c.loop-steps.measure.0 c.loop-steps.measure.1
+    c.machine-in-loop-steps-4.result.now.state c.args.most _ known.0 known.1 c.machine-in-loop-steps-4.ensures.last c.in_default-origin_of.ensures.lists refl refl
 
 pub returns-clause-followed : goal.returns-clause-followed
 returns-clause-followed g c = λ known.

@@ -1,5 +1,9 @@
-use Rattle.std.proofs.Common.{length, sym, ap, ◌∙◌}
+use Rattle.std.proofs.Common.{length, sym, ap, ◌∙◌, Result, Ok, Err}
 use Rattle.std.specs.FinMap as finite
+use Rattle.std.specs.Prelude.{OnErr}
+use Rattle.std.proofs.lemmas.Result.{IfOk-weaker}
+use Rattle.trac_rules.specs.Effect.{argument}
+use Rattle.trac_rules.specs.Performing.{primitive_of}
 use Rattle.trac_rules.specs.declared.primitive.FormAction.TheVariants.{Call, Read}
 use Rattle.trac_rules.specs.declared.primitive.Primitive.TheVariants.{Handle}
 use Rattle.trac_follow.proofs.FormsTold.{form_value_told, formless_told, silent_told}
@@ -9,8 +13,20 @@ use Rattle.trac_follow.proofs.valued.handled_byte.Goals as goal
 
 pub returns-in-ListNames-clause-tells : goal.returns-in-ListNames-clause-tells
 returns-in-ListNames-clause-tells g c =
-    listed_tells c.args.before.now.state c.args.asked.width c.args.asked.seen c.args.asked.byte c.args.arguments.now c.requires.call (c.requires.named ∙ ap Handle c.in-ListNames.is)
-    c.args.asked.function (length c.get.result.now) c.listed_byte.result c.requires.number (ap (λ text. length text) c.get.ensures) c.listed_byte.ensures.tells
+    IfOk-weaker c.listed_byte.result _ _
+    (λ origin. listed_tells c.args.before.now.state c.args.asked.width c.args.asked.seen c.args.asked.byte c.args.arguments.now c.requires.call (c.requires.named ∙ ap Handle c.in-ListNames.is)
+    c.args.asked.function (length c.get.result.now) origin c.requires.number (ap (λ text. length text) c.get.ensures)) c.listed_byte.ensures.tells
+
+-- after whatever error
+on_error : {T E P : Type 0} (r : Result T E) → P → OnErr r P
+on_error (Ok x) p = tt
+on_error (Err e) p = p
+
+pub returns-in-ListNames-clause-lists : goal.returns-in-ListNames-clause-lists
+returns-in-ListNames-clause-lists g c =
+    let call = c.requires.call in
+    on_error c.listed_byte.result
+    (call.0, call.1, ap (λ texts. primitive_of (argument 0 texts)) call.2 ∙ c.requires.named ∙ ap Handle c.in-ListNames.is)
 
 pub returns-in-Call-clause-tells : goal.returns-in-Call-clause-tells
 returns-in-Call-clause-tells g c =
