@@ -41,11 +41,11 @@ Shows (NotUnderstood line) written o = ⊥
 abbrev pub most_read : ℕ → ℕ
 most_read steps = steps * TAPE_LIMIT + (TAPE_LIMIT + READ_SIZE)
 
--- a run read some bytes, and perhaps saw the end of the input, and wrote some. `stated` is the output that is stated for
--- an input and a budget. However the input goes on after what was read (not at all if the end was seen), what was
+-- a run read some bytes, and perhaps saw the end of the input, and wrote some. `stated` is the output that is stated
+-- for an input and a budget. However the input goes on after what was read (not at all if the end was seen), what was
 -- written is a front of the output that is stated for all of it. The ending of the run is the stated one if it is not a
--- fault or want of memory: all is written then. The run took so many steps within its budget, and read no more than they
--- may. Unless the writer failed, it wrote just what they print: a run with these steps for its budget writes the same
+-- fault or want of memory: all is written then. The run took so many steps within its budget, and read no more than
+-- they may. Unless the writer failed, it wrote just what they print: a run with these steps for its budget writes that
 pub record Runs (in_old in_new out_old out_new : Option (List ℕ)) (stated : List ℕ → ℕ → Output) (budget : ℕ)
     (ending : Ending) : Type 0 where
   pub got : List ℕ

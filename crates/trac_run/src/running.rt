@@ -41,7 +41,7 @@ pub struct RunReport {
 /// Runs what the reader gives, and writes what it prints, until the budget is spent, the input has ended, or a limit,
 /// memory, the reader or the writer ends it. Output is written and flushed before each read, and before the end.
 /// After a read fault it does not flush again. However it ends, unless the writer fails, it writes just what the steps
-/// print that it takes. Each read asks for at most 4,096 bytes, and all of them together give no more than 33,554,432 for
+/// print that it takes. Each read asks for at most 4,096 bytes. All of them together give no more than 33,554,432 for
 /// each of these steps, as many once more, and one read.
 pub fn run<R: Read, W: Write, A: Allocator + Copy>(
     alloc: A,
@@ -64,8 +64,8 @@ pub fn run<R: Read, W: Write, A: Allocator + Copy>(
 
 /// Runs a new session as `run` does, by so many steps at most, and counts what it does. The session is left as the last
 /// step or commit made it: it took just the steps that are counted. No byte is read but while the next step waits for
-/// input, and so none once the program halts. Each read but the last gave a byte at least, and so did the last, unless it
-/// saw the end or failed. For each step, and once more, there are at most 33,554,433 reads.
+/// input, and so none once the program halts. Each read but the last gave a byte at least, and so did the last, unless
+/// it saw the end or failed. For each step, and once more, there are at most 33,554,433 reads.
 pub fn run_session<R: Read, W: Write, A: Allocator + Copy>(
     session: &mut Session<A>,
     input: &mut R,
