@@ -1,5 +1,6 @@
 //! A session of the debugger: commands from a reader, replies to a writer.
-ghost use Rattle.std.specs.Prelude.{◌≡◌, ◌+◌, ◌<◌, ◌≤◌, ℕ, List, Option, true, length, IfOk, IfErr, IsOkUnless, OnErr, OnOk};
+ghost use Rattle.std.specs.Prelude.{◌≡◌, ◌+◌, ◌<◌, ◌≤◌, ℕ, List, Option, true, length};
+ghost use Rattle.std.specs.Prelude.{IfOk, IfErr, IsOkUnless, OnErr, OnOk};
 ghost use Rattle.std.specs.Io.KnownBytes.{Appends, IsAtEnd};
 ghost use Rattle.trac_rules.specs.Session.{PlainSession};
 ghost use Rattle.trac_debug.specs.Debugging.{FollowsFirst, MayFollow, MayShow, RepliesToFirst, turn_at, turn_of};

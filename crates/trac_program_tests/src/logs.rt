@@ -37,6 +37,23 @@ const IN_A_RUN: &[LoggedCall] = &[
     LoggedCall::Flush,
 ];
 
+// The calls of a run over a program that halts, one byte a read: nothing is read after its sixth byte.
+const IN_A_HALT: &[LoggedCall] = &[
+    LoggedCall::Flush,
+    LoggedCall::Read(1),
+    LoggedCall::Flush,
+    LoggedCall::Read(1),
+    LoggedCall::Flush,
+    LoggedCall::Read(1),
+    LoggedCall::Flush,
+    LoggedCall::Read(1),
+    LoggedCall::Flush,
+    LoggedCall::Read(1),
+    LoggedCall::Flush,
+    LoggedCall::Read(1),
+    LoggedCall::Flush,
+];
+
 // "s 1", "forward 1", an empty line, "b 1", "back 1", and the end.
 const IN_A_SESSION: &[LoggedCall] = &[
     LoggedCall::Read(4),
@@ -77,6 +94,15 @@ fn noted_in_a_run(rt: &(impl Abort + AllocGlobal)) -> Option<Vec<LoggedCall>> {
     log.take_calls()
 }
 
+fn noted_in_a_halt(rt: &(impl Abort + AllocGlobal)) -> Option<Vec<LoggedCall>> {
+    let log = CallLog::new(rt.alloc());
+    let mut reader = Logged::new(FaultyReader::new(b"#(hl)'B'").at_most(1), &log);
+    let mut writer = Logged::new(FaultyWriter::new(rt.alloc()), &log);
+    let ending = run_over(rt, rt.alloc(), (64, Width::W128), &mut reader, &mut writer);
+    assert!(rt; ending == Ending::Ended);
+    log.take_calls()
+}
+
 fn noted_in_a_session(rt: &(impl Abort + AllocGlobal)) -> Option<Vec<LoggedCall>> {
     let log = CallLog::new(rt.alloc());
     let mut reader = Logged::new(FaultyReader::new(b"s 1\n\nb 1\n").by_lines(), &log);
@@ -107,4 +133,9 @@ fn all_is_flushed_before_more_is_read(rt: HostRuntime) {
     expect_calls(&rt, noted_in_a_run(&rt), IN_A_RUN);
     expect_calls(&rt, noted_in_a_session(&rt), IN_A_SESSION);
     expect_calls(&rt, noted_in_a_walk(&rt), IN_A_WALK);
+}
+
+#[test]
+fn nothing_is_read_once_a_program_halts(rt: HostRuntime) {
+    expect_calls(&rt, noted_in_a_halt(&rt), IN_A_HALT);
 }

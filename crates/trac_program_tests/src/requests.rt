@@ -79,14 +79,14 @@ fn may_write(row: &Row, written: &[u8], is_refused: bool) -> bool {
     output.starts_with(written) && (is_refused || written.len() == output.len())
 }
 
-// Whether a program may end so.
+// Whether a program may end so: one that says that memory was refused goes on to the end.
 fn may_end(row: &Row, ending: Ending, written: &[u8], is_refused: bool) -> bool {
     if !is_refused {
         return ending == Ending::Ended;
     }
     match row.2 {
-        Some(said) => ending == Ending::Memory || contains(written, said),
-        None => ending == Ending::Memory,
+        Some(said) if contains(written, said) => ending == Ending::Ended,
+        _ => ending == Ending::Memory,
     }
 }
 
@@ -108,6 +108,40 @@ fn requests_of(rt: &(impl Abort + AllocGlobal), row: &Row) -> u64 {
         if !expect_row(rt, row, nth) {
             return nth - 1;
         }
+    }
+    panic!(rt; "too few runs");
+}
+
+// Commands of the debugger that are walks.
+const WALKS: &[u8] = b"s 11\nr rs\nb 1\nb 99\nu ps 99\nr zz\n";
+
+// With this request refused, a session of walks ends before it writes anything, or says so and goes on to the end:
+// whether a request was refused, and whether a walk said so.
+fn expect_walks(rt: &(impl Abort + AllocGlobal), nth: u64) -> (bool, bool) {
+    let memory = Refusing::new(rt.alloc());
+    memory.refuse_nth(nth);
+    let (ending, written) = outcome(rt, rt.alloc(), &memory, DEBUG, WALKS, 4096, NO_FAULT);
+    let is_refused = memory.refusals() > 0;
+    let is_told = contains(written.as_slice(), b" Memory\n");
+    let wanted = if written.is_empty() {
+        Ending::Memory
+    } else {
+        Ending::Ended
+    };
+    assert!(rt; ending == wanted && (is_told || !is_refused || written.is_empty()), "request {nth}");
+    (is_refused, is_told)
+}
+
+#[test]
+fn replies_to_walks_take_no_memory(rt: HostRuntime) {
+    let mut told = 0_u64;
+    for nth in 1..10_000 {
+        let (is_refused, is_told) = expect_walks(&rt, nth);
+        if !is_refused {
+            assert!(rt; told > 0);
+            return;
+        }
+        told = told.saturating_add(u64::from(is_told));
     }
     panic!(rt; "too few runs");
 }

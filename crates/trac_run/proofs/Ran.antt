@@ -12,11 +12,11 @@ use Rattle.trac_streams.specs.declared.ending.Ending.{Ending}
 use Rattle.trac_streams.specs.declared.ending.Ending.TheVariants.{Ended, Budget, Limit, Memory, Read, Write, NotUnderstood}
 use Rattle.trac_rules.specs.Fronts.{IsFrontOf}
 use Rattle.trac_streams.specs.Written.{Closes}
-use Rattle.trac_run.specs.Runs.{Shows, Runs, RunsBy, TakesSteps, IsFresh, GoesOn, Finishes, most_read, most_reads, unread_count}
+use Rattle.trac_run.specs.Runs.{Shows, Runs, RunsBy, FeedsSteps, IsFresh, GoesOn, Finishes, most_read, most_reads, unread_count}
 use Rattle.trac_streams.specs.Reading.{end_reads}
 use Rattle.trac_streams.proofs.Gathered.{end_reads_one}
 use Rattle.trac_streams.proofs.Known.{Appends-nothing, Consumes-nothing, front_after, front_of_nothing, empty_front}
-use Rattle.trac_run.proofs.Stepped.{no_step, steps_both, steps_none}
+use Rattle.trac_run.proofs.Stepped.{feeds_both, feeds_none, no_step}
 use Rattle.trac_run.proofs.Transfers.{only_written, both_moved, goes_on_twice, rest_left}
 use Rattle.trac_run.proofs.Turned.{Shows-Write, no_steps_write}
 
@@ -27,7 +27,7 @@ pub record SoFar (in_old in_now out_old out_now : Option (List ℕ)) (width : Wi
   pub on : GoesOn in_old in_now out_old out_now 0 reads start budget p left
   pub fits : length p.tape.bytes ≤ TAPE_LIMIT
   pub within : left ≤ budget
-  pub steps : TakesSteps (budget - left) start p
+  pub steps : FeedsSteps in_old in_now (budget - left) start p
 
 -- at the beginning nothing is read, and nothing written
 pub so_far_new : (input output : Option (List ℕ)) (width : Width) (budget limit : ℕ) (p : PlainSession) → 1 ≤ limit → p ≡ new_session limit width → SoFar input input output output width budget p p budget 0
@@ -47,7 +47,7 @@ so_far_new input output width budget limit p some e =
       };
       fits = omega arith;
       within = omega arith;
-      steps = subst (λ n. TakesSteps n (new_session limit width) (new_session limit width)) (no_step budget) (steps_none (new_session limit width) (new_session limit width) refl);
+      steps = subst (λ n. FeedsSteps input input n (new_session limit width) (new_session limit width)) (no_step budget) (feeds_none input (new_session limit width) (new_session limit width) refl);
     })
 
 -- what is stated of the input is what goes on from the new session; and what was read is no more than its steps may take
@@ -69,14 +69,15 @@ few_so_far in_old in_now out_old out_now width budget start p left reads few far
     omega (arith, few, (so_far far).1, far.on.moved.came.0, (so_far far).0, far.fits, far.within, end_reads_one p.tape.ended)
 
 -- the steps so far and those of a turn
-steps_so_far : (budget m n : ℕ) (start p q : PlainSession) → m ≤ budget → n ≤ m → TakesSteps (budget - m) start p → TakesSteps (m - n) p q → TakesSteps (budget - n) start q
-steps_so_far budget m n start p q within fewer first second =
+steps_so_far : {in_old in_now in_new : Option (List ℕ)} (budget m n : ℕ) (start p q : PlainSession) → m ≤ budget → n ≤ m → FeedsSteps in_old in_now (budget - m) start p → FeedsSteps in_now in_new (m - n) p q →
+    FeedsSteps in_old in_new (budget - n) start q
+steps_so_far {in_old} {in_now} {in_new} budget m n start p q within fewer first second =
     let count : (budget - m) + (m - n) ≡ budget - n = omega arith in
-    subst (λ k. TakesSteps k start q) count (steps_both (budget - m) (m - n) start p q first second)
+    subst (λ k. FeedsSteps in_old in_new k start q) count (feeds_both (budget - m) (m - n) start p q first second)
 
 -- a turn
 pub so_far_turn : (in_old in_now in_new out_old out_now out_new : Option (List ℕ)) (width : Width) (budget : ℕ) (start p q : PlainSession) (m n reads_now reads_new : ℕ) →
-    SoFar in_old in_now out_old out_now width budget start p m reads_now → GoesOn in_now in_new out_now out_new reads_now reads_new p m q n → n ≤ m → TakesSteps (m - n) p q → IsFresh q →
+    SoFar in_old in_now out_old out_now width budget start p m reads_now → GoesOn in_now in_new out_now out_new reads_now reads_new p m q n → n ≤ m → FeedsSteps in_now in_new (m - n) p q → IsFresh q →
     SoFar in_old in_new out_old out_new width budget start q n reads_new
 so_far_turn in_old in_now in_new out_old out_now out_new width budget start p q m n reads_now reads_new far on fewer steps fresh = record {
   new = far.new;
@@ -143,9 +144,9 @@ ran in_old in_now in_new out_old out_now out_new width budget start p m n reads_
     }
 
 -- the steps of the last turn too
-pub ran_steps : (in_old in_now out_old out_now : Option (List ℕ)) (width : Width) (budget : ℕ) (start p q : PlainSession) (m n reads : ℕ) →
-    SoFar in_old in_now out_old out_now width budget start p m reads → n ≤ m → TakesSteps (m - n) p q → TakesSteps (budget - n) start q
-ran_steps in_old in_now out_old out_now width budget start p q m n reads far fewer steps = steps_so_far budget m n start p q far.within fewer far.steps steps
+pub ran_steps : (in_old in_now in_new out_old out_now : Option (List ℕ)) (width : Width) (budget : ℕ) (start p q : PlainSession) (m n reads : ℕ) →
+    SoFar in_old in_now out_old out_now width budget start p m reads → n ≤ m → FeedsSteps in_now in_new (m - n) p q → FeedsSteps in_old in_new (budget - n) start q
+ran_steps in_old in_now in_new out_old out_now width budget start p q m n reads far fewer steps = steps_so_far budget m n start p q far.within fewer far.steps steps
 
 -- a run that did not begin for want of memory
 pub ran_not : (input : Option (List ℕ)) (out_old out_new : Option (List ℕ)) (text : List ℕ) (width : Width) (budget : ℕ) (result : Ending) → text ≡ [] → Closes out_old out_new text Memory result →

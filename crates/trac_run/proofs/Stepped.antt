@@ -1,6 +1,8 @@
 -- The steps that a session took, a part of a run after the other.
-use Rattle.std.proofs.Common.{◌≡◌, ℕ, zero, suc, ◌+◌, ◌-◌, ◌<◌, ◌≤◌, List, [], ◌∷◌, ◌++◌, length, refl, subst, arith, ⊎_elim}
-use Rattle.std.specs.Io.KnownBytes.{IsAtEnd}
+use Rattle.std.proofs.Common.{◌≡◌, ℕ, zero, suc, ◌+◌, ◌-◌, ◌<◌, ◌≤◌, List, [], ◌∷◌, ◌++◌, length, refl, sym, ap, subst, ◌∙◌, arith, inl, inr, ⊎_elim}
+use Rattle.std.specs.Io.KnownBytes.{Consumes, IsAtEnd}
+use Rattle.std.specs.Prelude.{◌⊎◌}
+use Rattle.std.proofs.lemmas.List.{append-nil, append_assoc}
 use Rattle.std.proofs.lemmas.Option.{option_and_then_some}
 use Rattle.std.specs.Prelude.{Option, Some}
 use Rattle.trac_rules.specs.declared.refusal.Refusal.{Refusal}
@@ -8,15 +10,16 @@ use Rattle.trac_rules.specs.Session.{PlainSession, Command, Feed, End, Step, Bac
 use Rattle.trac_rules.proofs.Replies.{accepted_done}
 use Rattle.trac_session.specs.Within.{IsWalkWithin}
 use Rattle.trac_streams.specs.declared.ending.Ending.{Ending}
-use Rattle.trac_run.specs.Runs.{AreDone, TakesMore, TakesNone, TakesSteps, step_count}
+use Rattle.trac_streams.proofs.Known.{Consumes-both, Consumes-nothing}
+use Rattle.trac_run.specs.Runs.{AreDone, FeedsSteps, IsOfRead, TakesMore, TakesNone, TakesSteps, Waits, fed_by, step_count}
 
 -- ---- lists of commands
 
 -- these commands and those after them
 done_both : (first second : List Command) (p q r : PlainSession) → AreDone first p q → AreDone second q r → AreDone (first ++ second) p r
 done_both [] second p q r same later = subst (λ s. AreDone second s r) same later
-done_both (Feed bytes ∷ first) second p q r before later = (before.0, before.1, done_both first second before.0 q r before.2 later)
-done_both (End ∷ first) second p q r before later = (before.0, before.1, done_both first second before.0 q r before.2 later)
+done_both (Feed bytes ∷ first) second p q r before later = (before.0, before.1, (before.2.0, before.2.1, done_both first second before.2.0 q r before.2.2 later))
+done_both (End ∷ first) second p q r before later = (before.0, (before.1.0, before.1.1, done_both first second before.1.0 q r before.1.2 later))
 done_both (Step ∷ first) second p q r before later = (before.0, before.1, done_both first second before.0 q r before.2 later)
 done_both (Back ∷ first) second p q r before later = absurd before
 done_both (Commit keep ∷ first) second p q r before later = (before.0, before.1, done_both first second before.0 q r before.2 later)
@@ -28,6 +31,14 @@ count_both (End ∷ first) second = count_both first second
 count_both (Step ∷ first) second = omega (arith, count_both first second)
 count_both (Back ∷ first) second = count_both first second
 count_both (Commit keep ∷ first) second = count_both first second
+
+fed_both : (first second : List Command) → fed_by (first ++ second) ≡ fed_by first ++ fed_by second
+fed_both [] second = refl
+fed_both (Feed bytes ∷ first) second = ap (λ text. bytes ++ text) (fed_both first second) ∙ sym (append_assoc bytes (fed_by first) (fed_by second))
+fed_both (End ∷ first) second = fed_both first second
+fed_both (Step ∷ first) second = fed_both first second
+fed_both (Back ∷ first) second = fed_both first second
+fed_both (Commit keep ∷ first) second = fed_both first second
 
 -- ---- the steps
 
@@ -48,15 +59,6 @@ steps_both m n p q r first second = record {
 steps_one : (p q : PlainSession) → answer Step p ≡ done q → TakesSteps 1 p q
 steps_one p q h = record { commands = Step ∷ []; are_done = (q, h, refl); count = refl }
 
-pub steps_commit : (p q : PlainSession) → answer (Commit 0) p ≡ done q → TakesSteps 0 p q
-steps_commit p q h = record { commands = Commit 0 ∷ []; are_done = (q, h, refl); count = refl }
-
-pub steps_feed : (bytes : List ℕ) (p q : PlainSession) → answer (Feed bytes) p ≡ done q → TakesSteps 0 p q
-steps_feed bytes p q h = record { commands = Feed bytes ∷ []; are_done = (q, h, refl); count = refl }
-
-pub steps_end : (p q : PlainSession) → answer End p ≡ done q → TakesSteps 0 p q
-steps_end p q h = record { commands = End ∷ []; are_done = (q, h, refl); count = refl }
-
 -- many steps, one after another
 pub steps_many : (k : ℕ) (p q : PlainSession) → repeated Step k p ≡ Some q → TakesSteps k p q
 steps_many zero p q h = let same : q ≡ p = cc in steps_none p q same
@@ -66,26 +68,72 @@ steps_many (suc k) p q h =
     let count : k + 1 ≡ suc k = omega arith in
     subst (λ n. TakesSteps n p q) count (steps_both k 1 p m q (steps_many k p m walked) (steps_one m q (accepted_done (answer Step m) q last))))
 
+-- ---- with what is fed
+
+-- a session that stays was fed nothing
+pub feeds_none : (input : Option (List ℕ)) (p q : PlainSession) → q ≡ p → FeedsSteps input input 0 p q
+unfolding steps_none
+feeds_none input p q same = record { takes = steps_none p q same; took = Consumes-nothing input }
+
+pub feeds_commit : (input : Option (List ℕ)) (p q : PlainSession) → answer (Commit 0) p ≡ done q → FeedsSteps input input 0 p q
+feeds_commit input p q h = record { takes = record { commands = Commit 0 ∷ []; are_done = (q, h, refl); count = refl }; took = Consumes-nothing input }
+
+pub feeds_both : {in_old in_now in_new : Option (List ℕ)} (m n : ℕ) (p q r : PlainSession) → FeedsSteps in_old in_now m p q → FeedsSteps in_now in_new n q r → FeedsSteps in_old in_new (m + n) p r
+unfolding steps_both
+feeds_both {in_old} {in_now} {in_new} m n p q r first second = record {
+  takes = steps_both m n p q r first.takes second.takes;
+  took = subst (Consumes in_old in_new) (sym (fed_both first.takes.commands second.takes.commands))
+      (Consumes-both in_old in_now in_new (fed_by first.takes.commands) (fed_by second.takes.commands) first.took second.took);
+}
+
+-- many steps
+feeds_many : (input : Option (List ℕ)) (k : ℕ) (p q : PlainSession) → repeated Step k p ≡ Some q → FeedsSteps input input k p q
+unfolding steps_one
+feeds_many input zero p q h = let same : q ≡ p = cc in feeds_none input p q same
+feeds_many input (suc k) p q h =
+    option_and_then_some (λ m. accepted_by (answer Step m)) (repeated Step k p) q h
+    (λ m walked last.
+    let count : k + 1 ≡ suc k = omega arith in
+    let one : FeedsSteps input input 1 m q = record { takes = steps_one m q (accepted_done (answer Step m) q last); took = Consumes-nothing input } in
+    subst (λ n. FeedsSteps input input n p q) count (feeds_both k 1 p m q (feeds_many input k p m walked) one))
+
+-- what a read gave
+feeds_fed : (in_old in_new : Option (List ℕ)) (bytes : List ℕ) (p q : PlainSession) → Waits p → IsOfRead bytes → (answer (Feed bytes) p ≡ done q) ⊎ (q ≡ p) → Consumes in_old in_new bytes → FeedsSteps in_old in_new 0 p q
+feeds_fed in_old in_new bytes p q waits read how took = record {
+  takes = record { commands = Feed bytes ∷ []; are_done = (waits, read, (q, how, refl)); count = refl };
+  took = subst (Consumes in_old in_new) (sym (append-nil bytes)) took;
+}
+
+-- what a read gave, if anything, is lost
+feeds_lost : (in_old in_new : Option (List ℕ)) (bytes : List ℕ) (p q : PlainSession) → Waits p → length bytes ≤ 4096 → q ≡ p → Consumes in_old in_new bytes → FeedsSteps in_old in_new 0 p q
+unfolding steps_none
+feeds_lost in_old in_new [] p q waits few same took = record { takes = steps_none p q same; took = took }
+feeds_lost in_old in_new (b ∷ bs) p q waits few same took = feeds_fed in_old in_new (b ∷ bs) p q waits (omega arith, few) (inr same) took
+
+-- the end of the input
+feeds_end : (in_old in_new : Option (List ℕ)) (p q : PlainSession) → Waits p → answer End p ≡ done q → Consumes in_old in_new [] → FeedsSteps in_old in_new 0 p q
+feeds_end in_old in_new p q waits h took = record { takes = record { commands = End ∷ []; are_done = (waits, (q, h, refl)); count = refl }; took = took }
+
 -- ---- a turn
 
 -- a walk, and what comes after it, which takes no step
-pub steps_turn : {most n m k : ℕ} {why : Option Refusal} {p q : PlainSession} (r : PlainSession) → k ≤ m → IsWalkWithin most no_goal n p k why q → TakesSteps 0 q r → TakesSteps (m - (m - k)) p r
-steps_turn {most} {n} {m} {k} {why} {p} {q} r within walk rest =
+pub feeds_turn : {in_old in_new : Option (List ℕ)} {most n m k : ℕ} {why : Option Refusal} {p q : PlainSession} (r : PlainSession) → k ≤ m → IsWalkWithin most no_goal n p k why q → FeedsSteps in_old in_new 0 q r → FeedsSteps in_old in_new (m - (m - k)) p r
+feeds_turn {in_old} {in_new} {most} {n} {m} {k} {why} {p} {q} r within walk rest =
     let count : k + 0 ≡ m - (m - k) = omega arith in
-    subst (λ l. TakesSteps l p r) count (steps_both k 0 p q r (steps_many k p q walk.walk.walked) rest)
+    subst (λ l. FeedsSteps in_old in_new l p r) count (feeds_both k 0 p q r (feeds_many in_old k p q walk.walk.walked) rest)
 
 -- nothing comes after it
-pub steps_walk : {most n m k : ℕ} {why : Option Refusal} {p q : PlainSession} → k ≤ m → IsWalkWithin most no_goal n p k why q → TakesSteps (m - (m - k)) p q
-steps_walk {most} {n} {m} {k} {why} {p} {q} within walk = steps_turn {m = m} q within walk (steps_none q q refl)
+pub feeds_walk : {input : Option (List ℕ)} {most n m k : ℕ} {why : Option Refusal} {p q : PlainSession} → k ≤ m → IsWalkWithin most no_goal n p k why q → FeedsSteps input input (m - (m - k)) p q
+feeds_walk {input} {most} {n} {m} {k} {why} {p} {q} within walk = feeds_turn {m = m} q within walk (feeds_none input q q refl)
 
 -- a commit, and a read that gave more, or the end
-pub steps_taken : (in_old in_new : Option (List ℕ)) (q r s : PlainSession) → answer (Commit 0) q ≡ done r → TakesMore in_old in_new r s → TakesSteps 0 q s
-steps_taken in_old in_new q r s e taken = steps_both 0 0 q r s (steps_commit q r e)
+pub feeds_taken : (in_old in_new : Option (List ℕ)) (q r s : PlainSession) → Waits r → answer (Commit 0) q ≡ done r → TakesMore in_old in_new r s → FeedsSteps in_old in_new 0 q s
+feeds_taken in_old in_new q r s waits e taken = feeds_both 0 0 q r s (feeds_commit in_old q r e)
     (⊎_elim
-    (λ (end : (taken.got ≡ []) × IsAtEnd in_new × (answer End r ≡ done s)). steps_end r s end.2)
-    (λ (fed : (0 < length taken.got) × (answer (Feed taken.got) r ≡ done s)). steps_feed taken.got r s fed.1)
+    (λ (end : (taken.got ≡ []) × IsAtEnd in_new × (answer End r ≡ done s)). feeds_end in_old in_new r s waits end.2 (subst (Consumes in_old in_new) end.0 taken.took))
+    (λ (fed : (0 < length taken.got) × (answer (Feed taken.got) r ≡ done s)). feeds_fed in_old in_new taken.got r s waits (fed.0, taken.few) (inl fed.1) taken.took)
     taken.fed)
 
 -- a commit, and a read that changed nothing
-pub steps_untaken : (in_old in_new : Option (List ℕ)) (q r s : PlainSession) (ending : Ending) → answer (Commit 0) q ≡ done r → TakesNone in_old in_new r s ending → TakesSteps 0 q s
-steps_untaken in_old in_new q r s ending e taken = steps_both 0 0 q r s (steps_commit q r e) (steps_none r s taken.same)
+pub feeds_untaken : (in_old in_new : Option (List ℕ)) (q r s : PlainSession) (ending : Ending) → Waits r → answer (Commit 0) q ≡ done r → TakesNone in_old in_new r s ending → FeedsSteps in_old in_new 0 q s
+feeds_untaken in_old in_new q r s ending waits e taken = feeds_both 0 0 q r s (feeds_commit in_old q r e) (feeds_lost in_old in_new taken.got r s waits taken.few taken.same taken.took)

@@ -10,14 +10,14 @@ use Rattle.trac_rules.specs.Session.{PlainSession, Step, refused, answer}
 use Rattle.trac_rules.specs.Running.{Output}
 use Rattle.trac_rules.specs.GoingOn.{prepended, going_on_from}
 use Rattle.trac_streams.specs.declared.ending.Ending.{Ending}
-use Rattle.trac_run.specs.Runs.{Shows, IsFresh, TakesSteps, turns_left, GoesOn, Finishes}
+use Rattle.trac_run.specs.Runs.{Shows, IsFresh, FeedsSteps, turns_left, GoesOn, Finishes}
 use Rattle.trac_streams.specs.Reading.{empty_reads}
 use Rattle.trac_streams.proofs.Gathered.{empty_reads_open, end_reads_one}
 use Rattle.trac_streams.proofs.Known.{front_after}
 use Rattle.trac_run.proofs.Taken.{wanted_open}
 use Rattle.trac_run.proofs.Ran.{Shows-prepended}
 use Rattle.trac_run.proofs.Transfers.{both_moved, goes_on_twice, rest_left}
-use Rattle.trac_run.proofs.Stepped.{steps_both}
+use Rattle.trac_run.proofs.Stepped.{feeds_both}
 
 -- ---- one part of a run after another
 
@@ -58,18 +58,18 @@ goes_on_to_finish in_old in_now in_new out_old out_now out_new reads_old reads_n
 -- what the pieces so far have come to, and whether the step is sure to go on waiting
 pub record HasTaken (in_old in_now out_old out_now : Option (List ℕ)) (reads_old reads_now : ℕ) (p q : PlainSession) (waits : Bool) : Type 0 where
   pub on : (n : ℕ) → GoesOn in_old in_now out_old out_now reads_old reads_now p n q n
-  pub steps : TakesSteps 0 p q
+  pub steps : FeedsSteps in_old in_now 0 p q
   pub fresh : IsFresh q
   pub fewer : (n : ℕ) → p.last.position ≡ 0 → turns_left q n < turns_left p n
   pub wanted : waits ≡ true → answer Step q ≡ refused refusals.NeedInput q
 
 -- one piece more
 pub has_taken_more : (in_old in_now in_new out_old out_now out_new : Option (List ℕ)) (reads_old reads_now reads_new : ℕ) (p q r : PlainSession) (waited waits : Bool) →
-    HasTaken in_old in_now out_old out_now reads_old reads_now p q waited → ((n : ℕ) → GoesOn in_now in_new out_now out_new reads_now reads_new q n r n) → TakesSteps 0 q r → IsFresh r → ((n : ℕ) → q.last.position ≡ 0 → turns_left r n < turns_left q n) →
+    HasTaken in_old in_now out_old out_now reads_old reads_now p q waited → ((n : ℕ) → GoesOn in_now in_new out_now out_new reads_now reads_new q n r n) → FeedsSteps in_now in_new 0 q r → IsFresh r → ((n : ℕ) → q.last.position ≡ 0 → turns_left r n < turns_left q n) →
     (waits ≡ true → answer Step r ≡ refused refusals.NeedInput r) → HasTaken in_old in_new out_old out_new reads_old reads_new p r waits
 has_taken_more in_old in_now in_new out_old out_now out_new reads_old reads_now reads_new p q r waited waits before on steps fresh fewer wanted = record {
   on = λ n. goes_on_twice in_old in_now in_new out_old out_now out_new reads_old reads_now reads_new p q r n n n (before.on n) (on n);
-  steps = steps_both 0 0 p q r before.steps steps;
+  steps = feeds_both 0 0 p q r before.steps steps;
   fresh = fresh;
   fewer = λ n start. omega (arith, before.fewer n start, fewer n before.fresh.nothing_read);
   wanted = wanted;

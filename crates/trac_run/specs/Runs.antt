@@ -41,11 +41,11 @@ Shows (NotUnderstood line) written o = ⊥
 abbrev pub most_read : ℕ → ℕ
 most_read steps = steps * TAPE_LIMIT + (TAPE_LIMIT + READ_SIZE)
 
--- a run read some bytes, and perhaps saw the end of the input, and wrote some. `stated` is the output that is stated for
--- an input and a budget. However the input goes on after what was read (not at all if the end was seen), what was
+-- a run read some bytes, and perhaps saw the end of the input, and wrote some. `stated` is the output that is stated
+-- for an input and a budget. However the input goes on after what was read (not at all if the end was seen), what was
 -- written is a front of the output that is stated for all of it. The ending of the run is the stated one if it is not a
--- fault or want of memory: all is written then. The run took so many steps within its budget, and read no more than they
--- may. Unless the writer failed, it wrote just what they print: a run with these steps for its budget writes the same
+-- fault or want of memory: all is written then. The run took so many steps within its budget, and read no more than
+-- they may. Unless the writer failed, it wrote just what they print: a run with these steps for its budget writes that
 pub record Runs (in_old in_new out_old out_new : Option (List ℕ)) (stated : List ℕ → ℕ → Output) (budget : ℕ)
     (ending : Ending) : Type 0 where
   pub got : List ℕ
@@ -83,10 +83,22 @@ step_count [] = 0
 step_count (Step ∷ commands) = 1 + step_count commands
 step_count (command ∷ commands) = step_count commands
 
--- each of these commands is done, one after another, and none of them is a step back
+-- the next step waits for input
+abbrev pub Waits : PlainSession → Type 0
+Waits p = answer Step p ≡ refused refusals.NeedInput p
+
+-- these bytes may be what one read gave
+abbrev pub IsOfRead : List ℕ → Type 0
+IsOfRead bytes = (0 < length bytes) × (length bytes ≤ READ_SIZE)
+
+-- each of these commands is done, one after another, and none of them is a step back. Input comes only while the next
+-- step waits for it: what one read gave, or the end. If a feed is refused, the session is as it was
 abbrev pub AreDone : List Command → PlainSession → PlainSession → Type 0
 AreDone [] p q = q ≡ p
 AreDone (Back ∷ commands) p q = ⊥
+AreDone (Feed bytes ∷ commands) p q = Waits p × IsOfRead bytes
+    × ((r : PlainSession) × ((answer (Feed bytes) p ≡ done r) ⊎ (r ≡ p)) × AreDone commands r q)
+AreDone (End ∷ commands) p q = Waits p × ((r : PlainSession) × (answer End p ≡ done r) × AreDone commands r q)
 AreDone (command ∷ commands) p q = (r : PlainSession) × (answer command p ≡ done r) × AreDone commands r q
 
 -- one session became the other by so many accepted steps, with feeds, the end of the input and commits between them
@@ -94,6 +106,17 @@ pub record TakesSteps (steps : ℕ) (p q : PlainSession) : Type 0 where
   pub commands : List Command
   pub are_done : AreDone commands p q
   pub count : step_count commands ≡ steps
+
+-- what these commands feed
+abbrev pub fed_by : List Command → List ℕ
+fed_by [] = []
+fed_by (Feed bytes ∷ commands) = bytes ++ fed_by commands
+fed_by (command ∷ commands) = fed_by commands
+
+-- the same, and what the feeds between the steps were is all that was read: so no byte was read but while a step waited
+pub record FeedsSteps (in_old in_new : Option (List ℕ)) (steps : ℕ) (p q : PlainSession) : Type 0 where
+  pub takes : TakesSteps steps p q
+  pub took : Consumes in_old in_new (fed_by takes.commands)
 
 -- ---- parts of a run
 

@@ -1,10 +1,11 @@
 //! A run: a program's input from a reader, its output to a writer.
-ghost use Rattle.std.specs.Prelude.{◌≡◌, ℕ, ◌+◌, ◌-◌, ◌*◌, ◌<◌, ◌≤◌, true, false, length, OnOk, IfOk, IfErr};
+ghost use Rattle.std.specs.Prelude.{◌≡◌, ℕ, ◌+◌, ◌-◌, ◌*◌, ◌<◌, ◌≤◌, true, false, List, length, Option};
+ghost use Rattle.std.specs.Prelude.{OnOk, IfOk, IfErr};
 ghost use Rattle.std.specs.Io.KnownBytes.{Appends, IsAtEnd};
 ghost use Rattle.trac_rules.specs.Session.{PlainSession, Feed, Step, Commit, done, new_session, refused, answer};
 ghost use Rattle.trac_rules.specs.Running.{output_of};
 ghost use Rattle.trac_streams.specs.Written.{WritesFront};
-ghost use Rattle.trac_run.specs.Runs.{Runs, RunsBy, TakesSteps, most_reads, ending_of_feed as ending_of};
+ghost use Rattle.trac_run.specs.Runs.{Runs, RunsBy, FeedsSteps, TakesSteps, most_reads, ending_of_feed as ending_of};
 ghost use Rattle.trac_run.specs.Runs.{IsFresh, GoesOn, Finishes, TakesMore, TakesNone, StillWaits, turns_left};
 
 use memchr::memchr;
@@ -40,7 +41,7 @@ pub struct RunReport {
 /// Runs what the reader gives, and writes what it prints, until the budget is spent, the input has ended, or a limit,
 /// memory, the reader or the writer ends it. Output is written and flushed before each read, and before the end.
 /// After a read fault it does not flush again. However it ends, unless the writer fails, it writes just what the steps
-/// print that it takes. Each read asks for at most 4,096 bytes, and all of them together give no more than 33,554,432 for
+/// print that it takes. Each read asks for at most 4,096 bytes. All of them together give no more than 33,554,432 for
 /// each of these steps, as many once more, and one read.
 pub fn run<R: Read, W: Write, A: Allocator + Copy>(
     alloc: A,
@@ -62,8 +63,9 @@ pub fn run<R: Read, W: Write, A: Allocator + Copy>(
 }
 
 /// Runs a new session as `run` does, by so many steps at most, and counts what it does. The session is left as the last
-/// step or commit made it: it took just the steps that are counted. Each read but the last gave a byte at least, and so
-/// did the last, unless it saw the end or failed. For each step, and once more, there are at most 33,554,433 reads.
+/// step or commit made it: it took just the steps that are counted. No byte is read but while the next step waits for
+/// input, and so none once the program halts. Each read but the last gave a byte at least, and so did the last, unless
+/// it saw the end or failed. For each step, and once more, there are at most 33,554,433 reads.
 pub fn run_session<R: Read, W: Write, A: Allocator + Copy>(
     session: &mut Session<A>,
     input: &mut R,
@@ -78,6 +80,7 @@ pub fn run_session<R: Read, W: Write, A: Allocator + Copy>(
         (output_of session.old.width) budget result.steps result.reads result.ending }
     ensures within { result.steps ≤ budget }
     ensures steps { TakesSteps result.steps session.old session.new }
+    ensures feeds { FeedsSteps (R.remaining input.old) (R.remaining input.new) result.steps session.old session.new }
 {
     let mut left = budget;
     let mut reads = 0;
@@ -110,7 +113,8 @@ fn take_turn<R: Read, W: Write, A: Allocator + Copy>(
     ensures err { IfErr result (Finishes (R.remaining input.old) (R.remaining input.new) (W.contents output.old)
         (W.contents output.new) reads.old reads.new session.old left.old left.new) }
     ensures within { left.new ≤ left.old }
-    ensures steps { TakesSteps (left.old - left.new) session.old session.new }
+    ensures steps { FeedsSteps (R.remaining input.old) (R.remaining input.new) (left.old - left.new)
+        session.old session.new }
     ensures fresh { OnOk result (IsFresh session.new) }
     ensures fewer { OnOk result (turns_left session.new left.new < turns_left session.old left.old) }
 {
@@ -142,7 +146,7 @@ fn release<W: Write, A: Allocator + Copy>(
     ensures committed { OnOk result (answer (Commit 0) session.old ≡ done session.new) }
     ensures err { IfErr result (λ ending.
         (ending ≡ Ending.Write) × WritesFront (W.contents output.old) (W.contents output.new) session.old.last.output) }
-    ensures steps { TakesSteps 0 session.old session.new }
+    ensures steps { (input : Option (List ℕ)) → FeedsSteps input input 0 session.old session.new }
 {
     write_whole(output, session.pending())?;
     session.commit(0);
@@ -166,7 +170,7 @@ fn take_input<R: Read, W: Write, A: Allocator + Copy>(
         (W.contents output.new) reads.old reads.new session.old n session.new n) }
     ensures err { (n : ℕ) → IfErr result (Finishes (R.remaining input.old) (R.remaining input.new)
         (W.contents output.old) (W.contents output.new) reads.old reads.new session.old (n + 1) (n + 1)) }
-    ensures steps { TakesSteps 0 session.old session.new }
+    ensures steps { FeedsSteps (R.remaining input.old) (R.remaining input.new) 0 session.old session.new }
     ensures fresh { OnOk result (IsFresh session.new) }
     ensures fewer { (n : ℕ) → session.old.last.position ≡ 0 →
         OnOk result (turns_left session.new n < turns_left session.old n) }
@@ -193,7 +197,7 @@ fn take_piece<R: Read, W: Write, A: Allocator + Copy>(
         (W.contents output.new) reads.old reads.new session.old n session.new n) }
     ensures err { (n : ℕ) → IfErr result (Finishes (R.remaining input.old) (R.remaining input.new)
         (W.contents output.old) (W.contents output.new) reads.old reads.new session.old (n + 1) (n + 1)) }
-    ensures steps { TakesSteps 0 session.old session.new }
+    ensures steps { FeedsSteps (R.remaining input.old) (R.remaining input.new) 0 session.old session.new }
     ensures fresh { OnOk result (IsFresh session.new) }
     ensures fewer { (n : ℕ) → session.old.last.position ≡ 0 →
         OnOk result (turns_left session.new n < turns_left session.old n) }

@@ -142,8 +142,10 @@ fn put_and_delete(
     session: &mut Session<Heap<'_>>,
     number: usize,
 ) -> usize {
-    let text = format!(in alloc; "#(ds,a name of some length {:05},b)#(dd,a name of some length {:05})'", number, number)
-        .expect(rt, "there was no memory");
+    let name = format!(in alloc; "a name of some length {:05}", number);
+    let name = name.expect(rt, "there was no memory");
+    let text = format!(in alloc; "#(ds,{},b)#(dd,{})'", name.as_str(), name.as_str());
+    let text = text.expect(rt, "there was no memory");
     feed(session, text.as_bytes()).expect(rt, "it was refused");
     assert!(rt; go_on(session, u64::MAX) == Some(Refusal::NeedInput));
     session.commit(0);

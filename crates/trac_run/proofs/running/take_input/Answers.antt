@@ -1,6 +1,6 @@
 use Rattle.std.proofs.Common.{◌+◌, arith}
 use Rattle.std.proofs.lemmas.Result.{err_from_is_err_and}
-use Rattle.trac_run.proofs.Stepped.{steps_both}
+use Rattle.trac_run.proofs.Stepped.{feeds_both}
 use Rattle.trac_run.proofs.Waited.{few_taken, has_taken_more, has_taken_all}
 use Rattle.trac_run.proofs.running.take_input.Goals as goal
 
@@ -23,4 +23,4 @@ take_piece-requires-in-loop-waits-clause-few_reads g c =
 
 pub returns-in_err-waits-2-clause-steps : goal.returns-in_err-waits-2-clause-steps
 returns-in_err-waits-2-clause-steps g c =
-    steps_both 0 0 c.args.session.now c.loop-waits.session _ c.loop-waits.invariant.steps c.take_piece-in-loop-waits.ensures.steps
+    feeds_both 0 0 c.args.session.now c.loop-waits.session _ c.loop-waits.invariant.steps c.take_piece-in-loop-waits.ensures.steps

@@ -1,11 +1,11 @@
-use Rattle.std.proofs.Common.{◌+◌, ◌∙◌, subst}
+use Rattle.std.proofs.Common.{◌+◌, ◌∙◌, refl, subst}
 use Rattle.std.proofs.lemmas.Result.{err_from_is_err_and}
 use Rattle.std.specs.Io.KnownBytes.{Appends}
 use Rattle.trac_rules.proofs.Waiting.{Commit_waits}
 use Rattle.trac_streams.specs.Written.{WritesFront, Closes}
 use Rattle.trac_run.specs.Runs.{TakesNone}
 use Rattle.trac_streams.proofs.Known.{Appends-kept}
-use Rattle.trac_run.proofs.Stepped.{steps_taken, steps_untaken}
+use Rattle.trac_run.proofs.Stepped.{feeds_none, feeds_taken, feeds_untaken}
 use Rattle.trac_run.proofs.Taken.{wanted_open_after, taken_on, taken_fresh, taken_fewer, unwritten_finish, unflushed_finish, unfed_finish, unfed_closed}
 use Rattle.trac_run.proofs.Turned.{sound_unless}
 use Rattle.trac_run.proofs.running.take_piece.Goals as goal
@@ -56,10 +56,16 @@ returns-in-Ok-clause-waits g c = λ waits.
     c.in-Ok.ensures.waits waits (Commit_waits c.args.session.now c.commit.new.self c.requires.some_records c.requires.wanted c.commit.ensures)
 
 pub returns-in-Ok-clause-steps : goal.returns-in-Ok-clause-steps
-returns-in-Ok-clause-steps g c = steps_taken _ _ c.args.session.now c.commit.new.self c.read_more.new.session c.commit.ensures c.in-Ok.ensures.ok
+returns-in-Ok-clause-steps g c = feeds_taken _ _ c.args.session.now c.commit.new.self c.read_more.new.session (Commit_waits c.args.session.now c.commit.new.self c.requires.some_records c.requires.wanted c.commit.ensures) c.commit.ensures c.in-Ok.ensures.ok
 
 pub returns-in-Read-clause-steps : goal.returns-in-Read-clause-steps
-returns-in-Read-clause-steps g c = steps_untaken _ _ c.args.session.now c.commit.new.self c.read_more.new.session _ c.commit.ensures c.in-Err.ensures.err
+returns-in-Read-clause-steps g c = feeds_untaken _ _ c.args.session.now c.commit.new.self c.read_more.new.session _ (Commit_waits c.args.session.now c.commit.new.self c.requires.some_records c.requires.wanted c.commit.ensures) c.commit.ensures c.in-Err.ensures.err
 
 pub returns-in_default-clause-steps : goal.returns-in_default-clause-steps
-returns-in_default-clause-steps g c = steps_untaken _ _ c.args.session.now c.commit.new.self c.read_more.new.session _ c.commit.ensures c.in-Err.ensures.err
+returns-in_default-clause-steps g c = feeds_untaken _ _ c.args.session.now c.commit.new.self c.read_more.new.session _ (Commit_waits c.args.session.now c.commit.new.self c.requires.some_records c.requires.wanted c.commit.ensures) c.commit.ensures c.in-Err.ensures.err
+
+pub returns-in_err-write_whole-clause-steps : goal.returns-in_err-write_whole-clause-steps
+returns-in_err-write_whole-clause-steps g c = feeds_none _ c.args.session.now c.args.session.now refl
+
+pub returns-in_err-flush-clause-steps : goal.returns-in_err-flush-clause-steps
+returns-in_err-flush-clause-steps g c = feeds_none _ c.args.session.now c.args.session.now refl
