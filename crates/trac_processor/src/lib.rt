@@ -12,7 +12,8 @@ pub use trac_num::{
     rotate, shift, sub, union, value,
 };
 pub use trac_prims::{
-    Change, Deed, Effect, LaterArguments, Made, Mark, Now, Tape, after, plan, plan_into,
+    Change, Deed, Effect, LaterArguments, Made, Mark, Now, Tape, UnnamedChange, after, plan,
+    plan_into,
 };
 pub use trac_rules::limit::JOURNAL_LIMIT;
 pub use trac_run::run;
