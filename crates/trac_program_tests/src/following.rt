@@ -1,5 +1,5 @@
 //! Following bytes back: one by a way that was worked out by hand, from call to call and in one trace, and those of an
-//! output with no request for memory.
+//! output with no request for memory but at a call of `ln`.
 use std::alloc::{AllocError, Global};
 use std::process::Abort;
 use trac_faults::Refusing;
@@ -45,24 +45,53 @@ fn place_before(session: &Session<Memory<'_>>, source: Source<'static>) -> Optio
     }
 }
 
-// Follows a byte of the output back, while every request is refused, through calls, forms and blocks.
-fn expect_no_request(
+// Whether the call that comes next lists the names of forms.
+fn lists_names(session: &Session<Memory<'_>>) -> bool {
+    match session.machine().next_call() {
+        Some((_kind, arguments)) => arguments.get(0) == b"ln".as_slice(),
+        None => false,
+    }
+}
+
+// Follows what stands at a place back, while every request is refused. None is made, but one at a call of `ln`. That is
+// told, and with memory the next try succeeds.
+fn followed_refused(
+    rt: &impl Abort,
+    memory: Memory<'_>,
+    session: &mut Session<Memory<'_>>,
+    here: Place<'static>,
+) -> Source<'static> {
+    let requests = memory.requests();
+    memory.refuse_all();
+    let found = followed(session, here);
+    memory.accept_all();
+    let refused = memory.requests().saturating_sub(requests);
+    let Source::Memory = found.source else {
+        assert!(rt; refused == 0);
+        return found.source;
+    };
+    assert!(rt; refused == 1 && lists_names(session));
+    assert!(rt; session.forward(found.steps).why.is_none());
+    let again = followed(session, here);
+    assert!(rt; again.steps == found.steps && lists_names(session));
+    again.source
+}
+
+// Follows a byte of the output back so, through calls, forms and blocks.
+fn follow_refused(
     rt: &impl Abort,
     memory: Memory<'_>,
     session: &mut Session<Memory<'_>>,
     byte: usize,
 ) {
-    let requests = memory.requests();
-    memory.refuse_all();
     let mut place = Some(Place::Output(byte));
     for _turn in 0..8 {
         if let Some(here) = place {
-            let source = followed(session, here).source;
+            let source = followed_refused(rt, memory, session, here);
+            assert!(rt; !matches!(source, Source::Memory), "byte {byte}");
             place = place_before(session, source);
         }
     }
-    assert!(rt; memory.requests() == requests, "byte {byte}");
-    memory.accept_all();
 }
 
 fn follow_each(rt: &impl Abort, memory: Memory<'_>, session: &mut Session<Memory<'_>>) {
@@ -70,7 +99,7 @@ fn follow_each(rt: &impl Abort, memory: Memory<'_>, session: &mut Session<Memory
     session.end();
     for byte in 0..EACH_PRIMITIVE.1.len() {
         assert!(rt; go_on(session) == Some(Refusal::Ended));
-        expect_no_request(rt, memory, session, byte);
+        follow_refused(rt, memory, session, byte);
     }
 }
 
@@ -178,8 +207,8 @@ impl<'a> Witness<Memory<'a>> for Told {
     }
 }
 
-fn traced(session: &mut Session<Memory<'_>>, told: &mut Told) -> Traced {
-    trace(session, Place::Output(0), u64::MAX, told)
+fn traced(session: &mut Session<Memory<'_>>, byte: usize, told: &mut Told) -> Traced {
+    trace(session, Place::Output(byte), u64::MAX, told)
 }
 
 // A witness that has room for three calls refuses the fourth.
@@ -188,7 +217,7 @@ fn trace_untold(rt: &impl Abort, session: &mut Session<Memory<'_>>) {
         steps: [0; 8],
         count: 5,
     };
-    let found = traced(session, &mut told);
+    let found = traced(session, 0, &mut told);
     assert!(rt; found.steps == 27 && matches!(found.end, End::Untold));
     assert!(rt; told.steps == [0, 0, 0, 0, 0, 10, 11, 21]);
 }
@@ -206,7 +235,7 @@ fn trace_without_memory<'a>(
     };
     let requests = memory.requests();
     memory.refuse_all();
-    let found = traced(session, &mut told);
+    let found = traced(session, 0, &mut told);
     assert!(rt; memory.requests() == requests);
     memory.accept_all();
     assert!(rt; found.steps == 43 && matches!(found.end, End::Read(7)));
@@ -242,7 +271,7 @@ fn expect_read<'a>(
     };
     let requests = memory.requests();
     memory.refuse_all();
-    let found = traced(session, &mut told);
+    let found = traced(session, 0, &mut told);
     assert!(rt; memory.requests() == requests);
     memory.accept_all();
     let read = match found.end {
@@ -250,6 +279,48 @@ fn expect_read<'a>(
         _ => 0,
     };
     assert!(rt; read == number && told.count == 5);
+}
+
+// The `;` that it prints is byte 19, an argument of `ln`, and the `a` is made by that. There are 38 steps before the
+// input ends: 8 that read the program, 8 up to `ds`, 10 up to `ln`, 3 up to `ps`, and 9 up to the next `rs`.
+const LISTING: &[u8] = b"#(ds,a,1)#(ps,#(ln,;))'";
+
+// Follows a byte of what it prints back in one trace, with and without memory. The witness is told of `ps` alone if
+// there is none.
+fn trace_listed<'a>(
+    rt: &impl Abort,
+    memory: Memory<'a>,
+    session: &mut Session<Memory<'a>>,
+    byte: usize,
+) -> (Told, Traced) {
+    let none = Told {
+        steps: [0; 8],
+        count: 0,
+    };
+    assert!(rt; go_on(session) == Some(Refusal::Ended));
+    let mut told = none;
+    let requests = memory.requests();
+    memory.refuse_all();
+    let found = traced(session, byte, &mut told);
+    memory.accept_all();
+    assert!(rt; memory.requests().saturating_sub(requests) == 1 && lists_names(session));
+    assert!(rt; found.steps == 13 && matches!(found.end, End::Memory));
+    assert!(rt; told.steps == [10, 0, 0, 0, 0, 0, 0, 0]);
+    assert!(rt; session.forward(13).why.is_none());
+    let mut again = none;
+    let found = traced(session, byte, &mut again);
+    (again, found)
+}
+
+fn trace_list<'a>(rt: &impl Abort, memory: Memory<'a>, session: &mut Session<Memory<'a>>) {
+    feed(session, LISTING).expect(rt, "it was refused");
+    session.end();
+    let (told, found) = trace_listed(rt, memory, session, 0);
+    assert!(rt; found.steps == 31 && matches!(found.end, End::Read(19)));
+    assert!(rt; told.steps == [10, 13, 0, 0, 0, 0, 0, 0]);
+    let (told, found) = trace_listed(rt, memory, session, 1);
+    assert!(rt; found.steps == 13 && matches!(found.end, End::Made));
+    assert!(rt; told.steps == [10, 0, 0, 0, 0, 0, 0, 0]);
 }
 
 fn let_go(session: Session<Memory<'_>>) {
@@ -273,6 +344,14 @@ fn through_a_form_and_a_block(rt: HostRuntime) {
     trace_untold(&rt, &mut session);
     assert!(&rt; go_on(&mut session) == Some(Refusal::Ended));
     trace_without_memory(&rt, &memory, &mut session);
+    let_go(session);
+}
+
+#[test]
+fn a_list_of_names(rt: HostRuntime) {
+    let memory = Refusing::new(rt.alloc());
+    let mut session = new_session(&memory).expect(&rt, "it was refused");
+    trace_list(&rt, &memory, &mut session);
     let_go(session);
 }
 

@@ -10,6 +10,9 @@ use trac_session_tests::EACH_PRIMITIVE;
 
 const TAPE: &[u8] = b"#(ds,A,(x,y))'#(ss,A,x)'#(ps,##(cl,A,1))'";
 
+// The names that it prints are listed in order, for which a way through them takes memory too.
+const LISTING: &[u8] = b"#(ds,A,x)#(ds,B,y)#(ps,#(ln,;))'";
+
 const ORDERS: &[u8] =
     b"s 90\np\nb 3\nn\nN\nO\no\nu ps\nr\nw #1\nw \"1\"\nw A\ng 60\nf\nf A\nt 3\np all\ns 9\nl\ny #1\ns 90\ny A 1\ny\n\
       g 60\ni \"a'\"\n\nh\nx\nm\nb start\ne\n";
@@ -23,7 +26,7 @@ type Row = (
 );
 
 // Runs with each width of numbers, with a journal that fills and with the one that a run has if nothing else is said; a
-// session with each kind of command, and a walk with each kind of line.
+// session with each kind of command, a walk with each kind of line, and one that follows bytes of a list of names.
 const ROWS: &[Row] = &[
     (RUN, (INPUT, b"AB"), None),
     (Program::Run(65_536, Width::W128), (INPUT, b"AB"), None),
@@ -39,6 +42,11 @@ const ROWS: &[Row] = &[
     (
         Program::Walk(TAPE, false),
         (ORDERS, b""),
+        Some(b"there is no memory for this"),
+    ),
+    (
+        Program::Walk(LISTING, false),
+        (b"s 90\ny #3\ns 90\ny #4\ns 90\ny #1\n", b""),
         Some(b"there is no memory for this"),
     ),
 ];

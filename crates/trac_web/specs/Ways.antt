@@ -7,6 +7,7 @@ use Rattle.trac_streams.specs.declared.ending.Ending.{Ending}
 use Rattle.trac_streams.specs.declared.ending.Ending.TheVariants.{Ended, Limit, Memory}
 use Rattle.trac_streams.specs.Escapes.{feed}
 use Rattle.trac_origins.specs.Places.{Place, InActive, InBase, InArgument, InForm, InHeld, InOutput}
+use Rattle.trac_follow.specs.declared.tracing.End as ends
 use Rattle.trac_follow.specs.declared.tracing.End.{End}
 use Rattle.trac_follow.specs.declared.tracing.End.TheVariants.{Nothing, Earlier, Read, Made, Unkept, Untold}
 use Rattle.trac_follow.specs.declared.tracing.Traced.{Traced}
@@ -58,10 +59,12 @@ end_field Made number line column = codes " made"
 end_field Unkept number line column = codes " unkept"
 end_field (Read n) number line column = read_field number line column
 end_field Untold number line column = []
+end_field ends.TheVariants.Memory number line column = []
 
--- there was memory for each row before
+-- there was memory for each row before, and for what the trace asked for
 abbrev pub IsSaid : End → Type 0
 IsSaid Untold = ⊥
+IsSaid ends.TheVariants.Memory = ⊥
 IsSaid end = Unit {0}
 
 -- the rows of what stands at a place of a session, of which so many bytes of the output are released: one

@@ -152,7 +152,7 @@ struct ReadByte {
     column: u64,
 }
 
-// How a way ends. The error is that memory was refused, also that of a row before.
+// How a way ends. The error is that memory was refused, also that of a row before, or that of the trace.
 fn end_into<A: Allocator>(end: End, read: ReadByte, out: &mut Vec<u8, A>) -> Result<(), AllocError>
     ensures said { OnOk result (out.new.items ≡ out.old.items ++ end_field end read.number read.line read.column) }
     ensures told { OnOk result (IsSaid end) }
@@ -162,7 +162,7 @@ fn end_into<A: Allocator>(end: End, read: ReadByte, out: &mut Vec<u8, A>) -> Res
         End::Earlier => out.extend_from_slice(b" earlier"),
         End::Made => out.extend_from_slice(b" made"),
         End::Unkept => out.extend_from_slice(b" unkept"),
-        End::Untold => Err(AllocError),
+        End::Untold | End::Memory => Err(AllocError),
         End::Read(_) => read_into(read, out),
     }
 }

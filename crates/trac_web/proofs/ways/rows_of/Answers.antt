@@ -4,9 +4,9 @@ use Rattle.trac_follow.specs.Places.{place_of}
 use Rattle.trac_follow.specs.Tracing.{IsTraced, way_of}
 use Rattle.trac_streams.specs.Escapes.{feed}
 use Rattle.trac_web.specs.Rows.{rows_of}
-use Rattle.trac_web.specs.Ways.{IsSaid, end_field}
+use Rattle.trac_web.specs.Ways.{end_field}
 use Rattle.trac_web.proofs.Reached.{joined}
-use Rattle.trac_web.proofs.Rowed.{are_rows}
+use Rattle.trac_web.proofs.Rowed.{all_rows}
 use Rattle.trac_web.proofs.ways.rows_of.Goals as goal
 
 pub returns : goal.returns
@@ -16,7 +16,7 @@ returns g c =
     let read = c.read_at-read.result in
     let calls = way_of p (place_of c.args.place) found.steps in
     let told = c.in_ok-end_into.ensures.told in
-    let rows = are_rows c.args.step c.args.window.now.released _ calls found.steps found.end _ _ c.new-rows.ensures c.trace-found.ensures.told (λ is. subst IsSaid is told) in
+    let rows = all_rows c.args.step c.args.window.now.released _ (way_of p (place_of c.args.place)) found.steps found.end _ _ c.new-rows.ensures told c.trace-found.ensures.told in
     record {
       new = c.trace-found.new.session;
       found = found;
