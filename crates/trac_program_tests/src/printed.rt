@@ -38,11 +38,7 @@ fn run_of<A: Allocator + Copy>(
 
 // A run with this request refused has written what a run with its steps for a budget writes, but less than the whole:
 // whether a request was refused, and whether something was written then.
-fn expect_printed(
-    rt: &(impl Abort + AllocGlobal),
-    row: (&[u8], usize),
-    nth: u64,
-) -> (bool, bool) {
+fn expect_printed(rt: &(impl Abort + AllocGlobal), row: (&[u8], usize), nth: u64) -> (bool, bool) {
     let memory = Refusing::new(rt.alloc());
     memory.refuse_nth(nth);
     let met = run_of(rt.alloc(), &memory, row, USUAL);
@@ -50,8 +46,7 @@ fn expect_printed(
     let Some((report, written)) = met else {
         return (is_refused, false);
     };
-    let Some((plain, printed)) = run_of(rt.alloc(), rt.alloc(), row, report.steps.min(USUAL))
-    else {
+    let Some((plain, printed)) = run_of(rt.alloc(), rt.alloc(), row, report.steps.min(USUAL)) else {
         panic!(rt; "there was no memory")
     };
     assert!(rt; plain.steps == report.steps && plain.ending == Ending::Budget);

@@ -136,7 +136,10 @@ fn expect_walks(rt: &(impl Abort + AllocGlobal), nth: u64) -> (bool, bool) {
     } else {
         Ending::Ended
     };
-    assert!(rt; ending == wanted && (is_told || !is_refused || written.is_empty()), "request {nth}");
+    assert!(rt;
+        ending == wanted && (is_told || !is_refused || written.is_empty()),
+        "request {nth}"
+    );
     (is_refused, is_told)
 }
 
