@@ -36,8 +36,8 @@ fn run_of<A: Allocator + Copy>(
     Some((report, written))
 }
 
-// A run with this request refused has written what a run with its steps for a budget writes, but less than the whole:
-// whether a request was refused, and whether something was written then.
+// However a run ends with this request refused, it has written what a run with its steps for a budget writes: whether a
+// request was refused, and whether something was written then.
 fn expect_printed(rt: &(impl Abort + AllocGlobal), row: (&[u8], usize), nth: u64) -> (bool, bool) {
     let memory = Refusing::new(rt.alloc());
     memory.refuse_nth(nth);

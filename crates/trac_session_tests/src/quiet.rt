@@ -12,7 +12,8 @@ use trac_session::Session;
 type Forms<'a> = Store<Memory<'a>>;
 
 // A program that defines, cuts, reads, puts aside, erases, deletes, protects and prints.
-const PROGRAM: &[u8] = b"#(ds,A,abcb)#(ss,A,b)#(cs,A)#(ds,A,x)#(ds,B,y)#(sb,G,B)#(fb,G)#(eb,G)#(dd,A)#(da)(p)\t#(ps,q)'";
+const PROGRAM: &[u8] =
+    b"#(ds,A,abcb)#(ss,A,b)#(cs,A)#(ds,A,x)#(ds,B,y)#(sb,G,B)#(fb,G)#(eb,G)#(dd,A)#(da)(p)\t#(ps,q)'";
 
 fn feed(session: &mut Session<Memory<'_>>, bytes: &[u8]) -> Result<(), Refusal> {
     session.feed(bytes)
