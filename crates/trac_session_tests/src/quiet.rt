@@ -92,11 +92,13 @@ fn is_cut<'a>(memory: Memory<'a>, store: &mut Forms<'a>) -> Result<bool, FormErr
 
 // A form is taken and put again under its name, which is known, and its pointer is set.
 fn is_put_again(store: &mut Forms<'_>) -> bool {
-    let (Ok(()), Some(form)) = (store.know(b"A"), store.take(b"A")) else {
+    let Some(form) = store.take(b"A") else {
         return false;
     };
-    let replaced = store.put(b"A", form);
-    replaced.is_none() && store.set_pointer(b"A", 1) == Some(0)
+    let Ok(None) = store.insert(b"A", form) else {
+        return false;
+    };
+    store.set_pointer(b"A", 1) == Some(0)
 }
 
 // A block is put at the end, for which there is a place, and taken.
