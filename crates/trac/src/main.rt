@@ -11,9 +11,10 @@ use std::process::ExitCode;
 use std::rt::Env;
 use std::{env, io};
 use trac_debug::debug;
+use trac_memory::{Limited, limit_in, tape_in};
 use trac_rules::limit::JOURNAL_LIMIT;
 use trac_run::run;
-use trac_streams::{Ending, Options, say, tape_in};
+use trac_streams::{BUDGET_LIMIT, Ending, Options, say};
 use trac_words::help::NOT_TEXT;
 use trac_words::words::{Line, read_line};
 
@@ -26,15 +27,12 @@ const AT_TERMINAL: &str =
 
 fn main(rt: HostRuntime) -> ExitCode {
     match asked_line(&rt) {
-        Ok(Line::Run(options)) => {
-            if rt.stdin().is_terminal() {
-                let _ = eprintln!(rt; "{AT_TERMINAL}");
-            }
-            let ending = run(rt.alloc(), &mut rt.stdin(), &mut rt.stdout(), options);
+        Ok(Line::Run(options, memory)) => {
+            let ending = run_input(&rt, options, memory);
             say(&rt, ending)
         }
-        Ok(Line::Debug(path, options)) => {
-            let ending = debug_file(&rt, path.as_str(), options);
+        Ok(Line::Debug(path, options, memory)) => {
+            let ending = debug_file(&rt, path.as_str(), options, memory);
             say(&rt, ending)
         }
         Ok(Line::Help(text)) => match print!(rt; "{text}") {
@@ -77,14 +75,29 @@ fn line_of(alloc: Global, words: &[String]) -> Result<Line, AllocError>
     read_line(alloc, texts.as_slice())
 }
 
-// Debugs the program in the file at this path.
-fn debug_file(rt: &HostRuntime, path: &str, options: Options) -> Ending
+// Runs the program on standard input, within so many bytes of memory, or the default number.
+fn run_input(rt: &HostRuntime, options: Options, memory: Option<u64>) -> Ending
+    requires some_steps { 1 ≤ options.budget }
+    requires most_steps { options.budget ≤ BUDGET_LIMIT }
     requires some_records { 1 ≤ options.journal }
     requires most_records { options.journal ≤ JOURNAL_LIMIT }
 {
-    match tape_in(rt, path) {
+    if rt.stdin().is_terminal() {
+        let _ = eprintln!(rt; "{AT_TERMINAL}");
+    }
+    let memory = Limited::new(rt.alloc(), limit_in(rt, memory));
+    run(&memory, &mut rt.stdin(), &mut rt.stdout(), options)
+}
+
+// Debugs the program in the file at this path, within so many bytes too.
+fn debug_file(rt: &HostRuntime, path: &str, options: Options, memory: Option<u64>) -> Ending
+    requires some_records { 1 ≤ options.journal }
+    requires most_records { options.journal ≤ JOURNAL_LIMIT }
+{
+    let memory = Limited::new(rt.alloc(), limit_in(rt, memory));
+    match tape_in(rt, &memory, path) {
         Ok(tape) => debug(
-            rt.alloc(),
+            &memory,
             tape.as_slice(),
             &mut rt.stdin(),
             &mut rt.stdout(),

@@ -5,7 +5,7 @@ use Rattle.std.specs.Io.KnownBytes.{Appends, Consumes, IsAtEnd, Keeps}
 use Rattle.std.proofs.lemmas.Bool.{false≢true, cond-true, cond-false, le-leb, lt-leb, cases_lt}
 use Rattle.std.proofs.lemmas.Bool.Decides.{nat_tests}
 use Rattle.std.proofs.lemmas.List.{append-nil, append_assoc, length-append, length-drop, length-take-le}
-use Rattle.std.proofs.Math.Seq.{take-append_seam}
+use Rattle.std.proofs.Math.Seq.{drop-append_seam, take-append_seam}
 use Rattle.trac_rules.specs.declared.width.Width.{Width}
 use Rattle.trac_rules.specs.declared.limit.TheConstants.{TAPE_LIMIT}
 use Rattle.trac_rules.specs.Fronts.{IsFrontOf}
@@ -17,17 +17,19 @@ use Rattle.trac_streams.specs.declared.ending.Ending.TheVariants.{Ended, Budget,
 use Rattle.trac_streams.proofs.Known.{Appends-nothing, Appends-both, Appends-kept, Consumes-nothing, Consumes-both, front_after, front_of_front, front_of_nothing}
 use Rattle.trac_streams.specs.declared.lines.NextLine.TheVariants.{Line, TooLong}
 use Rattle.trac_streams.specs.declared.lines.TheConstants.{LINE_LIMIT, LINE_COUNT_LIMIT}
-use Rattle.trac_streams.specs.Lines.{lines_of, is_within}
+use Rattle.trac_rules.specs.declared.byte.TheConstants.{LINE_FEED}
+use Rattle.trac_streams.specs.Lines.{feed_count, lines_of, is_within}
 use Rattle.trac_debug.specs.Commands.{LineCommand, Forward, Back, Until, Return, Print, Commit, Quit, command_of}
 use Rattle.trac_debug.specs.Replies.{Replies, is_walk}
 use Rattle.trac_debug.specs.Debugging.{Turn, Passes, Does, Ends, Takes, MayWrite, MayFollow, FollowsFirst, MayShow, RepliesToFirst, ready, shown_where, turn_at, turn_of}
-use Rattle.trac_debug.specs.Debugs.{UnlessFault, UnlessWrite, Debugs, DebugsBy, MOST_READ, IsReady, IsNotReplied, Settles, Stops, Advances, Halts}
+use Rattle.trac_debug.specs.Debugs.{UnlessFault, UnlessWrite, IsReading, BeginsWith, FaultsAt, Debugs, DebugsBy, MOST_READ, IsReady, IsNotReplied, ReadsInLines, Settles, Stops, Advances, Halts}
 use Rattle.trac_streams.specs.Pending.{Pending}
 use Rattle.trac_streams.specs.Tape.{MayRefuseTape}
-use Rattle.trac_streams.specs.Reading.{HELD_LIMIT, IsFront, Gathers, GathersBy, FailsBy, CameBy, end_reads, fault_reads}
+use Rattle.trac_streams.specs.Reading.{AreInLine, HELD_LIMIT, IsFront, Gathers, GathersBy, FailsBy, CameBy, end_reads, fault_reads}
 use Rattle.trac_debug.proofs.Existing.{some_reply, some_text}
-use Rattle.trac_streams.proofs.Gathered.{came_by_both, came_by_none, empty_reads_sound, end_reads_one, end_reads_open, reads_counted}
-use Rattle.trac_streams.proofs.Splitting.{first_line}
+use Rattle.trac_debug.proofs.ToldOutput.{all_told, ready_released}
+use Rattle.trac_streams.proofs.Gathered.{came_by_both, came_by_none, empty_reads_sound, end_reads_one, end_reads_open, few_held, open_before, reads_counted}
+use Rattle.trac_streams.proofs.Splitting.{first_line, lines_of-count}
 
 -- ---- what becomes of a line
 
@@ -70,31 +72,49 @@ settled (Does command) p q a b over = record {
 }
 settled (Ends stop) p q a b over = absurd over
 
--- a session that a line ends, ends for no fault of the reader
+-- an ending without a fault
+abbrev pub IsPlain : Ending → Type 0
+IsPlain Memory = ⊥
+IsPlain Read = ⊥
+IsPlain Write = ⊥
+IsPlain ending = Unit {0}
+
+plain_sound : (ending : Ending) → IsPlain ending → fault_reads ending ≡ 0
+plain_sound Read plain = absurd plain
+plain_sound ending plain = refl
+
+-- it may come wherever it comes
+plain_anywhere : (ending : Ending) (done number : ℕ) (saw_end : Bool) (read commands : List ℕ) → IsPlain ending → FaultsAt ending done number saw_end read commands
+plain_anywhere Memory done number saw_end read commands plain = absurd plain
+plain_anywhere Read done number saw_end read commands plain = absurd plain
+plain_anywhere Write done number saw_end read commands plain = absurd plain
+plain_anywhere ending done number saw_end read commands plain = tt
+
+-- a session that a line ends, ends without a fault
 abbrev EndsSound : Turn → Type 0
 EndsSound Passes = Unit {0}
 EndsSound (Does command) = Unit {0}
-EndsSound (Ends stop) = fault_reads stop ≡ 0
+EndsSound (Ends stop) = IsPlain stop
 
 either_sound : (b : Bool) (x y : Turn) → EndsSound x → EndsSound y → EndsSound (if b then x else y)
 either_sound true x y one other = one
 either_sound false x y one other = other
 
 turn_of_sound : (number : ℕ) (command : Option LineCommand) → EndsSound (turn_of number command)
-turn_of_sound number None = refl
+turn_of_sound number None = tt
 turn_of_sound number (Some (Forward n)) = tt
 turn_of_sound number (Some (Back n)) = tt
 turn_of_sound number (Some (Until name n)) = tt
 turn_of_sound number (Some (Return name)) = tt
 turn_of_sound number (Some Print) = tt
 turn_of_sound number (Some (Commit keep)) = tt
-turn_of_sound number (Some Quit) = refl
+turn_of_sound number (Some Quit) = tt
 
 turn_sound : (number : ℕ) (line : List ℕ) → EndsSound (turn_at number line)
-turn_sound number [] = either_sound (nat_le number LINE_COUNT_LIMIT) Passes (Ends Budget) tt refl
+turn_sound number [] = either_sound (nat_le number LINE_COUNT_LIMIT) Passes (Ends Budget) tt tt
 turn_sound number (b ∷ bs) =
     either_sound (nat_le number LINE_COUNT_LIMIT) (if is_within (b ∷ bs) then turn_of number (command_of (b ∷ bs)) else Ends (NotUnderstood number)) (Ends Budget)
-    (either_sound (is_within (b ∷ bs)) (turn_of number (command_of (b ∷ bs))) (Ends (NotUnderstood number)) (turn_of_sound number (command_of (b ∷ bs))) refl) refl
+    (either_sound (is_within (b ∷ bs)) (turn_of number (command_of (b ∷ bs))) (Ends (NotUnderstood number)) (turn_of_sound number (command_of (b ∷ bs))) tt) tt
 
 -- nor does one that ends in a reply
 stop_sound : (turn : Turn) (p : PlainSession) (a b : Option (List ℕ)) (ending : Ending) → EndsSound turn → Stops turn p a b ending → fault_reads ending ≡ 0
@@ -103,7 +123,7 @@ stop_sound (Does command) p a b ending sound stops = ⊎_elim
     (λ (none : (ending ≡ Memory) × (stops.front.written ≡ []) × (is_walk command ≡ false)). ap fault_reads none.0)
     (λ (fault : ending ≡ Write). ap fault_reads fault)
     stops.fault
-stop_sound (Ends stop) p a b ending sound stops = ap fault_reads stops.0 ∙ sound
+stop_sound (Ends stop) p a b ending sound stops = ap fault_reads stops.0 ∙ plain_sound stop sound
 
 -- a turn in which the session ends: what was written is a front of what may be written, or, without a fault, all of it
 pub record IsStopped (turn : Turn) (p : PlainSession) (a b : Option (List ℕ)) (ending : Ending) : Type 0 where
@@ -113,6 +133,8 @@ pub record IsStopped (turn : Turn) (p : PlainSession) (a b : Option (List ℕ)) 
       (text : List ℕ) × (stop : Ending) × Takes turn p (λ r rest. MayWrite lines number r rest stop) text stop × IsFrontOf written text
   pub whole : (lines : List (List ℕ)) → (number : ℕ) → UnlessFault ending (Takes turn p (λ r rest. MayWrite lines number r rest ending) written ending)
   pub nothing : UnlessWrite ending (written ≡ [])
+  pub faults : (done number : ℕ) → (saw_end : Bool) → (read commands line : List ℕ) → (later : List (List ℕ)) → drop done (lines_of commands) ≡ line ∷ later → turn ≡ turn_at number line →
+      FaultsAt ending done number saw_end read commands
 
 -- without a fault the whole is said; after one nothing is
 unless_always : (ending : Ending) (Fact : Type 0) → Fact → UnlessFault ending Fact
@@ -149,9 +171,9 @@ wrote_nothing ending written none = always_unless ending (written ≡ []) none
 front_before : (written text rest : List ℕ) → IsFrontOf written text → IsFrontOf written (text ++ rest)
 front_before written text rest front = front_of_front written text (text ++ rest) front (rest, refl)
 
-stopped : (turn : Turn) (p : PlainSession) (a b : Option (List ℕ)) (ending : Ending) → Stops turn p a b ending → IsStopped turn p a b ending
-stopped Passes p a b ending stops = absurd stops
-stopped (Does command) p a b ending stops =
+stopped : (turn : Turn) (p : PlainSession) (a b : Option (List ℕ)) (ending : Ending) → EndsSound turn → Stops turn p a b ending → IsStopped turn p a b ending
+stopped Passes p a b ending sound stops = absurd stops
+stopped (Does command) p a b ending sound stops =
     let written = stops.front.written in
     record {
       written = written;
@@ -167,13 +189,19 @@ stopped (Does command) p a b ending stops =
           (λ (none : (ending ≡ Memory) × (written ≡ []) × (is_walk command ≡ false)). always_unless ending (written ≡ []) none.1)
           (λ (fault : ending ≡ Write). write_unless ending (written ≡ []) fault)
           stops.fault;
+      faults = λ done number saw_end read commands line later at turn. ⊎_elim
+          (λ (none : (ending ≡ Memory) × (written ≡ []) × (is_walk command ≡ false)).
+          subst (λ e. FaultsAt e done number saw_end read commands) (sym none.0) (inr (line, later, command, at, sym turn, none.2)))
+          (λ (fault : ending ≡ Write). subst (λ e. FaultsAt e done number saw_end read commands) (sym fault) (line, later, command, at, sym turn, tt))
+          stops.fault;
     }
-stopped (Ends stop) p a b ending stops = record {
+stopped (Ends stop) p a b ending sound stops = record {
   written = [];
   gave = Appends-none a b stops.1;
   front = λ lines number. ([], stop, (refl, refl), front_of_nothing []);
   whole = λ lines number. unless_always ending (Takes (Ends stop) p (λ r rest. MayWrite lines number r rest ending) [] ending) (refl, stops.0);
   nothing = wrote_nothing ending [] refl;
+  faults = λ done number saw_end read commands line later at turn. subst (λ e. FaultsAt e done number saw_end read commands) (sym stops.0) (plain_anywhere stop done number saw_end read commands sound);
 }
 
 -- ---- a line
@@ -191,7 +219,7 @@ held_after in_old in_new old mid read =
       λ held. ⊎_elim
           (λ (none : read.got ≡ []). omega (arith, all, held, ap length none))
           (λ (few : length mid.bytes ≤ HELD_LIMIT). few)
-          read.few,
+          (few_held in_old in_new old mid read),
     )
 
 -- a line is done with, which is not too long
@@ -212,6 +240,7 @@ advances in_old in_new out_old out_new reads_old reads_new number old mid new p 
       gave = turn.gave;
       closed = λ over. ((read.closed over).0, ended ∙ (read.closed over).1);
       at_end = λ over. read.at_end (sym ended ∙ over);
+      in_line = subst (λ over. AreInLine old over read.got) (sym ended) read.in_line;
       line = line;
       splits = λ more none.
           ap lines_of (sym (read_on old mid read.got more read.bytes)) ∙ front.2 more (λ over. none (ended ∙ over))
@@ -229,8 +258,9 @@ halts_by : {in_old in_new out_old out_new : Option (List ℕ)} (reads_old reads_
     GathersBy in_old in_new reads_old reads_new old mid → Appends out_old out_new written → UnlessWrite ending (written ≡ []) →
     ((more : List ℕ) → (mid.ended ≡ true → more ≡ []) → (text : List ℕ) × (stop : Ending) × MayWrite (lines_of (mid.bytes ++ more)) number p text stop × IsFrontOf written text) →
     ((more : List ℕ) → (mid.ended ≡ true → more ≡ []) → UnlessFault ending (MayWrite (lines_of (mid.bytes ++ more)) number p written ending)) →
+    ((more : List ℕ) → (mid.ended ≡ true → more ≡ []) → FaultsAt ending 0 number mid.ended mid.bytes (mid.bytes ++ more)) →
     Halts in_old in_new out_old out_new reads_old reads_new number old p ending
-halts_by {in_old} {in_new} {out_old} {out_new} reads_old reads_new number old mid p written ending sound by gave nothing front whole =
+halts_by {in_old} {in_new} {out_old} {out_new} reads_old reads_new number old mid p written ending sound by gave nothing front whole faults =
     let read : Gathers in_old in_new old mid = by.gathers in
     record {
       got = read.got;
@@ -240,11 +270,15 @@ halts_by {in_old} {in_new} {out_old} {out_new} reads_old reads_new number old mi
       gave = gave;
       closed = read.closed;
       at_end = read.at_end;
+      in_line = read.in_line;
       front = λ more none.
           let some = front more none in
           (some.0, some.1, subst (λ text. MayWrite (lines_of text) number p some.0 some.1) (read_on old mid read.got more read.bytes) some.2, some.3);
       whole = λ more none. subst (λ text. UnlessFault ending (MayWrite (lines_of text) number p written ending)) (read_on old mid read.got more read.bytes) (whole more none);
       nothing = nothing;
+      faults = λ more none.
+          subst (λ text. FaultsAt ending 0 number mid.ended (old.bytes ++ read.got) text) (read_on old mid read.got more read.bytes)
+          (subst (λ read_. FaultsAt ending 0 number mid.ended read_ (mid.bytes ++ more)) read.bytes (faults more none));
       held = λ old_held. let held_ = held_after in_old in_new old mid read in omega (arith, held_.0, held_.1 old_held);
       full = by.full;
       came = by.came;
@@ -257,21 +291,23 @@ pub halts_in : (in_old in_new out_old out_new : Option (List ℕ)) (reads_old re
     Halts in_old in_new out_old out_new reads_old reads_new number old p ending
 halts_in in_old in_new out_old out_new reads_old reads_new number old mid p len whole ending by front stops =
     let line : List ℕ = take len mid.bytes in
-    let turn : IsStopped (turn_at number line) p out_old out_new ending = stopped (turn_at number line) p out_old out_new ending stops in
+    let turn : IsStopped (turn_at number line) p out_old out_new ending = stopped (turn_at number line) p out_old out_new ending (turn_sound number line) stops in
     halts_by reads_old reads_new number old mid p turn.written ending (stop_sound (turn_at number line) p out_old out_new ending (turn_sound number line) stops) by turn.gave turn.nothing
     (λ more none.
     let some = turn.front (lines_of (drop whole mid.bytes ++ more)) (number + 1) in
     (some.0, some.1, subst (λ ls. MayWrite ls number p some.0 some.1) (sym (front.2 more none)) some.2, some.3))
     (λ more none. subst (λ ls. UnlessFault ending (MayWrite ls number p turn.written ending)) (sym (front.2 more none)) (turn.whole (lines_of (drop whole mid.bytes ++ more)) (number + 1)))
+    (λ more none. turn.faults 0 number mid.ended mid.bytes (mid.bytes ++ more) line (lines_of (drop whole mid.bytes ++ more)) (front.2 more none) refl)
 
 -- the session ends before a line, and nothing is written: the lines, whatever more there are, say that it ends so
-pub halts_before : (in_old in_new output : Option (List ℕ)) (reads_old reads_new number : ℕ) (old mid : Pending) (p : PlainSession) (ending : Ending) → fault_reads ending ≡ 0 →
+pub halts_before : (in_old in_new output : Option (List ℕ)) (reads_old reads_new number : ℕ) (old mid : Pending) (p : PlainSession) (ending : Ending) → IsPlain ending →
     GathersBy in_old in_new reads_old reads_new old mid →
     ((more : List ℕ) → (mid.ended ≡ true → more ≡ []) → MayWrite (lines_of (mid.bytes ++ more)) number p [] ending) → Halts in_old in_new output output reads_old reads_new number old p ending
-halts_before in_old in_new output reads_old reads_new number old mid p ending sound by says =
-    halts_by reads_old reads_new number old mid p [] ending sound by (Appends-nothing output) (wrote_nothing ending [] refl)
+halts_before in_old in_new output reads_old reads_new number old mid p ending plain by says =
+    halts_by reads_old reads_new number old mid p [] ending (plain_sound ending plain) by (Appends-nothing output) (wrote_nothing ending [] refl)
     (λ more none. ([], ending, says more none, front_of_nothing []))
     (λ more none. unless_always ending (MayWrite (lines_of (mid.bytes ++ more)) number p [] ending) (says more none))
+    (λ more none. plain_anywhere ending 0 number mid.ended mid.bytes (mid.bytes ++ more) plain)
 
 -- at the end of the lines
 pub halts_at_end : (number : ℕ) (mid : Pending) (p : PlainSession) → (mid.ended ≡ true) × (mid.bytes ≡ []) →
@@ -311,30 +347,81 @@ halts_late number mid p late some more none =
     let at = some_line mid.bytes more some in
     ends_first number p (lines_of (mid.bytes ++ more)) at.1 at.0 Budget at.2 (turn_late number at.0 late)
 
--- a read failed: nothing is written, and more may come
+-- a read failed, or memory was refused before one: nothing is written, and more may come
 pub halts_unread : (in_old in_new output : Option (List ℕ)) (reads_old reads_new number : ℕ) (old new : Pending) (p : PlainSession) (ending : Ending) →
     FailsBy in_old in_new reads_old reads_new old new ending → Halts in_old in_new output output reads_old reads_new number old p ending
-halts_unread in_old in_new output reads_old reads_new number old new p ending by = record {
-  got = by.fails.kept ++ by.fails.lost;
-  written = [];
-  saw_end = false;
-  took = by.fails.took;
-  gave = Appends-nothing output;
-  closed = λ over. absurd (false≢true (sym by.fails.open_ ∙ over));
-  at_end = λ over. absurd (false≢true over);
-  front = λ more none.
-      let some = some_text (lines_of (old.bytes ++ ((by.fails.kept ++ by.fails.lost) ++ more))) number p in
-      (some.0, some.1, some.2, front_of_nothing some.0);
-  whole = λ more none. ⊎_elim
-      (λ (none_ : ending ≡ Memory). unless_Memory ending (MayWrite (lines_of (old.bytes ++ ((by.fails.kept ++ by.fails.lost) ++ more))) number p [] ending) none_)
-      (λ (fault : (ending ≡ Read) × (by.fails.lost ≡ [])). unless_Read ending (MayWrite (lines_of (old.bytes ++ ((by.fails.kept ++ by.fails.lost) ++ more))) number p [] ending) fault.0)
-      by.fails.fault;
-  nothing = wrote_nothing ending [] refl;
-  held = λ _. by.fails.few;
-  full = by.full;
-  came = by.came;
-  counted = omega (arith, by.counted, end_reads_open old.ended by.fails.open_);
-}
+halts_unread in_old in_new output reads_old reads_new number old new p ending by =
+    let read : Gathers in_old in_new old new = by.fails.gathers in
+    let open_ : old.ended ≡ false = open_before in_old in_new old new read by.fails.part.0 in
+    let reading : IsReading 0 false (old.bytes ++ read.got) = (refl, ap feed_count (sym read.bytes) ∙ by.fails.part.2) in
+    record {
+      got = read.got;
+      written = [];
+      saw_end = false;
+      took = read.took;
+      gave = Appends-nothing output;
+      closed = λ over. absurd (false≢true (sym open_ ∙ over));
+      at_end = λ over. absurd (false≢true over);
+      in_line = subst (λ over. AreInLine old over read.got) by.fails.part.0 read.in_line;
+      front = λ more none.
+          let some = some_text (lines_of (old.bytes ++ (read.got ++ more))) number p in
+          (some.0, some.1, some.2, front_of_nothing some.0);
+      whole = λ more none. ⊎_elim
+          (λ (lacks : ending ≡ Memory). unless_Memory ending (MayWrite (lines_of (old.bytes ++ (read.got ++ more))) number p [] ending) lacks)
+          (λ (fails : ending ≡ Read). unless_Read ending (MayWrite (lines_of (old.bytes ++ (read.got ++ more))) number p [] ending) fails)
+          by.fails.fault;
+      nothing = wrote_nothing ending [] refl;
+      faults = λ more none. ⊎_elim
+          (λ (lacks : ending ≡ Memory). subst (λ e. FaultsAt e 0 number false (old.bytes ++ read.got) (old.bytes ++ (read.got ++ more))) (sym lacks) (inl reading))
+          (λ (fails : ending ≡ Read). subst (λ e. FaultsAt e 0 number false (old.bytes ++ read.got) (old.bytes ++ (read.got ++ more))) (sym fails) reading)
+          by.fails.fault;
+      held = λ _. omega (arith, by.fails.part.1, ap length read.bytes, length-append old.bytes read.got);
+      full = by.full;
+      came = by.came;
+      counted = omega (arith, by.counted, end_reads_open old.ended open_);
+    }
+
+-- ---- reads
+
+-- the next line is being read after others, each of which ended at a line feed
+reading_later : (before : List (List ℕ)) (saw_end : Bool) (far got held : List ℕ) →
+    ((more : List ℕ) → (saw_end ≡ true → more ≡ []) → lines_of ((far ++ got) ++ more) ≡ before ++ lines_of (held ++ (got ++ more))) →
+    IsReading 0 saw_end (held ++ got) → IsReading (length before) saw_end (far ++ got)
+reading_later before saw_end far got held splits reading =
+    let all : lines_of ((far ++ got) ++ LINE_FEED ∷ []) ≡ before ++ lines_of ((held ++ got) ++ LINE_FEED ∷ []) =
+    splits (LINE_FEED ∷ []) (λ over. absurd (false≢true (sym reading.0 ∙ over))) ∙ ap (λ text. before ++ lines_of text) (sym (append_assoc held got (LINE_FEED ∷ []))) in
+    (reading.0, omega (arith, ap length all, length-append before (lines_of ((held ++ got) ++ LINE_FEED ∷ [])), lines_of-count (far ++ got), lines_of-count (held ++ got), reading.1))
+
+-- before the reads of a later part a line was being read too
+reads_later : (before : List (List ℕ)) (done : ℕ) (far got : List ℕ) (lines : Pending) (saw_end : Bool) → length before ≤ done →
+    ((more : List ℕ) → (lines.ended ≡ true → more ≡ []) → lines_of (far ++ more) ≡ before ++ lines_of (lines.bytes ++ more)) →
+    ReadsInLines (length before) lines.ended far → AreInLine lines saw_end got → ReadsInLines done saw_end (far ++ got)
+reads_later before done far got lines saw_end fewer splits reads (inl none) =
+    let same : far ++ got ≡ far = ap (λ g. far ++ g) none.0 ∙ append-nil far in
+    record {
+      before = reads.before;
+      piece = reads.piece;
+      all = same ∙ reads.all;
+      few = reads.few;
+      feeds = omega (arith, reads.feeds, fewer);
+      at_end = λ over. omega (arith, ap feed_count same, reads.at_end (sym none.1 ∙ over), fewer);
+    }
+reads_later before done far got lines saw_end fewer splits reads (inr last) =
+    let reading : IsReading (length before) false (far ++ last.before) =
+    reading_later before false far last.before lines.bytes
+    (λ more none. ap lines_of (append_assoc far last.before more) ∙ splits (last.before ++ more) (λ over. absurd (false≢true (sym last.part.0 ∙ over))))
+    (refl, last.part.2) in
+    let all : far ++ got ≡ (far ++ last.before) ++ last.piece = ap (λ g. far ++ g) last.all ∙ sym (append_assoc far last.before last.piece) in
+    record {
+      before = far ++ last.before;
+      piece = last.piece;
+      all = all;
+      few = last.few;
+      feeds = omega (arith, reading.1, fewer);
+      at_end = λ over.
+          let whole : far ++ got ≡ far ++ last.before = all ∙ ap (λ piece. (far ++ last.before) ++ piece) (last.at_end over) ∙ append-nil (far ++ last.before) in
+          omega (arith, ap feed_count whole, reading.1, fewer);
+    }
 
 -- ---- a whole session
 
@@ -350,6 +437,7 @@ pub record SoFar (in_old in_now out_old out_now : Option (List ℕ)) (start : Pl
   pub splits : (more : List ℕ) → (lines.ended ≡ true → more ≡ []) → lines_of (got ++ more) ≡ before ++ lines_of (lines.bytes ++ more)
   pub rest : (later : List (List ℕ)) → (text : List ℕ) → (stop : Ending) → MayWrite later number p text stop → MayWrite (before ++ later) 1 start (written ++ text) stop
   pub count : length before + 1 ≡ number
+  pub in_lines : ReadsInLines (length before) lines.ended got
   pub few : length got ≤ length before * (LINE_LIMIT + 2) + length lines.bytes
   pub held : length lines.bytes ≤ HELD_LIMIT
   pub full : ℕ
@@ -379,6 +467,7 @@ so_far_none input output lines p none = record {
   splits = λ more _. ap (λ (l : Pending). lines_of (l.bytes ++ more)) (sym none);
   rest = λ later text stop may. may;
   count = refl;
+  in_lines = record { before = []; piece = []; all = refl; few = omega arith; feeds = omega arith; at_end = λ over. omega arith };
   few = omega arith;
   held = omega (arith, ap (λ (l : Pending). length l.bytes) none);
   full = 0;
@@ -405,6 +494,9 @@ so_far_more in_old in_now in_new out_old out_now out_new start reads_now reads_n
       subst (λ ls. MayWrite ls 1 start ((far.written ++ on.written) ++ text) stop) (sym (append_assoc far.before (on.line ∷ []) later))
       (subst (λ w. MayWrite (far.before ++ (on.line ∷ later)) 1 start w stop) (sym (append_assoc far.written on.written text)) here);
   count = omega (arith, length-append far.before (on.line ∷ []), far.count);
+  in_lines =
+      reads_later far.before (length (far.before ++ (on.line ∷ []))) far.got on.got lines after.ended (omega (arith, length-append far.before (on.line ∷ [])))
+      far.splits far.in_lines on.in_line;
   few = omega (arith, length-append far.got on.got, length-append far.before (on.line ∷ []), far.few, on.few);
   held = on.held far.held;
   full = far.full + on.full;
@@ -432,6 +524,32 @@ first_replied start before later lines written nothing splits none may =
     subst (λ ls. MayWrite ls 1 start (written ++ nothing) Ended)
     (append-nil before ∙ sym (take-append_seam before later) ∙ ap (take (length before)) (sym splits))
     (subst (λ t. MayWrite (before ++ []) 1 start (written ++ t) Ended) (sym none) may)
+
+-- the next line comes after others
+begins_later : (IsKind : LineCommand → Type 0) (number : ℕ) (before lines all : List (List ℕ)) → length before + 1 ≡ number → all ≡ before ++ lines →
+    BeginsWith IsKind number lines → BeginsWith IsKind (length before + 1) (drop (length before) all)
+begins_later IsKind number before lines all count is next = (
+  next.0,
+  next.1,
+  next.2,
+  ap (drop (length before)) is ∙ drop-append_seam before lines ∙ next.3,
+  subst (λ n. turn_at n next.0 ≡ Does next.2) (sym count) next.4,
+  next.5,
+)
+
+-- a fault comes where it may after these lines too
+faults_later : (ending : Ending) (number : ℕ) (before : List (List ℕ)) (saw_end : Bool) (far got held more : List ℕ) → length before + 1 ≡ number →
+    ((more : List ℕ) → (saw_end ≡ true → more ≡ []) → lines_of ((far ++ got) ++ more) ≡ before ++ lines_of (held ++ (got ++ more))) → (saw_end ≡ true → more ≡ []) →
+    FaultsAt ending 0 number saw_end (held ++ got) (held ++ (got ++ more)) → FaultsAt ending (length before) (length before + 1) saw_end (far ++ got) ((far ++ got) ++ more)
+faults_later Memory number before saw_end far got held more count splits none faults = ⊎_elim
+    (λ (reading : IsReading 0 saw_end (held ++ got)). inl (reading_later before saw_end far got held splits reading))
+    (λ (next : BeginsWith (λ command. is_walk command ≡ false) number (lines_of (held ++ (got ++ more)))).
+    inr (begins_later (λ command. is_walk command ≡ false) number before (lines_of (held ++ (got ++ more))) (lines_of ((far ++ got) ++ more)) count (splits more none) next))
+    faults
+faults_later Read number before saw_end far got held more count splits none faults = reading_later before saw_end far got held splits faults
+faults_later Write number before saw_end far got held more count splits none faults =
+    begins_later (λ command. Unit {0}) number before (lines_of (held ++ (got ++ more))) (lines_of ((far ++ got) ++ more)) count (splits more none) faults
+faults_later ending number before saw_end far got held more count splits none faults = tt
 
 -- the end
 pub debugged : (in_old in_now in_new out_old out_now out_new : Option (List ℕ)) (start : PlainSession) (reads_now reads_new number count : ℕ) (lines : Pending) (p : PlainSession) (ending : Ending) →
@@ -468,9 +586,13 @@ debugged in_old in_now in_new out_old out_now out_new start reads_now reads_new 
         few_lines = omega (arith, far.count, few_lines);
         replies = λ more none.
             also_unless ending (last.written ≡ []) (FollowsFirst start (length far.before) ((far.got ++ last.got) ++ more) (far.written ++ last.written))
-            (λ nothing. first_replied start far.before (lines_of (lines.bytes ++ (last.got ++ more))) (lines_of ((far.got ++ last.got) ++ more)) far.written last.written (splits more none) nothing
-            (far.rest [] [] Ended (refl, refl)))
+            (λ nothing.
+            let first = first_replied start far.before (lines_of (lines.bytes ++ (last.got ++ more))) (lines_of ((far.got ++ last.got) ++ more)) far.written last.written (splits more none) nothing
+            (far.rest [] [] Ended (refl, refl)) in
+            (first, λ input steps text has. all_told _ input 1 steps text start _ Ended has first))
             last.nothing;
+        faults = λ more none. faults_later ending number far.before last.saw_end far.got last.got lines.bytes more far.count splits none (last.faults more none);
+        reads = reads_later far.before (length far.before) far.got last.got lines last.saw_end (omega arith) far.splits far.in_lines last.in_line;
       };
       done_with = lines_done;
       few = omega (arith, length-append far.got last.got, lines_done, far.few, last.held far.held);
@@ -505,7 +627,10 @@ debugged_over in_old in_new out_old out_new tape limit width p ending is all =
       few_lines = all.few_lines;
       replies = λ more none.
           also_unless ending (FollowsFirst p all.replied (all.got ++ more) all.written) (RepliesToFirst tape limit width all.replied (all.got ++ more) all.written)
-          (λ first. subst (λ q. FollowsFirst q all.replied (all.got ++ more) all.written) is.is first) (all.replies more none);
+          (λ first. let over = subst (λ q. FollowsFirst q all.replied (all.got ++ more) all.written) is.is first in (over.0, over.1 tape 0 [] (ready_released tape limit width)))
+          (all.replies more none);
+      faults = all.faults;
+      reads = all.reads;
     }
 
 -- over each tape something may be written
@@ -535,7 +660,12 @@ debugged_not input output tape limit width ending why = record {
       why;
   replied = 0;
   few_lines = omega arith;
-  replies = λ more none. always_unless ending (RepliesToFirst tape limit width 0 more []) (refl, refl);
+  replies = λ more none. always_unless ending (RepliesToFirst tape limit width 0 more []) ((refl, refl), (ready_released tape limit width, refl));
+  faults = λ more none. ⊎_elim
+      (λ (memory : (ending ≡ Memory) × (length tape ≤ TAPE_LIMIT)). subst (λ e. FaultsAt e 0 1 false [] more) (sym memory.0) (inl (refl, refl)))
+      (λ (beyond : (ending ≡ Limit) × (TAPE_LIMIT < length tape)). subst (λ e. FaultsAt e 0 1 false [] more) (sym beyond.0) tt)
+      why;
+  reads = record { before = []; piece = []; all = refl; few = omega arith; feeds = omega arith; at_end = λ over. absurd (false≢true over) };
 }
 
 -- over a tape that is too long it ends so
@@ -568,10 +698,6 @@ not_written command old new lent reply a b (Err ending) is replies fault front =
   replies = replies;
   front = subst (WritesFront a b) is front;
 }
-
--- a text was written, and perhaps not flushed
-pub all_written : (text : List ℕ) (a b c : Option (List ℕ)) → Appends a b text → Keeps b c → WritesFront a c text
-all_written text a b c gave kept = record { written = text; front = ([], sym (append-nil text)); gave = Appends-kept a b c text gave kept }
 
 -- ---- the session
 

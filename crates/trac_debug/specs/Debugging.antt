@@ -10,6 +10,8 @@ use Rattle.trac_streams.specs.declared.lines.TheConstants.{LINE_COUNT_LIMIT}
 use Rattle.trac_streams.specs.Lines.{is_within, lines_of}
 use Rattle.trac_debug.specs.Commands.{LineCommand, Quit, command_of}
 use Rattle.trac_debug.specs.Replies.{Replies, RepliesWithMemory}
+use Rattle.trac_debug.specs.Outputs.{Tells}
+use Rattle.trac_session.specs.Outputs.{HasReleased}
 
 -- ---- one line
 
@@ -63,14 +65,35 @@ Takes turn p Rest text ending = TakesBy Replies turn p Rest text ending
 abbrev pub MayWrite : List (List ℕ) → ℕ → PlainSession → List ℕ → Ending → Type 0
 MayWrite lines number p text ending = WritesBy Replies lines number p text ending
 
+-- in a turn from this session on, to which so many steps led and which has released this text, the reply tells what
+-- becomes of both. `Rest` says the same of what is written after it
+abbrev pub TurnTells : Turn → ℕ → List ℕ → PlainSession → (ℕ → List ℕ → PlainSession → List ℕ → Type 0) → List ℕ →
+    Type 0
+TurnTells Passes steps text p Rest written = Rest steps text p written
+TurnTells (Does command) steps text p Rest written =
+    (reply : List ℕ) × (q : PlainSession) × (rest : List ℕ) × (after : ℕ) × (more : List ℕ)
+    × Replies command p reply q × Tells command reply steps after more × (written ≡ reply ++ rest)
+    × Rest after (text ++ more) q rest
+TurnTells (Ends stop) steps text p Rest written = written ≡ []
+
+-- so many steps over this input led to this session, and it has released this text. What is written of it, with these
+-- lines from this number on, tells how many steps lead to each session after it, and what each has released
+abbrev pub TellsOutput : List ℕ → List (List ℕ) → ℕ → ℕ → List ℕ → PlainSession → List ℕ → Type 0
+TellsOutput input [] number steps text p written = HasReleased input steps text p × (written ≡ [])
+TellsOutput input (line ∷ lines) number steps text p written = HasReleased input steps text p
+    × TurnTells (turn_at number line) steps text p
+    (λ after all q rest. TellsOutput input lines (number + 1) after all q rest) written
+
 -- from this session on, with these commands, this text may be written, and then the session ends so
 abbrev pub MayFollow : PlainSession → List ℕ → List ℕ → Ending → Type 0
 MayFollow p commands text ending = MayWrite (lines_of commands) 1 p text ending
 
 -- from this session on, this text may be written if the first so many of the lines of these commands are all that there
--- are
+-- are. Its replies tell what becomes of the output, however the session came where it is
 abbrev pub FollowsFirst : PlainSession → ℕ → List ℕ → List ℕ → Type 0
-FollowsFirst p count commands text = MayWrite (take count (lines_of commands)) 1 p text Ended
+FollowsFirst p count commands written = MayWrite (take count (lines_of commands)) 1 p written Ended
+    × ((input : List ℕ) (steps : ℕ) (text : List ℕ) → HasReleased input steps text p →
+    TellsOutput input (take count (lines_of commands)) 1 steps text p written)
 
 -- ---- a whole session
 
@@ -102,7 +125,8 @@ ShowsWithMemory tape limit width commands text ending =
     shown_by (WritesBy RepliesWithMemory) tape limit width commands text ending (nat_le (length tape) TAPE_LIMIT)
 
 -- over this tape, with such a journal and such numbers, this text may be written if the first so many of the lines of
--- these commands are all that there are. Each of them is replied to whole
+-- these commands are all that there are. Each of them is replied to whole. The replies tell what becomes of the output
 abbrev pub RepliesToFirst : List ℕ → ℕ → Width → ℕ → List ℕ → List ℕ → Type 0
 RepliesToFirst tape limit width count commands text =
     MayWrite (take count (lines_of commands)) 1 (ready tape limit width) text Ended
+    × TellsOutput tape (take count (lines_of commands)) 1 0 [] (ready tape limit width) text

@@ -1,5 +1,5 @@
 -- What the debugger reads and writes.
-use Rattle.std.specs.Prelude.{◌≡◌, ◌⊎◌, ℕ, ◌+◌, ◌*◌, ◌≤◌, Bool, true, false, List, [], ◌∷◌, ◌++◌, length, Option}
+use Rattle.std.specs.Prelude.{◌≡◌, ◌⊎◌, ℕ, ◌+◌, ◌*◌, ◌≤◌, Bool, true, false, List, [], ◌∷◌, ◌++◌, drop, length, Option}
 use Rattle.std.specs.Io.KnownBytes.{Appends, Consumes, IsAtEnd, Keeps}
 use Rattle.trac_rules.specs.declared.width.Width.{Width}
 use Rattle.trac_rules.specs.declared.limit.TheConstants.{TAPE_LIMIT}
@@ -7,13 +7,14 @@ use Rattle.trac_rules.specs.Fronts.{IsFrontOf}
 use Rattle.trac_rules.specs.Session.{PlainSession}
 use Rattle.trac_streams.specs.declared.ending.Ending.{Ending}
 use Rattle.trac_streams.specs.declared.ending.Ending.TheVariants.{Memory, Read, Write}
-use Rattle.trac_streams.specs.Lines.{lines_of}
+use Rattle.trac_streams.specs.Lines.{feed_count, lines_of}
 use Rattle.trac_debug.specs.Commands.{LineCommand}
 use Rattle.trac_debug.specs.Replies.{Replies, is_walk}
-use Rattle.trac_debug.specs.Debugging.{Turn, Passes, Does, Ends, MayWrite, ready}
+use Rattle.trac_debug.specs.Debugging.{Turn, Passes, Does, Ends, MayWrite, ready, turn_at}
+use Rattle.trac_streams.specs.declared.input.TheConstants.{READ_SIZE}
 use Rattle.trac_streams.specs.declared.lines.TheConstants.{LINE_LIMIT, LINE_COUNT_LIMIT}
 use Rattle.trac_streams.specs.Pending.{Pending}
-use Rattle.trac_streams.specs.Reading.{HELD_LIMIT, CameBy, CountsReads, end_reads, empty_reads}
+use Rattle.trac_streams.specs.Reading.{HELD_LIMIT, AreInLine, CameBy, CountsReads, end_reads, empty_reads}
 use Rattle.trac_streams.specs.Written.{WritesFront}
 
 -- ---- a whole session
@@ -30,16 +31,49 @@ abbrev pub UnlessWrite : Ending → Type 0 → Type 0
 UnlessWrite Write Fact = Unit {0}
 UnlessWrite ending Fact = Fact
 
+-- a line is still being read, once so many are done with: each line feed that was read ended one of these, and the end
+-- was not seen
+abbrev pub IsReading : ℕ → Bool → List ℕ → Type 0
+IsReading done saw_end read = (saw_end ≡ false) × (feed_count read ≡ done)
+
+-- the first of these lines, of this number, is a command of this kind, which is to be replied to
+abbrev pub BeginsWith : (LineCommand → Type 0) → ℕ → List (List ℕ) → Type 0
+BeginsWith IsKind number lines = (line : List ℕ) × (later : List (List ℕ)) × (command : LineCommand)
+    × (lines ≡ line ∷ later) × (turn_at number line ≡ Does command) × IsKind command
+
+-- where a session ends for a fault that has done with so many of the lines of these commands, of which it read this:
+-- the reader fails as the next line is being read, and the writer in the reply to the next. Memory is wanting as the
+-- next line is being read, or for the reply to it, if that is the state or what was released: for no reply to a walk
+abbrev pub FaultsAt : Ending → ℕ → ℕ → Bool → List ℕ → List ℕ → Type 0
+FaultsAt Memory done number saw_end read commands =
+    IsReading done saw_end read ⊎ BeginsWith (λ command. is_walk command ≡ false) number (drop done (lines_of commands))
+FaultsAt Read done number saw_end read commands = IsReading done saw_end read
+FaultsAt Write done number saw_end read commands =
+    BeginsWith (λ command. Unit {0}) number (drop done (lines_of commands))
+FaultsAt ending done number saw_end read commands = Unit {0}
+
 -- a session reads no more bytes of commands than this: as many lines as there may be, each as long as it may be and
 -- with what ends it, and then as many as are held at most
 abbrev pub MOST_READ : ℕ
 MOST_READ = LINE_COUNT_LIMIT * (LINE_LIMIT + 2) + HELD_LIMIT
 
+-- the reads of a session that is done with so many lines, which gave this in all. Each came while a line was still
+-- being read: before the last that gave anything no more lines had ended than these, and so none had before an earlier
+-- one; nor have more if the end was seen
+pub record ReadsInLines (done : ℕ) (saw_end : Bool) (got : List ℕ) : Type 0 where
+  pub before : List ℕ
+  pub piece : List ℕ
+  pub all : got ≡ before ++ piece
+  pub few : length piece ≤ READ_SIZE
+  pub feeds : feed_count before ≤ done
+  pub at_end : saw_end ≡ true → feed_count got ≤ done
+
 -- a session read some commands, no more than it may, and perhaps saw the end of them, and wrote some bytes. However the
 -- commands go on after what was read (not at all if the end was seen), what was written is a front of a text that is
 -- stated for all of the commands. If the ending of the session is not a fault or want of memory, what was written is a
 -- whole one, with that ending. Unless the writer failed, what was written are whole replies, those to the first so many
--- lines: so a reply for which memory was refused is not written in part
+-- lines: so a reply for which memory was refused is not written in part. A fault comes where it may come after them. No
+-- read came once the line was read that ended the session
 pub record Debugs (in_old in_new out_old out_new : Option (List ℕ)) (Stated : List ℕ → List ℕ → Ending → Type 0)
     (ToFirst : ℕ → List ℕ → List ℕ → Type 0) (ending : Ending) : Type 0 where
   pub got : List ℕ
@@ -56,6 +90,9 @@ pub record Debugs (in_old in_new out_old out_new : Option (List ℕ)) (Stated : 
   pub few_lines : replied ≤ LINE_COUNT_LIMIT
   pub replies : (more : List ℕ) → (saw_end ≡ true → more ≡ []) →
       UnlessWrite ending (ToFirst replied (got ++ more) written)
+  pub faults : (more : List ℕ) → (saw_end ≡ true → more ≡ []) →
+      FaultsAt ending replied (replied + 1) saw_end got (got ++ more)
+  pub reads : ReadsInLines replied saw_end got
 
 -- a session, of which what it did is counted: so many lines were done with, of which no more was read than they and
 -- what is held may have, and just so often
@@ -101,8 +138,9 @@ Stops Passes old out_old out_new ending = ⊥
 Stops (Does command) old out_old out_new ending = IsNotReplied command old out_old out_new ending
 Stops (Ends stop) old out_old out_new ending = (ending ≡ stop) × Keeps out_old out_new
 
--- a line stands at the front of the text, whatever comes after it, and is taken with what ends it; and what may be
--- written from the next line on, after what was written, may be written from the line of this number on
+-- a line stands at the front of the text, whatever comes after it, and is taken with what ends it; no read came once it
+-- was read. What may be written from the next line on, after what was written, may be written from the line of this
+-- number on
 pub record Advances (in_old in_new out_old out_new : Option (List ℕ)) (reads_old reads_new number : ℕ)
     (lines_old : Pending) (p : PlainSession) (lines_new : Pending) (q : PlainSession) : Type 0 where
   pub got : List ℕ
@@ -111,6 +149,7 @@ pub record Advances (in_old in_new out_old out_new : Option (List ℕ)) (reads_o
   pub gave : Appends out_old out_new written
   pub closed : lines_old.ended ≡ true → (got ≡ []) × (lines_new.ended ≡ true)
   pub at_end : lines_new.ended ≡ true → IsAtEnd in_new
+  pub in_line : AreInLine lines_old lines_new.ended got
   pub line : List ℕ
   pub splits : (more : List ℕ) → (lines_new.ended ≡ true → more ≡ []) →
       lines_of (lines_old.bytes ++ (got ++ more)) ≡ line ∷ lines_of (lines_new.bytes ++ more)
@@ -123,7 +162,8 @@ pub record Advances (in_old in_new out_old out_new : Option (List ℕ)) (reads_o
   pub counted : reads_new + end_reads lines_old.ended ≡ reads_old + full + end_reads lines_new.ended
 
 -- the session ends: a front was written of what may be written from the line of this number on, or, without a fault,
--- the whole; and nothing, unless the writer failed
+-- the whole; and nothing, unless the writer failed. A fault comes where it may come. No read came once the line was
+-- read
 pub record Halts (in_old in_new out_old out_new : Option (List ℕ)) (reads_old reads_new number : ℕ)
     (lines_old : Pending) (p : PlainSession) (ending : Ending) : Type 0 where
   pub got : List ℕ
@@ -133,11 +173,14 @@ pub record Halts (in_old in_new out_old out_new : Option (List ℕ)) (reads_old 
   pub gave : Appends out_old out_new written
   pub closed : lines_old.ended ≡ true → (got ≡ []) × (saw_end ≡ true)
   pub at_end : saw_end ≡ true → IsAtEnd in_new
+  pub in_line : AreInLine lines_old saw_end got
   pub front : (more : List ℕ) → (saw_end ≡ true → more ≡ []) → (text : List ℕ) × (stop : Ending)
       × MayWrite (lines_of (lines_old.bytes ++ (got ++ more))) number p text stop × IsFrontOf written text
   pub whole : (more : List ℕ) → (saw_end ≡ true → more ≡ []) →
       UnlessFault ending (MayWrite (lines_of (lines_old.bytes ++ (got ++ more))) number p written ending)
   pub nothing : UnlessWrite ending (written ≡ [])
+  pub faults : (more : List ℕ) → (saw_end ≡ true → more ≡ []) →
+      FaultsAt ending 0 number saw_end (lines_old.bytes ++ got) (lines_old.bytes ++ (got ++ more))
   pub held : length lines_old.bytes ≤ HELD_LIMIT → length lines_old.bytes + length got ≤ HELD_LIMIT
   pub full : ℕ
   pub came : CameBy full got

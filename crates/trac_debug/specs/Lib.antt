@@ -3,6 +3,7 @@
 -- whole session. All of it is this project's profile.
 pub mod Commands
 pub mod Replies
+pub mod Outputs
 pub mod Debugging
 -- How the code's commands are seen.
 pub mod Views

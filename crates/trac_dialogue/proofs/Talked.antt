@@ -42,10 +42,10 @@ pub seek_takes : (a b : Option (List ℕ)) (old new : Pending) → Gathers a b o
 seek_takes a b old new h = record { got = h.got; took = h.took }
 
 pub failed_takes : (a b : Option (List ℕ)) (old new : Pending) (e : Ending) → MayFail a b old new e → Takes a b
-failed_takes a b old new e h = record { got = h.kept ++ h.lost; took = h.took }
+failed_takes a b old new e h = record { got = h.gathers.got; took = h.gathers.took }
 
 pub failed_stops : (a b : Option (List ℕ)) (old new : Pending) (e : Ending) → MayFail a b old new e → IsStop e
-failed_stops a b old new e h = ⊎_elim (λ (is : e ≡ Memory). subst IsStop (sym is) tt) (λ (is : (e ≡ Read) × (h.lost ≡ [])). subst IsStop (sym is.0) tt) h.fault
+failed_stops a b old new e h = ⊎_elim (λ (is : e ≡ Memory). subst IsStop (sym is) tt) (λ (is : e ≡ Read). subst IsStop (sym is) tt) h.fault
 
 -- what the goals of `converse` use
 pub ruleset for_converse = (takes_none, gives_none, takes_both, gives_both)

@@ -25,8 +25,8 @@ WasPassed old place steps new q = (before : ℕ) × ((here : Place) × (steps �
 
 -- where it comes from: nothing stood there; all steps carried it, and there are no more, or as many were wanted; the
 -- last of them read or made it, and the others carried it; all carried it, and the last of them passed it on, from a
--- form whose name of more than 256 bytes could not be kept, or by a call of which the witness refused to be told; or the
--- last of them is a call of `ln` of which memory was refused to tell, and the others carried it
+-- form whose name of more than 256 bytes could not be kept, or by a call of which the witness refused to be told; or
+-- the last of them is a call of `ln` of which memory was refused to tell, and the others carried it
 abbrev pub IsEnd : PlainSession → Place → ℕ → PlainSession → ℕ → ends.End → Type 0
 IsEnd old place most new steps ends.TheVariants.Nothing = IsSource old place most new steps code.TheVariants.Nothing
 IsEnd old place most new steps ends.TheVariants.Earlier =

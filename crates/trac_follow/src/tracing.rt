@@ -89,8 +89,8 @@ pub struct Traced {
 /// The trace takes no memory but what the witness takes, and a list of all names if the byte may be of the value of
 /// `ln`. If that is refused, it ends as `End::Memory`.
 ///
-/// If a call took the byte from a form, of the store or of a block, the trace keeps the form's name. It copies a name of
-/// up to 256 bytes, and shares a longer one with the store. If it cannot, it ends as `End::Unkept`.
+/// If a call took the byte from a form, of the store or of a block, the trace keeps the form's name. It copies a name
+/// of up to 256 bytes, and shares a longer one with the store. If it cannot, it ends as `End::Unkept`.
 ///
 /// `End::Nothing` is answered only if nothing stands at the place.
 pub fn trace<A: Allocator + Copy, W: Witness<A>>(

@@ -1,6 +1,6 @@
-//! The processor as one library: sessions, which go forward and back; bytes followed to where they come from; whole runs,
-//! the debugger and the command line, as the program `trac` has them; and the parts below: machines and their records,
-//! plans of calls, forms, numbers, and lists with two ends.
+//! The processor as one library: sessions, which go forward and back; bytes followed to where they come from; whole
+//! runs, the debugger and the command line, as the program `trac` has them; and the parts below: machines and their
+//! records, plans of calls, forms, numbers, and lists with two ends.
 #![tactic(auto)]
 
 pub use trac_debug::debug;

@@ -16,6 +16,8 @@ mod following;
 #[cfg(test)]
 mod logs;
 #[cfg(test)]
+mod memory;
+#[cfg(test)]
 mod printed;
 #[cfg(test)]
 mod programs;

@@ -10,11 +10,14 @@ fn line_of(alloc: Global, words: &[&str]) -> Result<Line, AllocError> {
     read_line(alloc, words)
 }
 
-// Whether a line asks for a run, or for the debugger over the file of this path, with these options.
+// Whether a line asks for a run, or for the debugger over the file of this path, with these options, and says nothing
+// of memory.
 fn asks_for(line: &Line, file: Option<&str>, options: Options) -> bool {
     match line {
-        Line::Run(met) => file.is_none() && *met == options,
-        Line::Debug(path, met) => file == Some(path.as_str()) && *met == options,
+        Line::Run(met, memory) => file.is_none() && *met == options && memory.is_none(),
+        Line::Debug(path, met, memory) => {
+            file == Some(path.as_str()) && *met == options && memory.is_none()
+        }
         _ => false,
     }
 }
@@ -98,6 +101,32 @@ fn options_asked_for(rt: HostRuntime) -> Result<(), Fail> {
     Ok(())
 }
 
+// How much memory a line allows a run, if it says so.
+fn memory_of(line: &Line) -> Option<u64> {
+    match line {
+        Line::Run(_, memory) | Line::Debug(_, _, memory) => *memory,
+        _ => None,
+    }
+}
+
+// Sizes of memory, and how many bytes they are.
+const SIZES: &[(&str, u64)] = &[
+    ("1048576", 1_048_576),
+    ("1024K", 1_048_576),
+    ("64M", 67_108_864),
+    ("3g", 3_221_225_472),
+    ("1024G", 1_099_511_627_776),
+];
+
+#[test]
+fn memory_asked_for(rt: HostRuntime) -> Result<(), Fail> {
+    for (size, bytes) in SIZES.iter() {
+        let line = line_of(rt.alloc(), &["trac", "run", "--memory", *size])?;
+        assert!(rt; memory_of(&line) == Some(*bytes), "{size} is {bytes} bytes");
+    }
+    Ok(())
+}
+
 // Whether a line shows help or the version.
 fn is_help(line: &Line) -> bool {
     match line {
@@ -127,6 +156,7 @@ const BAD: &[&[&str]] = &[
     &["trac", "run", "--journal", "0"],
     &["trac", "run", "--journal", "1048577"],
     &["trac", "run", "--decimals", "65"],
+    &["trac", "run", "--memory", "1023K"],
     &["trac", "run", "x"],
     &["trac", "debug"],
 ];

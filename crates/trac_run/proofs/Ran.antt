@@ -12,7 +12,7 @@ use Rattle.trac_streams.specs.declared.ending.Ending.{Ending}
 use Rattle.trac_streams.specs.declared.ending.Ending.TheVariants.{Ended, Budget, Limit, Memory, Read, Write, NotUnderstood}
 use Rattle.trac_rules.specs.Fronts.{IsFrontOf}
 use Rattle.trac_streams.specs.Written.{Closes}
-use Rattle.trac_run.specs.Runs.{Shows, Runs, RunsBy, FeedsSteps, IsFresh, GoesOn, Finishes, most_read, most_reads, unread_count}
+use Rattle.trac_run.specs.Runs.{Shows, Runs, RunsAnew, RunsBy, FeedsSteps, IsFresh, GoesOn, Finishes, most_read, most_reads, unread_count}
 use Rattle.trac_streams.specs.Reading.{end_reads}
 use Rattle.trac_streams.proofs.Gathered.{end_reads_one}
 use Rattle.trac_streams.proofs.Known.{Appends-nothing, Consumes-nothing, front_after, front_of_nothing, empty_front}
@@ -101,7 +101,7 @@ Shows-prepended (NotUnderstood line) text written o shows = absurd shows
 -- the last turn
 pub ran : (in_old in_now in_new out_old out_now out_new : Option (List ℕ)) (width : Width) (budget : ℕ) (start p : PlainSession) (m n reads_now reads_new : ℕ) (ending : Ending) →
     SoFar in_old in_now out_old out_now width budget start p m reads_now → Finishes in_now in_new out_now out_new reads_now reads_new p m n ending → n ≤ m →
-    RunsBy in_old in_new out_old out_new (output_of width) budget (budget - n) reads_new ending
+    RunsBy in_old in_new out_old out_new width budget (budget - n) reads_new ending
 ran in_old in_now in_new out_old out_now out_new width budget start p m n reads_now reads_new ending far last fewer =
     let one = far.on.moved in
     let two = last.moved in
@@ -150,7 +150,7 @@ ran_steps in_old in_now in_new out_old out_now width budget start p q m n reads 
 
 -- a run that did not begin for want of memory
 pub ran_not : (input : Option (List ℕ)) (out_old out_new : Option (List ℕ)) (text : List ℕ) (width : Width) (budget : ℕ) (result : Ending) → text ≡ [] → Closes out_old out_new text Memory result →
-    Runs input input out_old out_new (output_of width) budget result
+    Runs input input out_old out_new width budget result
 ran_not input out_old out_new text width budget result none closes =
     let nothing : closes.written ≡ [] = empty_front closes.written text closes.front none in
     record {
@@ -174,3 +174,24 @@ ran_not input out_old out_new text width budget result none closes =
 -- a new session is new by its own limit and width
 pub new_by_itself : (limit : ℕ) (width : Width) (p : PlainSession) → p ≡ new_session limit width → p ≡ new_session p.limit p.width
 new_by_itself limit width p made = made ∙ sym (ap (λ (s : PlainSession). new_session s.limit s.width) made)
+
+-- it took no steps
+pub ran_not_anew : (input : Option (List ℕ)) (out_old out_new : Option (List ℕ)) (text : List ℕ) (journal : ℕ) (width : Width) (budget : ℕ) (result : Ending) → text ≡ [] → Closes out_old out_new text Memory result →
+    RunsAnew input input out_old out_new journal width budget result
+unfolding ran_not
+ran_not_anew input out_old out_new text journal width budget result none closes = record {
+  runs = ran_not input out_old out_new text width budget result none closes;
+  session = new_session journal width;
+  feeds = feeds_none input (new_session journal width) (new_session journal width) refl;
+}
+
+-- a run from a new session
+pub ran_anew : {in_old in_new out_old out_new : Option (List ℕ)} (journal : ℕ) (width : Width) (budget steps reads : ℕ) (start q : PlainSession) (ending : Ending) → start ≡ new_session journal width →
+    RunsBy in_old in_new out_old out_new start.width budget steps reads ending → FeedsSteps in_old in_new steps start q → RunsAnew in_old in_new out_old out_new journal width budget ending
+ran_anew {in_old} {in_new} {out_old} {out_new} journal width budget steps reads start q ending made by feeds =
+    let here : start ≡ new_session journal start.width = made ∙ ap (λ (s : PlainSession). new_session journal s.width) (sym made) in
+    subst (λ w. RunsAnew in_old in_new out_old out_new journal w budget ending) (ap (λ (s : PlainSession). s.width) made) (record {
+      runs = by.runs;
+      session = q;
+      feeds = subst (λ n. FeedsSteps in_old in_new n (new_session journal start.width) q) (sym by.taken) (subst (λ p. FeedsSteps in_old in_new steps p q) here feeds);
+    })

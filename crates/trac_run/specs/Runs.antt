@@ -5,9 +5,11 @@ use Rattle.std.specs.Io.KnownBytes.{Appends, Consumes, IsAtEnd}
 use Rattle.trac_rules.specs.declared.limit.TheConstants.{TEXT_LIMIT, TAPE_LIMIT}
 use Rattle.trac_rules.specs.declared.refusal.Refusal.{Refusal}
 use Rattle.trac_rules.specs.declared.refusal.Refusal.TheVariants as refusals
-use Rattle.trac_rules.specs.Session.{PlainSession, Command, Feed, End, Step, Back, done, refused, answer}
-use Rattle.trac_rules.specs.Running.{Output, BudgetSpent, InputEnded, LimitPassed}
+use Rattle.trac_rules.specs.Session.{PlainSession, Command, Feed, End, Step, Back, done, new_session, refused, answer}
+use Rattle.trac_rules.specs.declared.width.Width.{Width}
+use Rattle.trac_rules.specs.Running.{Output, BudgetSpent, InputEnded, LimitPassed, output_of}
 use Rattle.trac_rules.specs.GoingOn.{prepended, going_on_from}
+use Rattle.trac_session.specs.Outputs.{Prints}
 use Rattle.trac_streams.specs.declared.ending.Ending.{Ending}
 use Rattle.trac_streams.specs.declared.input.TheConstants.{READ_SIZE}
 use Rattle.trac_streams.specs.declared.ending.Ending.TheVariants.{Ended, Budget, Limit, Memory, Read, Write}
@@ -41,13 +43,13 @@ Shows (NotUnderstood line) written o = ⊥
 abbrev pub most_read : ℕ → ℕ
 most_read steps = steps * TAPE_LIMIT + (TAPE_LIMIT + READ_SIZE)
 
--- a run read some bytes, and perhaps saw the end of the input, and wrote some. `stated` is the output that is stated
--- for an input and a budget. However the input goes on after what was read (not at all if the end was seen), what was
--- written is a front of the output that is stated for all of it. The ending of the run is the stated one if it is not a
--- fault or want of memory: all is written then. The run took so many steps within its budget, and read no more than
--- they may. Unless the writer failed, it wrote just what they print: a run with these steps for its budget writes that
-pub record Runs (in_old in_new out_old out_new : Option (List ℕ)) (stated : List ℕ → ℕ → Output) (budget : ℕ)
-    (ending : Ending) : Type 0 where
+-- a run with numbers of this width read some bytes, and perhaps saw the end of the input, and wrote some. However the
+-- input goes on after what was read (not at all if the end was seen), what was written is a front of the output that is
+-- stated for all of it and the budget. The ending of the run is the stated one if it is not a fault or want of memory:
+-- all is written then. The run took so many steps within its budget, and read no more than they may. Unless the writer
+-- failed, it wrote just what they print
+pub record Runs (in_old in_new out_old out_new : Option (List ℕ)) (width : Width) (budget : ℕ) (ending : Ending)
+    : Type 0 where
   pub got : List ℕ
   pub written : List ℕ
   pub saw_end : Bool
@@ -57,10 +59,12 @@ pub record Runs (in_old in_new out_old out_new : Option (List ℕ)) (stated : Li
   pub took : Consumes in_old in_new got
   pub gave : Appends out_old out_new written
   pub at_end : saw_end ≡ true → IsAtEnd in_new
-  pub front : (more : List ℕ) → (saw_end ≡ true → more ≡ []) → IsFrontOf written (stated (got ++ more) budget).bytes
-  pub shows : (more : List ℕ) → (saw_end ≡ true → more ≡ []) → Shows ending written (stated (got ++ more) budget)
+  pub front : (more : List ℕ) → (saw_end ≡ true → more ≡ []) →
+      IsFrontOf written (output_of width (got ++ more) budget).bytes
+  pub shows : (more : List ℕ) → (saw_end ≡ true → more ≡ []) →
+      Shows ending written (output_of width (got ++ more) budget)
   pub exact : (ending ≡ Write → ⊥) → (more : List ℕ) → (saw_end ≡ true → more ≡ []) →
-      stated (got ++ more) steps ≡ record { bytes = written; stop = BudgetSpent }
+      Prints width (got ++ more) steps written
 
 -- ---- what a run did
 
@@ -70,9 +74,9 @@ most_reads steps = (steps + 1) * (TAPE_LIMIT + 1)
 
 -- a run, of which what it did is counted: it took so many steps, and read just so often, by one read for each byte at
 -- most and one that gave nothing
-pub record RunsBy (in_old in_new out_old out_new : Option (List ℕ)) (stated : List ℕ → ℕ → Output)
-    (budget steps reads : ℕ) (ending : Ending) : Type 0 where
-  pub runs : Runs in_old in_new out_old out_new stated budget ending
+pub record RunsBy (in_old in_new out_old out_new : Option (List ℕ)) (width : Width) (budget steps reads : ℕ)
+    (ending : Ending) : Type 0 where
+  pub runs : Runs in_old in_new out_old out_new width budget ending
   pub taken : runs.steps ≡ steps
   pub counted : CountsReads reads runs.got runs.saw_end ending
   pub few_reads : reads ≤ most_reads steps
@@ -117,6 +121,14 @@ fed_by (command ∷ commands) = fed_by commands
 pub record FeedsSteps (in_old in_new : Option (List ℕ)) (steps : ℕ) (p q : PlainSession) : Type 0 where
   pub takes : TakesSteps steps p q
   pub took : Consumes in_old in_new (fed_by takes.commands)
+
+-- a whole run: its session began new, and may keep so many states. What was read is what was fed to it while the next
+-- of its steps waited for input: so no byte was read once the program halted
+pub record RunsAnew (in_old in_new out_old out_new : Option (List ℕ)) (journal : ℕ) (width : Width) (budget : ℕ)
+    (ending : Ending) : Type 0 where
+  pub runs : Runs in_old in_new out_old out_new width budget ending
+  pub session : PlainSession
+  pub feeds : FeedsSteps in_old in_new runs.steps (new_session journal width) session
 
 -- ---- parts of a run
 

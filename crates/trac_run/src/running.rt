@@ -3,10 +3,10 @@ ghost use Rattle.std.specs.Prelude.{◌≡◌, ℕ, ◌+◌, ◌-◌, ◌*◌, �
 ghost use Rattle.std.specs.Prelude.{OnOk, IfOk, IfErr};
 ghost use Rattle.std.specs.Io.KnownBytes.{Appends, IsAtEnd};
 ghost use Rattle.trac_rules.specs.Session.{PlainSession, Feed, Step, Commit, done, new_session, refused, answer};
-ghost use Rattle.trac_rules.specs.Running.{output_of};
 ghost use Rattle.trac_streams.specs.Written.{WritesFront};
-ghost use Rattle.trac_run.specs.Runs.{Runs, RunsBy, FeedsSteps, TakesSteps, most_reads, ending_of_feed as ending_of};
-ghost use Rattle.trac_run.specs.Runs.{IsFresh, GoesOn, Finishes, TakesMore, TakesNone, StillWaits, turns_left};
+ghost use Rattle.trac_run.specs.Runs.{RunsAnew, RunsBy, FeedsSteps, TakesSteps, ending_of_feed as ending_of};
+ghost use Rattle.trac_run.specs.Runs.{most_reads, IsFresh, GoesOn, Finishes, TakesMore, TakesNone, StillWaits};
+ghost use Rattle.trac_run.specs.Runs.{turns_left};
 
 use memchr::memchr;
 use std::alloc::Allocator;
@@ -41,8 +41,8 @@ pub struct RunReport {
 /// Runs what the reader gives, and writes what it prints, until the budget is spent, the input has ended, or a limit,
 /// memory, the reader or the writer ends it. Output is written and flushed before each read, and before the end.
 /// After a read fault it does not flush again. However it ends, unless the writer fails, it writes just what the steps
-/// print that it takes. Each read asks for at most 4,096 bytes. All of them together give no more than 33,554,432 for
-/// each of these steps, as many once more, and one read.
+/// print that it takes. No byte is read but while the next step waits for input. Each read asks for at most 4,096
+/// bytes. All of them together give no more than 33,554,432 for each of these steps, as many once more, and one read.
 pub fn run<R: Read, W: Write, A: Allocator + Copy>(
     alloc: A,
     input: &mut R,
@@ -53,8 +53,8 @@ pub fn run<R: Read, W: Write, A: Allocator + Copy>(
     requires most_steps { options.budget ≤ BUDGET_LIMIT }
     requires some_records { 1 ≤ options.journal }
     requires most_records { options.journal ≤ JOURNAL_LIMIT }
-    ensures { Runs (R.remaining input.old) (R.remaining input.new) (W.contents output.old) (W.contents output.new)
-        (output_of options.decimals) options.budget result }
+    ensures { RunsAnew (R.remaining input.old) (R.remaining input.new) (W.contents output.old) (W.contents output.new)
+        options.journal options.decimals options.budget result }
 {
     let Ok(mut session) = Session::new(alloc, options.journal, options.decimals) else {
         return finish(output, &[], Ending::Memory);
@@ -77,7 +77,7 @@ pub fn run_session<R: Read, W: Write, A: Allocator + Copy>(
     requires most_steps { budget ≤ BUDGET_LIMIT }
     ensures runs { RunsBy (R.remaining input.old)
         (R.remaining input.new) (W.contents output.old) (W.contents output.new)
-        (output_of session.old.width) budget result.steps result.reads result.ending }
+        session.old.width budget result.steps result.reads result.ending }
     ensures within { result.steps ≤ budget }
     ensures steps { TakesSteps result.steps session.old session.new }
     ensures feeds { FeedsSteps (R.remaining input.old) (R.remaining input.new) result.steps session.old session.new }

@@ -12,3 +12,4 @@ pub mod Heavy
 pub mod Returned
 pub mod Looked
 pub mod Doubted
+pub mod Released

@@ -7,5 +7,6 @@ pub mod Returns
 pub mod Directions
 pub mod Within
 pub mod Runs
+pub mod Outputs
 -- How proofs store these values.
 pub mod Codes

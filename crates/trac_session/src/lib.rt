@@ -5,6 +5,7 @@
 mod commands;
 mod doubts;
 pub mod goal;
+pub mod outputs;
 mod passing;
 pub mod session;
 mod walk;

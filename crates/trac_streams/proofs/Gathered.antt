@@ -11,17 +11,46 @@ use Rattle.trac_streams.specs.declared.lines.NextLine.{NextLine}
 use Rattle.trac_streams.specs.declared.lines.NextLine.TheVariants.{Part}
 use Rattle.trac_streams.specs.declared.lines.TheConstants.{LINE_LIMIT}
 use Rattle.trac_streams.specs.Pending.{Pending}
-use Rattle.trac_streams.specs.Reading.{Gathers, GathersBy, HELD_LIMIT, IsFront, MayFail, FailsBy, ReadsMore, CameBy, CountsReads, end_reads, fault_reads, empty_reads}
+use Rattle.trac_streams.specs.Reading.{AreInLine, Gathers, GathersBy, HELD_LIMIT, IsFront, LastRead, MayFail, FailsBy, ReadsMore, CameBy, CountsReads, end_reads, fault_reads, empty_reads}
 
--- no more is held after two parts than after the last that gave any
-few_of_both : (got more mid new : List ℕ) → new ≡ mid ++ more → (got ≡ []) ⊎ (length mid ≤ HELD_LIMIT) → (more ≡ []) ⊎ (length new ≤ HELD_LIMIT) → (got ++ more ≡ []) ⊎ (length new ≤ HELD_LIMIT)
-few_of_both got more mid new is first second = ⊎_elim
-    (λ (none : more ≡ []). ⊎_elim
-    (λ (nothing : got ≡ []). inl (ap (λ g. g ++ more) nothing ∙ none))
-    (λ (few : length mid ≤ HELD_LIMIT). inr (omega (arith, few, ap length is, length-append mid more, ap length none)))
-    first)
-    (λ (few : length new ≤ HELD_LIMIT). inr few)
-    second
+-- a text that goes on has gone on before
+pub open_before : (a b : Option (List ℕ)) (old mid : Pending) → Gathers a b old mid → mid.ended ≡ false → old.ended ≡ false
+open_before a b old mid first on = ⊎_elim
+    (λ (over : old.ended ≡ true). absurd (false≢true (sym on ∙ (first.closed over).1)))
+    (λ (open_ : old.ended ≡ false). open_)
+    (cases_Bool old.ended)
+
+-- what stood there before a later read
+part_before : (a b : Option (List ℕ)) (old mid : Pending) (before : List ℕ) → (first : Gathers a b old mid) → IsFront (mid.bytes ++ before) mid.ended Part → IsFront (old.bytes ++ (first.got ++ before)) old.ended Part
+part_before a b old mid before first part =
+    let all : mid.bytes ++ before ≡ old.bytes ++ (first.got ++ before) = ap (λ t. t ++ before) first.bytes ∙ append_assoc old.bytes first.got before in
+    subst (λ t. IsFront t old.ended Part) all (open_before a b old mid first part.0, part.1, part.2)
+
+-- a line was being read before the reads of one part, and of the next
+in_line_both : (a b : Option (List ℕ)) (old mid : Pending) (saw_end : Bool) (more : List ℕ) → (first : Gathers a b old mid) → AreInLine mid saw_end more → AreInLine old saw_end (first.got ++ more)
+in_line_both a b old mid saw_end more first (inl none) =
+    subst (λ g. AreInLine old saw_end g) (sym (ap (λ g. first.got ++ g) none.0 ∙ append-nil first.got))
+    (subst (λ over. AreInLine old over first.got) (sym none.1) first.in_line)
+in_line_both a b old mid saw_end more first (inr last) = inr (record {
+  before = first.got ++ last.before;
+  piece = last.piece;
+  all = ap (λ g. first.got ++ g) last.all ∙ sym (append_assoc first.got last.before last.piece);
+  few = last.few;
+  part = part_before a b old mid last.before first last.part;
+  at_end = last.at_end;
+})
+
+-- before the only read
+part_alone : (bytes : List ℕ) (ended : Bool) → IsFront bytes ended Part → IsFront (bytes ++ []) ended Part
+part_alone bytes ended part = subst (λ t. IsFront t ended Part) (sym (append-nil bytes)) part
+
+-- no more is held after reads than may be
+pub few_held : (a b : Option (List ℕ)) (old new : Pending) → (read : Gathers a b old new) → (read.got ≡ []) ⊎ (length new.bytes ≤ HELD_LIMIT)
+few_held a b old new read = ⊎_elim
+    (λ (none : (read.got ≡ []) × (new.ended ≡ old.ended)). inl none.0)
+    (λ (last : LastRead old new.ended read.got).
+    inr (omega (arith, ap length read.bytes, length-append old.bytes read.got, ap length last.all, length-append last.before last.piece, last.few, last.part.1, length-append old.bytes last.before)))
+    read.in_line
 
 -- one read more
 pub gathers_more : (a b c : Option (List ℕ)) (old mid new : Pending) → Gathers a b old mid → Gathers b c mid new → Gathers a c old new
@@ -34,7 +63,7 @@ gathers_more a b c old mid new first second = record {
       let two = second.closed one.1 in
       (ap (λ t. t ++ second.got) one.0 ∙ two.0, two.1);
   at_end = second.at_end;
-  few = few_of_both first.got second.got mid.bytes new.bytes second.bytes first.few second.few;
+  in_line = in_line_both a b old mid new.ended second.got first second.in_line;
 }
 
 -- ---- how many reads there were
@@ -104,7 +133,7 @@ gathers_by_none a k old at_end = record {
     bytes = sym (append-nil old.bytes);
     closed = λ over. (refl, over);
     at_end = at_end;
-    few = inl refl;
+    in_line = inl (refl, refl);
   };
   full = 0;
   came = came_by_none;
@@ -117,12 +146,13 @@ few_gathered a b k l old new read = ⊎_elim
     (λ (none : read.gathers.got ≡ []). omega (arith, read.came.0, ap length none, read.counted, end_reads_one new.ended))
     (λ (few : length new.bytes ≤ HELD_LIMIT).
     omega (arith, read.came.0, ap length read.gathers.bytes, length-append old.bytes read.gathers.got, few, read.counted, end_reads_one new.ended))
-    read.gathers.few
+    (few_held a b old new read.gathers)
 
 -- the end, by one read
-pub reads_end : (a b : Option (List ℕ)) (k : ℕ) (old new : Pending) (buffer : List ℕ) (n : ℕ) → old.ended ≡ false → n ≡ 0 → Consumes a b (take n buffer) → IsAtEnd b →
+pub reads_end : (a b : Option (List ℕ)) (k : ℕ) (old new : Pending) (buffer : List ℕ) (n : ℕ) → IsFront old.bytes old.ended Part → n ≡ 0 → Consumes a b (take n buffer) → IsAtEnd b →
     new ≡ record old { ended = true } → ReadsMore a b k (k + 1) old new
-reads_end a b k old new buffer n open_ none took end same =
+reads_end a b k old new buffer n part none took end same =
+    let open_ : old.ended ≡ false = part.0 in
     let ended : new.ended ≡ true = ap (λ (p : Pending). p.ended) same in
     let bytes : new.bytes ≡ old.bytes = ap (λ (p : Pending). p.bytes) same in
     record {
@@ -133,7 +163,7 @@ reads_end a b k old new buffer n open_ none took end same =
           bytes = bytes ∙ sym (append-nil old.bytes);
           closed = λ over. absurd (false≢true (sym open_ ∙ over));
           at_end = λ _. end;
-          few = inl refl;
+          in_line = inr (record { before = []; piece = []; all = refl; few = omega arith; part = part_alone old.bytes old.ended part; at_end = λ _. refl });
         };
         full = 0;
         came = came_by_none;
@@ -143,9 +173,10 @@ reads_end a b k old new buffer n open_ none took end same =
     }
 
 -- more bytes, by one read
-pub reads_bytes : (a b : Option (List ℕ)) (k : ℕ) (old new : Pending) (buffer : List ℕ) (n : ℕ) → old.ended ≡ false → length old.bytes ≤ LINE_LIMIT + 1 → 0 < n → n ≤ length buffer → length buffer ≤ 4096 →
+pub reads_bytes : (a b : Option (List ℕ)) (k : ℕ) (old new : Pending) (buffer : List ℕ) (n : ℕ) → IsFront old.bytes old.ended Part → 0 < n → n ≤ length buffer → length buffer ≤ 4096 →
     Consumes a b (take n buffer) → new ≡ record old { bytes = old.bytes ++ take n buffer } → ReadsMore a b k (k + 1) old new
-reads_bytes a b k old new buffer n open_ short some within size took same =
+reads_bytes a b k old new buffer n part some within size took same =
+    let open_ : old.ended ≡ false = part.0 in
     let ended : new.ended ≡ false = ap (λ (p : Pending). p.ended) same ∙ open_ in
     let bytes : new.bytes ≡ old.bytes ++ take n buffer = ap (λ (p : Pending). p.bytes) same in
     let longer : length new.bytes ≡ length old.bytes + length (take n buffer) = ap length bytes ∙ length-append old.bytes (take n buffer) in
@@ -158,7 +189,14 @@ reads_bytes a b k old new buffer n open_ short some within size took same =
           bytes = bytes;
           closed = λ over. absurd (false≢true (sym open_ ∙ over));
           at_end = λ over. absurd (false≢true (sym ended ∙ over));
-          few = inr (omega (arith, longer, short, came.1));
+          in_line = inr (record {
+            before = [];
+            piece = take n buffer;
+            all = refl;
+            few = omega (arith, came.1);
+            part = part_alone old.bytes old.ended part;
+            at_end = λ over. absurd (false≢true (sym ended ∙ over));
+          });
         };
         full = 1;
         came = came;
@@ -169,88 +207,49 @@ reads_bytes a b k old new buffer n open_ short some within size took same =
 
 -- ---- reads that fail
 
--- what stays as it was has nothing more
-stands_same : (old new : Pending) → new ≡ old → new ≡ record old { bytes = old.bytes ++ [] }
-stands_same old new same = same ∙ ap (λ t. record old { bytes = t }) (sym (append-nil old.bytes))
-
 -- what a reader kept, nothing was read of
-Consumes-kept : (a b : Option (List ℕ)) → Keeps a b → Consumes a b []
+pub Consumes-kept : (a b : Option (List ℕ)) → Keeps a b → Consumes a b []
 Consumes-kept None b kept = tt
 Consumes-kept (Some xs) None kept = absurd kept
 Consumes-kept (Some xs) (Some ys) kept = sym kept
 
--- a read that failed
-pub fails_unread : (a b : Option (List ℕ)) (k : ℕ) (old : Pending) → old.ended ≡ false → length old.bytes ≤ LINE_LIMIT + 1 → Keeps a b → FailsBy a b k (k + 1) old old Read
-fails_unread a b k old open_ short kept = record {
-  fails = record {
-    kept = [];
-    lost = [];
-    took = Consumes-kept a b kept;
-    stands = stands_same old old refl;
-    fault = inr (refl, refl);
-    open_ = open_;
-    few = omega (arith, short);
-  };
-  full = 0;
-  came = came_by_none;
-  counted = omega arith;
-}
-
--- no memory for what a read gave
-pub fails_unkept : (a b : Option (List ℕ)) (k : ℕ) (old new : Pending) (buffer : List ℕ) (n : ℕ) → old.ended ≡ false → length old.bytes ≤ LINE_LIMIT + 1 → 0 < n → n ≤ length buffer → length buffer ≤ 4096 →
-    Consumes a b (take n buffer) → new ≡ old → FailsBy a b k (k + 1) old new Memory
-fails_unkept a b k old new buffer n open_ short some within size took same = record {
-  fails = record {
-    kept = [];
-    lost = take n buffer;
-    took = took;
-    stands = stands_same old new same;
-    fault = inl refl;
-    open_ = open_;
-    few = omega (arith, short, size, length-take-le n buffer within);
-  };
-  full = 1;
-  came = came_by_one buffer n some within size;
-  counted = omega arith;
-}
-
--- a text that goes on has gone on before
-open_before : (a b : Option (List ℕ)) (old mid : Pending) → Gathers a b old mid → mid.ended ≡ false → old.ended ≡ false
-open_before a b old mid first on = ⊎_elim
-    (λ (over : old.ended ≡ true). absurd (false≢true (sym on ∙ (first.closed over).1)))
-    (λ (open_ : old.ended ≡ false). open_)
-    (cases_Bool old.ended)
-
--- what was read before a failed read stands after what was there
-stands_later : (old mid new : Pending) (got kept : List ℕ) → mid.bytes ≡ old.bytes ++ got → old.ended ≡ false → mid.ended ≡ false →
-    new ≡ record mid { bytes = mid.bytes ++ kept } → new ≡ record old { bytes = old.bytes ++ (got ++ kept) }
-stands_later old mid new got kept is open_ on stands =
-    let bytes : mid.bytes ++ kept ≡ old.bytes ++ (got ++ kept) = ap (λ t. t ++ kept) is ∙ append_assoc old.bytes got kept in
-    stands ∙ ap (λ t. record mid { bytes = t }) bytes ∙ ap (λ (b : Bool). record { bytes = old.bytes ++ (got ++ kept); ended = b }) (on ∙ sym open_)
+-- a read that failed, or before which memory was refused: what was read stands
+pub fails_alone : (a b : Option (List ℕ)) (k l : ℕ) (old new : Pending) (ending : Ending) → IsFront old.bytes old.ended Part → Consumes a b [] → new ≡ old → (ending ≡ Memory) ⊎ (ending ≡ Read) →
+    l ≡ k + fault_reads ending → FailsBy a b k l old new ending
+fails_alone a b k l old new ending part took same fault reads =
+    let ended : new.ended ≡ false = ap (λ (p : Pending). p.ended) same ∙ part.0 in
+    record {
+      fails = record {
+        gathers = record {
+          got = [];
+          took = took;
+          bytes = ap (λ (p : Pending). p.bytes) same ∙ sym (append-nil old.bytes);
+          closed = λ over. absurd (false≢true (sym part.0 ∙ over));
+          at_end = λ over. absurd (false≢true (sym ended ∙ over));
+          in_line = inl (refl, ap (λ (p : Pending). p.ended) same);
+        };
+        part = subst (λ (p : Pending). IsFront p.bytes p.ended Part) (sym same) part;
+        fault = fault;
+      };
+      full = 0;
+      came = came_by_none;
+      counted = omega (arith, reads);
+    }
 
 -- a read that failed after others
 pub fails_later : (a b c : Option (List ℕ)) (old mid new : Pending) (ending : Ending) → Gathers a b old mid → MayFail b c mid new ending → MayFail a c old new ending
-fails_later a b c old mid new ending first failed = record {
-  kept = first.got ++ failed.kept;
-  lost = failed.lost;
-  fault = failed.fault;
-  open_ = open_before a b old mid first failed.open_;
-  took = subst (Consumes a c) (sym (append_assoc first.got failed.kept failed.lost)) (Consumes-both a b c first.got (failed.kept ++ failed.lost) first.took failed.took);
-  stands = stands_later old mid new first.got failed.kept first.bytes (open_before a b old mid first failed.open_) failed.open_ failed.stands;
-  few = omega (arith, failed.few, ap length first.bytes, length-append old.bytes first.got, ap length (append_assoc first.got failed.kept failed.lost), length-append first.got (failed.kept ++ failed.lost));
-}
+fails_later a b c old mid new ending first failed = record { gathers = gathers_more a b c old mid new first failed.gathers; part = failed.part; fault = failed.fault }
 
 -- the same, counted
 pub fails_by_later : (a b c : Option (List ℕ)) (k l m : ℕ) (old mid new : Pending) (ending : Ending) → GathersBy a b k l old mid → FailsBy b c l m mid new ending → FailsBy a c k m old new ending
-unfolding fails_later
+unfolding fails_later gathers_more
 fails_by_later a b c k l m old mid new ending first failed =
-    let open_ : old.ended ≡ false = open_before a b old mid first.gathers failed.fails.open_ in
+    let on : mid.ended ≡ false = open_before b c mid new failed.fails.gathers failed.fails.part.0 in
     record {
       fails = fails_later a b c old mid new ending first.gathers failed.fails;
       full = first.full + failed.full;
-      came = subst (CameBy (first.full + failed.full)) (sym (append_assoc first.gathers.got failed.fails.kept failed.fails.lost))
-          (came_by_both first.full failed.full first.gathers.got (failed.fails.kept ++ failed.fails.lost) first.came failed.came);
-      counted = omega (arith, first.counted, failed.counted, end_reads_open old.ended open_, end_reads_open mid.ended failed.fails.open_);
+      came = came_by_both first.full failed.full first.gathers.got failed.fails.gathers.got first.came failed.came;
+      counted = omega (arith, first.counted, failed.counted, end_reads_open old.ended (open_before a b old mid first.gathers on), end_reads_open mid.ended on);
     }
 
 -- ---- the turns

@@ -1,15 +1,15 @@
 -- Texts that are taken apart at line feeds and at spaces.
 use Rattle.std.proofs.Common.{◌≡◌, ℕ, zero, suc, ◌+◌, ◌-◌, ◌==◌, ◌<◌, ◌≤◌, Bool, true, false, List, [], ◌∷◌, ◌++◌, length, map, take, drop, get_or, refl, sym, ap, subst, ◌∙◌, arith, ⊎_elim}
-use Rattle.std.specs.Prelude.{nat_eq, Option, None, Some}
+use Rattle.std.specs.Prelude.{if◌then◌else◌, nat_eq, Option, None, Some}
 use Rattle.std.specs.List.{ends_with, onto_first, slice_split}
 use Rattle.std.proofs.Math.Seq.{drop-cons}
 use Rattle.std.proofs.lemmas.Bool.{cond-false, cond-true, cases_Bool, eqb-true, false_from_ne_true}
 use Rattle.std.proofs.lemmas.Bool.Decides.{nat_tests}
-use Rattle.std.proofs.lemmas.List.{append-nil, append_assoc, length-append, length-take, length-take-le, take_more, take-append-drop, take-take, take_all, drop_all}
+use Rattle.std.proofs.lemmas.List.{append-nil, append_assoc, length-append, length-map, length-take, length-take-le, take_more, take-append-drop, take-take, take_all, drop_all}
 use Rattle.memchr.specs.Find.{IsFirstByte, is_byte}
 use Rattle.trac_rules.specs.declared.byte.TheConstants.{CARRIAGE_RETURN, LINE_FEED}
 use Rattle.trac_streams.specs.declared.lines.TheConstants.{LINE_LIMIT}
-use Rattle.trac_streams.specs.Lines.{between_feeds, lines_of, without_return}
+use Rattle.trac_streams.specs.Lines.{between_feeds, feed_count, lines_of, without_return}
 use Rattle.trac_streams.specs.declared.lines.NextLine.TheVariants.{Line}
 use Rattle.trac_streams.specs.Reading.{HasNone, IsFront, IsPlace}
 
@@ -96,6 +96,28 @@ begins_line b [] more none =
 begins_line b (x ∷ bs) more none =
     let at = begins_line x bs more none.1 in
     (at.0, at.1, onto_line b ((x ∷ bs) ++ more) none.0 ∙ ap (onto_first b) at.2)
+
+-- ---- how many line feeds there are
+
+-- where none stands, none is counted
+pub no_feeds : (text : List ℕ) → HasNone is_feed text → feed_count text ≡ 0
+no_feeds [] none = refl
+no_feeds (b ∷ text) none = cond-false (is_feed b) (suc (feed_count text)) (feed_count text) none.0 ∙ no_feeds text none.1
+
+-- a line feed begins a line more, and another byte none
+one_more : (b : ℕ) (lines : List (List ℕ)) (n : ℕ) (feeds : Bool) → length lines ≡ n + 1 →
+    length (if feeds then [] ∷ lines else onto_first b lines) ≡ (if feeds then suc n else n) + 1
+one_more b [] n feeds is = absurd (omega arith)
+one_more b (line ∷ lines) n true is = omega arith
+one_more b (line ∷ lines) n false is = is
+
+between_feeds-count : (text : List ℕ) → length (between_feeds (text ++ LINE_FEED ∷ [])) ≡ feed_count text + 1
+between_feeds-count [] = refl
+between_feeds-count (b ∷ text) = one_more b (between_feeds (text ++ LINE_FEED ∷ [])) (feed_count text) (is_feed b) (between_feeds-count text)
+
+-- a text and one line feed more have a line for each line feed
+pub lines_of-count : (text : List ℕ) → length (lines_of (text ++ LINE_FEED ∷ [])) ≡ feed_count text + 1
+lines_of-count text = length-map (between_feeds (text ++ LINE_FEED ∷ [])) without_return ∙ between_feeds-count text
 
 -- ---- without the carriage return
 

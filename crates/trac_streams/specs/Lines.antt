@@ -2,6 +2,7 @@
 use Rattle.std.specs.Prelude.{ℕ, ◌-◌, ◌==◌, List, [], ◌∷◌, length, map, take, if◌then◌else◌, nat_eq, nat_le, Bool}
 use Rattle.std.specs.List.{ends_with, onto_first}
 use Rattle.trac_rules.specs.declared.byte.TheConstants.{CARRIAGE_RETURN, LINE_FEED}
+use Rattle.trac_rules.specs.Bytes.{count_of}
 use Rattle.trac_streams.specs.declared.lines.TheConstants.{LINE_LIMIT}
 
 -- what stands between line feeds. A line feed ends a line, and so does the end of the text; a line feed at the very end
@@ -17,6 +18,10 @@ without_return line = if ends_with nat_eq line (CARRIAGE_RETURN ∷ []) then tak
 -- the lines of a text
 abbrev pub lines_of : List ℕ → List (List ℕ)
 lines_of text = map without_return (between_feeds text)
+
+-- how many line feeds a text has
+abbrev pub feed_count : List ℕ → ℕ
+feed_count text = count_of LINE_FEED text
 
 -- whether a line has no more bytes than a line may have
 abbrev pub is_within : List ℕ → Bool

@@ -8,7 +8,7 @@ use Rattle.trac_streams.specs.declared.input.TheConstants.{READ_SIZE}
 use Rattle.trac_streams.specs.declared.lines.NextLine.{NextLine}
 use Rattle.trac_streams.specs.declared.lines.NextLine.TheVariants.{Line, TooLong, Part, End}
 use Rattle.trac_streams.specs.declared.lines.TheConstants.{LINE_LIMIT}
-use Rattle.trac_streams.specs.Lines.{lines_of}
+use Rattle.trac_streams.specs.Lines.{feed_count, lines_of}
 use Rattle.trac_streams.specs.Pending.{Pending}
 
 -- so many bytes are read and not taken yet at most: no more is read once a line is too long
@@ -23,7 +23,7 @@ IsFront bytes ended (Line len whole) = (len ≤ length bytes) × (whole ≤ leng
     lines_of (bytes ++ more) ≡ take len bytes ∷ lines_of (drop whole bytes ++ more)) × (whole ≤ len + 2)
 IsFront bytes ended TooLong = (more : List ℕ) →
     (line : List ℕ) × (rest : List (List ℕ)) × (LINE_LIMIT < length line) × (lines_of (bytes ++ more) ≡ line ∷ rest)
-IsFront bytes ended Part = (ended ≡ false) × (length bytes ≤ LINE_LIMIT + 1)
+IsFront bytes ended Part = (ended ≡ false) × (length bytes ≤ LINE_LIMIT + 1) × (feed_count bytes ≡ 0)
 IsFront bytes ended End = (ended ≡ true) × (bytes ≡ [])
 
 -- not a part of a line
@@ -72,26 +72,35 @@ CountsReads reads got saw_end ending = (full : ℕ) × CameBy full got × (reads
 
 -- ---- what reads do
 
--- the reader gave some bytes, which came after those that were there, and no more than may be held;
--- and perhaps its end was seen
+-- the last of the reads that gave this in all, after the bytes that were there: a line was still being read before it,
+-- as what stood there was no whole line yet, and not too long. It gave this piece, and nothing if it saw the end
+pub record LastRead (old : Pending) (saw_end : Bool) (got : List ℕ) : Type 0 where
+  pub before : List ℕ
+  pub piece : List ℕ
+  pub all : got ≡ before ++ piece
+  pub few : length piece ≤ READ_SIZE
+  pub part : IsFront (old.bytes ++ before) old.ended Part
+  pub at_end : saw_end ≡ true → piece ≡ []
+
+-- a line was still being read before each read: so it was before the last of them, if there was one
+abbrev pub AreInLine : Pending → Bool → List ℕ → Type 0
+AreInLine old saw_end got = ((got ≡ []) × (saw_end ≡ old.ended)) ⊎ LastRead old saw_end got
+
+-- the reader gave some bytes, which came after those that were there, and perhaps its end was seen. Before each read a
+-- line was still being read
 pub record Gathers (in_old in_new : Option (List ℕ)) (old new : Pending) : Type 0 where
   pub got : List ℕ
   pub took : Consumes in_old in_new got
   pub bytes : new.bytes ≡ old.bytes ++ got
   pub closed : old.ended ≡ true → (got ≡ []) × (new.ended ≡ true)
   pub at_end : new.ended ≡ true → IsAtEnd in_new
-  pub few : (got ≡ []) ⊎ (length new.bytes ≤ HELD_LIMIT)
+  pub in_line : AreInLine old new.ended got
 
--- a read failed, or there was no memory for what it gave; the end was not seen. What earlier reads gave came after the
--- bytes that were there, and what the last one gave is lost: nothing, if it failed
+-- a read failed, or memory was refused before one. What earlier reads gave was gathered, and is not a whole line yet
 pub record MayFail (in_old in_new : Option (List ℕ)) (old new : Pending) (ending : Ending) : Type 0 where
-  pub kept : List ℕ
-  pub lost : List ℕ
-  pub took : Consumes in_old in_new (kept ++ lost)
-  pub stands : new ≡ record old { bytes = old.bytes ++ kept }
-  pub fault : (ending ≡ Memory) ⊎ ((ending ≡ Read) × (lost ≡ []))
-  pub open_ : old.ended ≡ false
-  pub few : length old.bytes + length (kept ++ lost) ≤ HELD_LIMIT
+  pub gathers : Gathers in_old in_new old new
+  pub part : IsFront new.bytes new.ended Part
+  pub fault : (ending ≡ Memory) ⊎ (ending ≡ Read)
 
 -- bytes were gathered, and the reads counted
 pub record GathersBy (in_old in_new : Option (List ℕ)) (reads_old reads_new : ℕ) (old new : Pending) : Type 0 where
@@ -106,10 +115,10 @@ pub record ReadsMore (in_old in_new : Option (List ℕ)) (reads_old reads_new : 
   pub more : ((new.ended ≡ true) × (new.bytes ≡ old.bytes))
       ⊎ ((new.ended ≡ false) × (length old.bytes < length new.bytes))
 
--- a read failed or its bytes were lost, and the reads are counted, that one too
+-- the same, and the reads are counted, one that failed too
 pub record FailsBy
     (in_old in_new : Option (List ℕ)) (reads_old reads_new : ℕ) (old new : Pending) (ending : Ending) : Type 0 where
   pub fails : MayFail in_old in_new old new ending
   pub full : ℕ
-  pub came : CameBy full (fails.kept ++ fails.lost)
+  pub came : CameBy full fails.gathers.got
   pub counted : reads_new ≡ reads_old + full + fault_reads ending

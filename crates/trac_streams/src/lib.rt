@@ -21,4 +21,4 @@ pub use input::{READ_SIZE, read_tape};
 pub use laws::sizes_are_as_stated;
 pub use lines::{LINE_COUNT_LIMIT, LINE_LIMIT, Lines, NextLine, READ_COUNT_LIMIT};
 pub use options::{BUDGET_LIMIT, DEFAULT_BUDGET, Options, decimals_of, is_in_range};
-pub use system::{say, tape_in};
+pub use system::say;

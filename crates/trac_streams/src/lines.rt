@@ -3,6 +3,7 @@ ghost use Rattle.std.specs.Prelude.{◌≡◌, ◌+◌, ◌*◌, ◌++◌, ◌<�
 ghost use Rattle.std.specs.Prelude.{IfOk, IfErr, OnOk};
 ghost use Rattle.std.specs.Io.KnownBytes.{IsAtEnd};
 ghost use Rattle.trac_streams.specs.Lines.{without_return};
+ghost use Rattle.trac_streams.specs.declared.lines.NextLine.TheVariants.{Part};
 ghost use Rattle.trac_streams.specs.Reading.{IsFront, IsWhole, Gathers, GathersBy, ReadsMore, MayFail, FailsBy};
 
 use crate::ending::Ending;
@@ -79,8 +80,8 @@ impl<A: Allocator + Copy> Lines<A> {
     /// What stands at the front of the text, after as many reads as it takes to see a whole line, or that it is too
     /// long, or the end; each read asks for at most 4,096 bytes.
     ///
-    /// `Ending::Read`: the reader failed. `Ending::Memory`: memory was refused. What was there stands then, with what
-    /// was read before the last read, and what that one gave is lost.
+    /// `Ending::Read`: the reader failed. `Ending::Memory`: memory was refused, before a read. All that was read stands
+    /// then, and is not a whole line yet.
     pub fn seek<R: Read>(&mut self, input: &mut R) -> Result<NextLine, Ending>
         requires at_end { self.old.ended ≡ true → IsAtEnd (R.remaining input.old) }
         ensures front { IfOk result (IsFront self.new.bytes self.new.ended) }
@@ -119,8 +120,7 @@ impl<A: Allocator + Copy> Lines<A> {
 
     /// Whether there is any byte more, after one read if that is needed. The read is added to a count.
     ///
-    /// `Ending::Read`: the reader failed. `Ending::Memory`: memory was refused. As after a refused
-    /// `seek`, what was there stands.
+    /// `Ending::Read`: the reader failed. `Ending::Memory`: memory was refused, before the read.
     pub fn has_more<R: Read>(&mut self, input: &mut R, reads: &mut u64) -> Result<bool, Ending>
         requires at_end { self.old.ended ≡ true → IsAtEnd (R.remaining input.old) }
         requires few_reads { reads.old ≤ READ_COUNT_LIMIT }
@@ -167,16 +167,20 @@ impl<A: Allocator + Copy> Lines<A> {
         self.bytes.as_slice().split_at(self.taken).1
     }
 
-    // Reads once, and counts it: more bytes, or the end.
+    // Reads once, and counts it: more bytes, or the end. It takes memory before it reads, so that no byte is lost.
     fn read_more<R: Read>(&mut self, input: &mut R, reads: &mut u64) -> Result<(), Ending>
-        requires open_ { self.old.ended ≡ false }
-        requires short { length self.old.bytes ≤ LINE_LIMIT + 1 }
+        requires part { IsFront self.old.bytes self.old.ended Part }
         requires few_reads { reads.old ≤ 2 * READ_COUNT_LIMIT }
         ensures more { OnOk result
             (ReadsMore (R.remaining input.old) (R.remaining input.new) reads.old reads.new self.old self.new) }
         ensures failed { IfErr result
             (FailsBy (R.remaining input.old) (R.remaining input.new) reads.old reads.new self.old self.new) }
     {
+        drop_front(&mut self.bytes, self.taken);
+        self.taken = 0;
+        let Ok(()) = self.bytes.reserve(READ_SIZE) else {
+            return Err(Ending::Memory);
+        };
         let mut bytes = [0; READ_SIZE];
         *reads += 1;
         let Ok(count) = input.read(&mut bytes) else {
@@ -186,10 +190,8 @@ impl<A: Allocator + Copy> Lines<A> {
             self.ended = true;
             return Ok(());
         }
-        drop_front(&mut self.bytes, self.taken);
-        self.taken = 0;
         let Ok(()) = self.bytes.extend_from_slice(&bytes[..count]) else {
-            return Err(Ending::Memory);
+            unreachable!()
         };
         Ok(())
     }

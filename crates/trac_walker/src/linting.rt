@@ -4,8 +4,10 @@ use crate::{MIB, not_understood};
 use std::alloc::{AllocError, Global};
 use std::process::ExitCode;
 use trac_lint::{Found, Halt, Settings, Sources, lint};
-use trac_streams::{Ending, tape_in};
+use trac_memory::{Limited, limit_in, tape_in};
+use trac_streams::Ending;
 use trac_words::lint_words::{LintLine, read_lint_line};
+use trac_words::names::{legible, shown};
 
 // What is said if memory was refused.
 const NO_MEMORY: &str = "there is no memory";
@@ -26,6 +28,7 @@ pub(crate) fn lint_by(rt: &HostRuntime, words: &[&str]) -> ExitCode {
                 steps,
                 keep,
                 decimals,
+                memory,
             },
         ) => {
             let settings = Settings {
@@ -37,7 +40,8 @@ pub(crate) fn lint_by(rt: &HostRuntime, words: &[&str]) -> ExitCode {
                 Some(path) => Some(path.as_str()),
                 None => None,
             };
-            ExitCode::from(lint_all(rt, paths.as_slice(), input, settings))
+            let memory = Limited::new(rt.alloc(), limit_in(rt, memory));
+            ExitCode::from(lint_all(rt, &memory, paths.as_slice(), input, settings))
         }
         Ok(LintLine::Help(text)) => match print!(rt; "{text}") {
             Ok(()) => ExitCode::SUCCESS,
@@ -50,10 +54,16 @@ pub(crate) fn lint_by(rt: &HostRuntime, words: &[&str]) -> ExitCode {
 
 // Looks through the programs in the files at these paths, each with the text in the file at that one after it, if there
 // is one. Returns the highest of their statuses. If the output cannot be written, the others are not looked through.
-fn lint_all(rt: &HostRuntime, paths: &[String], input: Option<&str>, settings: Settings) -> u8 {
+fn lint_all(
+    rt: &HostRuntime,
+    memory: &Limited<Global>,
+    paths: &[String],
+    input: Option<&str>,
+    settings: Settings,
+) -> u8 {
     let mut status = 0;
     for path in paths {
-        match lint_file(rt, path.as_str(), input, settings) {
+        match lint_file(rt, memory, path.as_str(), input, settings) {
             Some(other) => status = status.max(other),
             None => return FAILED,
         }
@@ -62,23 +72,29 @@ fn lint_all(rt: &HostRuntime, paths: &[String], input: Option<&str>, settings: S
 }
 
 // The status of one; none if the output cannot be written.
-fn lint_file(rt: &HostRuntime, path: &str, input: Option<&str>, settings: Settings) -> Option<u8> {
+fn lint_file(
+    rt: &HostRuntime,
+    memory: &Limited<Global>,
+    path: &str,
+    input: Option<&str>,
+    settings: Settings,
+) -> Option<u8> {
     let (Ok(name), Ok(input_name)) = (
-        one_line(rt.alloc(), path),
-        one_line(rt.alloc(), input.unwrap_or("")),
+        legible(rt.alloc(), path),
+        legible(rt.alloc(), input.unwrap_or("")),
     ) else {
         return Some(told(rt, path, NO_MEMORY));
     };
-    let Some(mut tape) = file_at(rt, path, name.as_str()) else {
+    let Some(mut tape) = file_at(rt, memory, path) else {
         return Some(FAILED);
     };
     let len = tape.len();
     if let Some(input) = input {
-        let Some(more) = file_at(rt, input, input_name.as_str()) else {
+        let Some(more) = file_at(rt, memory, input) else {
             return Some(FAILED);
         };
         if tape.extend_from_slice(more.as_slice()).is_err() {
-            return Some(told(rt, name.as_str(), NO_MEMORY));
+            return Some(told(rt, path, NO_MEMORY));
         }
     }
     let sources = Sources {
@@ -87,47 +103,43 @@ fn lint_file(rt: &HostRuntime, path: &str, input: Option<&str>, settings: Settin
         tape: tape.as_slice(),
         len,
     };
-    let found = lint(rt.alloc(), sources, &mut rt.stdout(), settings);
-    tell_halt(rt, name.as_str(), found, settings.steps);
+    let found = lint(memory, sources, &mut rt.stdout(), settings);
+    tell_halt(rt, path, found, settings.steps);
     (found.halt != Halt::Write).then_some(found.status())
 }
 
-// A path as it stands in a line: of a control character, such as a line feed, `\x` and two hexadecimal
-// digits; of an empty one two quotes.
-fn one_line(alloc: Global, path: &str) -> Result<String, AllocError> {
-    let mut line = String::new(alloc);
-    if path.is_empty() {
-        line.push_str("''")?;
-    }
-    for character in path.chars() {
-        if !character.is_control() {
-            line.push(character)?;
-            continue;
-        }
-        line.push_str("\\x")?;
-        for digit in [character as u32 / 16, character as u32 % 16] {
-            line.push(char::from_digit(digit, 16).unwrap_or('?'))?;
-        }
-    }
-    Ok(line)
-}
-
-// The bytes of the file at this path; none, which is said under this name, if they cannot be had.
-fn file_at(rt: &HostRuntime, path: &str, name: &str) -> Option<Vec<u8>> {
-    let why = match tape_in(rt, path) {
+// The bytes of the file at this path; none, which is said, if they cannot be had.
+fn file_at<'a>(
+    rt: &HostRuntime,
+    memory: &'a Limited<Global>,
+    path: &str,
+) -> Option<Vec<u8, &'a Limited<Global>>> {
+    let why = match tape_in(rt, memory, path) {
         Ok(tape) => return Some(tape),
         Err(Ending::Limit) => "it has more than 33554432 bytes",
         Err(Ending::Memory) => NO_MEMORY,
         Err(_) => "it cannot be read",
     };
-    told(rt, name, why);
+    told(rt, path, why);
     None
 }
 
-// Says of a file why it is not looked through.
-fn told(rt: &HostRuntime, name: &str, why: &str) -> u8 {
-    let _ = eprint!(rt; "trac-lint: {name}: {why}\n");
+// Says of the file at this path why it is not looked through.
+fn told(rt: &HostRuntime, path: &str, why: &str) -> u8 {
+    match name_of(rt.alloc(), path) {
+        Ok(name) => {
+            let _ = eprint!(rt; "trac-lint: {name}: {why}\n");
+        }
+        Err(AllocError) => {
+            let _ = eprint!(rt; "trac-lint: {NO_MEMORY}\n");
+        }
+    }
     FAILED
+}
+
+// A path as it is shown in a message; of an empty one two quotes.
+fn name_of(alloc: Global, path: &str) -> Result<String, AllocError> {
+    shown(alloc, if path.is_empty() { "''" } else { path })
 }
 
 // Says why nothing is looked through.
@@ -136,8 +148,12 @@ fn failed(rt: &HostRuntime, why: &str) -> ExitCode {
     ExitCode::from(FAILED)
 }
 
-// Says why a program was not run to its end, if it was not.
-fn tell_halt(rt: &HostRuntime, name: &str, found: Found, steps: u64) {
+// Says why the program at this path was not run to its end, if it was not.
+fn tell_halt(rt: &HostRuntime, path: &str, found: Found, steps: u64) {
+    let Ok(name) = name_of(rt.alloc(), path) else {
+        told(rt, path, NO_MEMORY);
+        return;
+    };
     let why = match found.halt {
         Halt::Ended => return,
         Halt::Spent => {
@@ -159,7 +175,7 @@ fn tell_halt(rt: &HostRuntime, name: &str, found: Found, steps: u64) {
         Halt::Memory => "stopped, there is no memory to go on",
         Halt::Write => NO_OUTPUT,
     };
-    told(rt, name, why);
+    told(rt, path, why);
 }
 
 // What stands after a number of steps.

@@ -11,10 +11,12 @@ use std::alloc::{AllocError, Global};
 use std::env::Args;
 use std::process::ExitCode;
 use std::{env, io};
+use trac_memory::{Limited, limit_in, tape_in};
 use trac_rules::limit::JOURNAL_LIMIT;
-use trac_streams::{Ending, say, tape_in};
+use trac_streams::{Ending, say};
 use trac_walk::{Settings, walk};
 use trac_words::help::NOT_TEXT;
+use trac_words::names;
 use trac_words::walk_words::{WalkLine, read_walk_line};
 
 /// A MiB, in bytes.
@@ -64,6 +66,7 @@ fn walk_by(rt: &HostRuntime, words: &[&str]) -> Result<ExitCode, AllocError> {
             options,
             keep,
             prompt,
+            memory,
         } => {
             let settings = Settings {
                 journal: options.journal,
@@ -71,7 +74,7 @@ fn walk_by(rt: &HostRuntime, words: &[&str]) -> Result<ExitCode, AllocError> {
                 decimals: options.decimals,
                 prompt,
             };
-            say(rt, walk_file(rt, path.as_str(), settings))
+            say(rt, walk_file(rt, path.as_str(), settings, memory))
         }
         WalkLine::Help(text) => shown(rt, text.as_str()),
         WalkLine::Bad(text) => not_understood(rt, text.as_str()),
@@ -92,24 +95,30 @@ pub(crate) fn not_understood(rt: &HostRuntime, text: &str) -> ExitCode {
     ExitCode::from(NOT_UNDERSTOOD)
 }
 
-// Walks through the program in the file at this path.
-fn walk_file(rt: &HostRuntime, path: &str, settings: Settings) -> Ending
+// Walks through the program in the file at this path, within so many bytes of memory, or the default number.
+fn walk_file(rt: &HostRuntime, path: &str, settings: Settings, memory: Option<u64>) -> Ending
     requires some_records { 1 ≤ settings.journal }
     requires most_records { settings.journal ≤ JOURNAL_LIMIT }
 {
-    match tape_in(rt, path) {
+    let memory = Limited::new(rt.alloc(), limit_in(rt, memory));
+    match tape_in(rt, &memory, path) {
         Ok(tape) => walk(
-            rt.alloc(),
+            &memory,
             tape.as_slice(),
             &mut rt.stdin(),
             &mut rt.stdout(),
             settings,
         ),
-        Err(ending) => {
-            if ending == Ending::Read {
-                let _ = eprint!(rt; "trac-walk: {path} cannot be read\n");
-            }
-            ending
-        }
+        Err(Ending::Read) => unread(rt, path),
+        Err(ending) => ending,
     }
+}
+
+// Says that the file at this path cannot be read.
+fn unread(rt: &HostRuntime, path: &str) -> Ending {
+    let Ok(name) = names::shown(rt.alloc(), path) else {
+        return Ending::Memory;
+    };
+    let _ = eprint!(rt; "trac-walk: {name} cannot be read\n");
+    Ending::Read
 }

@@ -4,9 +4,12 @@ use Rattle.std.specs.Prelude.{Option, None, Some, MatchOption}
 use Rattle.std.proofs.lemmas.List.{append_assoc}
 use Rattle.trac_rules.specs.declared.refusal.Refusal.{Refusal}
 use Rattle.trac_rules.specs.declared.reply.Reply.TheVariants.{Refused}
-use Rattle.trac_rules.specs.Session.{PlainSession, Answers, Commit, HasEnded, IsWalk, Step, answer, done, no_goal}
+use Rattle.trac_rules.specs.Session.{PlainSession, Answers, Commit, HasEnded, IsWalk, Step, answer, done, first_kept, no_goal, repeated}
 use Rattle.trac_run.specs.Runs.{TakesSteps}
 use Rattle.trac_run.proofs.Stepped.{steps_both, steps_many}
+use Rattle.trac_window.specs.Windows.{IsWindow}
+use Rattle.trac_window.proofs.Kept.{forward}
+use Rattle.trac_web.specs.Ways.{WindowGoes}
 
 -- a walk that no refusal ended took all its steps
 pub walked_all : (n : ℕ) (old new : PlainSession) (steps : ℕ) (why : Option Refusal) → IsWalk Step no_goal n old steps why new → why ≡ None → steps ≡ n
@@ -35,6 +38,38 @@ module _ (steps left : ℕ) (why : Option Refusal) (start old new : PlainSession
         subst (λ n. TakesSteps n start after) count
             (steps_both ((steps - left) + k) 0 start new after (steps_both (steps - left) k start old new before (steps_many k old new walk.walked)) (steps_commit_some keep new after kept)),
       )
+
+-- ---- what the window shows of the output
+
+pub goes_none : (forgotten released : ℕ) (p : PlainSession) → WindowGoes 0 forgotten released p forgotten released p
+goes_none forgotten released p = λ input text n w. let none : n ≡ n + 0 = omega arith in (text, subst (λ k. IsWindow input k text forgotten released p) none w)
+
+-- after a walk
+goes_walked : (m forgot freed forgotten released k steps : ℕ) (start old new : PlainSession) → m + k ≡ steps → repeated Step k old ≡ Some new →
+    WindowGoes m forgot freed start forgotten released old → WindowGoes steps forgot freed start forgotten released new
+goes_walked m forgot freed forgotten released k steps start old new count walked goes = λ input text n w.
+    let at = goes input text n w in
+    let all : (n + m) + k ≡ n + steps = omega (arith, count) in
+    (at.0, subst (λ j. IsWindow input j at.0 forgotten released new) all (forward k input at.0 (n + m) forgotten released old new at.1 walked))
+
+-- after one of all steps that were left
+pub goes_all : (steps left forgot freed forgotten released k : ℕ) (why : Option Refusal) (start old new : PlainSession) → left ≤ steps → IsWalk Step no_goal left old k why new → why ≡ None →
+    WindowGoes (steps - left) forgot freed start forgotten released old → WindowGoes steps forgot freed start forgotten released new
+goes_all steps left forgot freed forgotten released k why start old new most walk none goes =
+    goes_walked (steps - left) forgot freed forgotten released k steps start old new (omega (arith, walked_all left old new k why walk none, most)) walk.walked goes
+
+-- after one of some, and after some are forgotten
+pub goes_kept : (steps left forgot freed forgotten released forgets frees k keep : ℕ) (why : Option Refusal) (start old new after : PlainSession) → left ≤ steps → IsWalk Step no_goal left old k why new →
+    ((input text : List ℕ) (n : ℕ) → IsWindow input n text forgotten released new → IsWindow input n (text ++ (first_kept keep new).output) forgets frees after) →
+    WindowGoes (steps - left) forgot freed start forgotten released old → WindowGoes (steps - (left - k)) forgot freed start forgets frees after
+goes_kept steps left forgot freed forgotten released forgets frees k keep why start old new after most walk kept goes = λ input text n w.
+    let count : (steps - left) + k ≡ steps - (left - k) = omega (arith, walk.within, most) in
+    let further : WindowGoes (steps - (left - k)) forgot freed start forgotten released new =
+    goes_walked (steps - left) forgot freed forgotten released k (steps - (left - k)) start old new count walk.walked goes in
+    let at = further input text n w in
+    (at.0 ++ (first_kept keep new).output, kept input at.0 (n + (steps - (left - k))) at.1)
+
+-- ---- rows
 
 -- texts, one put at the end of the other
 pub joined : (rows a b c t n e p : List ℕ) → t ≡ rows → n ≡ t ++ a → e ≡ n ++ b → p ≡ e ++ c → p ≡ rows ++ (a ++ (b ++ c))

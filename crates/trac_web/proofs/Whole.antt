@@ -1,16 +1,18 @@
 -- What was read and written of whole texts.
-use Rattle.std.proofs.Common.{◌≡◌, ◌<◌, ◌≤◌, ℕ, List, [], ◌++◌, length, refl, sym, ap, subst, ◌∙◌}
+use Rattle.std.proofs.Common.{◌≡◌, ◌+◌, ◌<◌, ◌≤◌, ℕ, List, [], ◌++◌, length, refl, sym, ap, subst, ◌∙◌}
 use Rattle.std.specs.Prelude.{Some, ◌↔◌}
 use Rattle.std.specs.Io.KnownBytes.{Keeps}
 use Rattle.trac_rules.specs.declared.limit.TheConstants.{TAPE_LIMIT}
 use Rattle.trac_rules.specs.declared.width.Width.{Width}
 use Rattle.trac_rules.specs.Fronts.{IsFrontOf}
-use Rattle.trac_rules.specs.Running.{Output, output_of}
+use Rattle.trac_rules.specs.Running.{Output, output_from, output_of}
+use Rattle.trac_session.specs.Outputs.{Prints}
 use Rattle.trac_streams.specs.declared.ending.Ending.{Ending}
-use Rattle.trac_streams.specs.declared.ending.Ending.TheVariants.{Limit}
+use Rattle.trac_streams.specs.declared.ending.Ending.TheVariants.{Limit, Memory}
+use Rattle.trac_streams.proofs.Known.{front_of_nothing}
 use Rattle.trac_run.specs.Runs.{Runs, Shows}
 use Rattle.trac_debug.specs.Debugging.{MayShow, RepliesToFirst}
-use Rattle.trac_debug.specs.Debugs.{Debugs, UnlessFault, UnlessWrite}
+use Rattle.trac_debug.specs.Debugs.{Debugs, FaultsAt, UnlessFault, UnlessWrite}
 use Rattle.trac_walk.specs.Ends.{MayEnd}
 use Rattle.trac_findings.specs.declared.report.TheConstants.{PLACE_LIMIT}
 use Rattle.trac_findings.specs.declared.report.Found.{Found}
@@ -20,16 +22,28 @@ use Rattle.trac_web.specs.Replies.{Delivers, Gives}
 use Rattle.trac_web.specs.Requests.{WritesDoubts, WritesReplies, WritesRun, WritesTalk, search_ending}
 
 -- a run that read this text, of which a rest was left, and wrote all of that, where nothing was before
-pub whole_run : (width : Width) (budget : ℕ) (text rest before all : List ℕ) (ending : Ending) → before ≡ [] →
-    Runs (Some text) (Some rest) (Some before) (Some all) (output_of width) budget ending → WritesRun width budget text all ending
-whole_run width budget text rest before all ending none r =
+pub whole_run : (width : Width) (budget steps : ℕ) (text rest before all : List ℕ) (ending : Ending) → before ≡ [] →
+    (r : Runs (Some text) (Some rest) (Some before) (Some all) width budget ending) → r.steps ≡ steps → WritesRun width budget steps text all ending
+whole_run width budget steps text rest before all ending none r taken =
     let stated : List ℕ → Output = λ t. output_of width t budget in
     let is_text : r.got ++ rest ≡ text = sym r.took in
     let is_all : r.written ≡ all = sym (r.gave ∙ ap (λ b. b ++ r.written) none) in
     record {
       front = subst (λ w. IsFrontOf w (stated text).bytes) is_all (subst (λ t. IsFrontOf r.written (stated t).bytes) is_text (r.front rest r.at_end));
       shows = subst (λ w. Shows ending w (stated text)) is_all (subst (λ t. Shows ending r.written (stated t)) is_text (r.shows rest r.at_end));
+      exact = λ sound.
+          subst (λ n. Prints width text n all) taken
+          (subst (λ w. Prints width text r.steps w) is_all (subst (λ t. Prints width t r.steps r.written) is_text (r.exact sound rest r.at_end)));
     }
+
+-- a run that did not begin
+pub run_not_begun : (width : Width) (budget : ℕ) (input : List ℕ) → WritesRun width budget 0 input [] Memory
+unfolding output_from
+run_not_begun width budget input = record {
+  front = front_of_nothing (output_of width input budget).bytes;
+  shows = tt;
+  exact = λ sound. refl;
+}
 
 -- the same of a session of the debugger
 pub whole_replies : (tape : List ℕ) (limit : ℕ) (width : Width) (commands rest before all : List ℕ) (ending : Ending) → before ≡ [] →
@@ -50,6 +64,10 @@ whole_replies tape limit width commands rest before all ending none d too_long =
       replies =
           subst (λ w. UnlessWrite ending (RepliesToFirst tape limit width d.replied commands w)) is_all
           (subst (λ t. UnlessWrite ending (RepliesToFirst tape limit width d.replied t d.written)) is_text (d.replies rest d.at_end));
+      read = d.got;
+      saw_end = d.saw_end;
+      front_read = (rest, d.took);
+      faults = subst (λ t. FaultsAt ending d.replied (d.replied + 1) d.saw_end d.got t) is_text (d.faults rest d.at_end);
       too_long = too_long;
     }
 

@@ -1,5 +1,5 @@
 -- What each request writes, of whole texts.
-use Rattle.std.specs.Prelude.{◌≡◌, ◌≢◌, ◌↔◌, ℕ, ◌<◌, ◌≤◌, List, [], length, None, Some, Result, Ok, Err, IfOk}
+use Rattle.std.specs.Prelude.{◌≡◌, ◌≢◌, ◌↔◌, ℕ, ◌+◌, ◌<◌, ◌≤◌, Bool, List, [], length, None, Some, Result, Ok, Err, IfOk}
 use Rattle.trac_rules.specs.declared.width.Width.{Width}
 use Rattle.trac_rules.specs.declared.limit.TheConstants.{JOURNAL_LIMIT, TAPE_LIMIT}
 use Rattle.trac_rules.specs.Fronts.{IsFrontOf}
@@ -9,9 +9,10 @@ use Rattle.trac_streams.specs.declared.ending.Ending.TheVariants.{Ended, Budget,
 use Rattle.trac_streams.specs.declared.lines.TheConstants.{LINE_COUNT_LIMIT}
 use Rattle.trac_streams.specs.declared.options.TheConstants.{BUDGET_LIMIT}
 use Rattle.trac_streams.specs.Widths.{width_of}
+use Rattle.trac_session.specs.Outputs.{Prints}
 use Rattle.trac_run.specs.Runs.{Shows}
 use Rattle.trac_debug.specs.Debugging.{MayShow, RepliesToFirst}
-use Rattle.trac_debug.specs.Debugs.{UnlessFault, UnlessWrite}
+use Rattle.trac_debug.specs.Debugs.{FaultsAt, UnlessFault, UnlessWrite}
 use Rattle.trac_walk.specs.Ends.{MayEnd}
 use Rattle.trac_findings.specs.declared.report.TheConstants.{PLACE_LIMIT}
 use Rattle.trac_findings.specs.declared.report.Halt.{Halt}
@@ -47,15 +48,17 @@ pub record Tells (Taken : Type 0) (wrong : Outcome) (decimals : ℕ)
 
 -- ---- texts that are written
 
--- a run of a program, with all of its input, wrote this and ended so: it is what the rules print by so many steps. If
--- the buffer is full, or memory was refused, it is a front of that
-pub record WritesRun (width : Width) (budget : ℕ) (input written : List ℕ) (ending : Ending) : Type 0 where
+-- a run of a program, with all of its input, took so many steps, wrote this and ended so: it is what the rules print by
+-- the budget. If the buffer is full, or memory was refused, it is a front of that. If the buffer is not full, it is just
+-- what these steps print
+pub record WritesRun (width : Width) (budget steps : ℕ) (input written : List ℕ) (ending : Ending) : Type 0 where
   pub front : IsFrontOf written (output_of width input budget).bytes
   pub shows : Shows ending written (output_of width input budget)
+  pub exact : ending ≢ Write → Prints width input steps written
 
 -- the debugger over this tape replied so to these commands, and ended so: it is a text that may be shown. If the buffer
--- is full, or memory was refused, it is a front of one, and if the buffer is not full, of whole replies. It ends for
--- the tape if that is too long
+-- is full, or memory was refused, it is a front of one, and if the buffer is not full, of whole replies. A fault comes
+-- where it may come. It ends for the tape if that is too long
 pub record WritesReplies
     (tape : List ℕ) (limit : ℕ) (width : Width) (commands written : List ℕ) (ending : Ending) : Type 0 where
   pub front : (text : List ℕ) × (stop : Ending) × MayShow tape limit width commands text stop × IsFrontOf written text
@@ -63,6 +66,10 @@ pub record WritesReplies
   pub replied : ℕ
   pub few_lines : replied ≤ LINE_COUNT_LIMIT
   pub replies : UnlessWrite ending (RepliesToFirst tape limit width replied commands written)
+  pub read : List ℕ
+  pub saw_end : Bool
+  pub front_read : IsFrontOf read commands
+  pub faults : FaultsAt ending replied (replied + 1) saw_end read commands
   pub too_long : TAPE_LIMIT < length tape → ending ≡ Limit
 
 -- a dialogue over this program ended so: how it may end, and nothing is said of a program that is too long

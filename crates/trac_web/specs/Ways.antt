@@ -1,6 +1,6 @@
 -- The way of a byte, as a host is told.
-use Rattle.std.specs.Prelude.{◌≡◌, ◌⊎◌, ℕ, ◌==◌, ◌-◌, if◌then◌else◌, List, [], ◌++◌, length, Option, None, Some, codes}
-use Rattle.std.specs.Prelude.{decimal}
+use Rattle.std.specs.Prelude.{◌≡◌, ◌⊎◌, ℕ, ◌==◌, ◌+◌, ◌-◌, if◌then◌else◌, List, [], ◌++◌, length, Option, None, Some}
+use Rattle.std.specs.Prelude.{codes, decimal}
 use Rattle.trac_rules.specs.declared.width.Width.{Width}
 use Rattle.trac_rules.specs.Session.{PlainSession}
 use Rattle.trac_streams.specs.declared.ending.Ending.{Ending}
@@ -14,6 +14,7 @@ use Rattle.trac_follow.specs.declared.tracing.Traced.{Traced}
 use Rattle.trac_follow.specs.Tracing.{IsTraced, way_of}
 use Rattle.trac_debug.specs.Debugging.{ready}
 use Rattle.trac_run.specs.Runs.{TakesSteps}
+use Rattle.trac_window.specs.Windows.{IsWindow}
 use Rattle.trac_web.specs.declared.outcome.Outcome.{Outcome}
 use Rattle.trac_web.specs.declared.outcome.Outcome.TheVariants.{Ends, WrongPlace, NotReached}
 use Rattle.trac_web.specs.declared.ways.Spot as code
@@ -81,12 +82,23 @@ pub record IsWay (p : PlainSession) (step released : ℕ) (place : Place) (text 
   pub rows : text ≡ rows_of step released (way_of p place found.steps)
       ++ (decimal (step - found.steps) ++ (end_field found.end number line column ++ feed))
 
--- the same, so many steps after the start of a program with all of its input
+-- so many steps more led to another session of a window. It has counted what it has forgotten of all steps, and of what
+-- they print
+abbrev pub WindowGoes : ℕ → ℕ → ℕ → PlainSession → ℕ → ℕ → PlainSession → Type 0
+WindowGoes more forgot freed old forgotten released new =
+    (input text : List ℕ) (steps : ℕ) → IsWindow input steps text forgot freed old →
+    (after : List ℕ) × IsWindow input (steps + more) after forgotten released new
+
+-- the same, so many steps after the start of a program with all of its input, of which so many bytes of the output are
+-- released: this output, which with what is pending is what these steps print
 pub record WritesWay
     (tape : List ℕ) (limit : ℕ) (width : Width) (step : ℕ) (spot : SpotSeen) (text : List ℕ) : Type 0 where
   pub p : PlainSession
   pub reached : TakesSteps step (ready tape limit width) p
+  pub output : List ℕ
+  pub forgotten : ℕ
   pub released : ℕ
+  pub window : IsWindow tape step output forgotten released p
   pub place : Place
   pub there : place_in released spot ≡ Some place
   pub way : IsWay p step released place text

@@ -30,8 +30,8 @@ pub extern "C" fn trac_web_run(
     written: &mut usize,
     steps: &mut u64,
 ) -> u32
-    ensures told { Tells (IsBudget budget) WrongBudget decimals (λ width. Answers (WritesRun width budget input.now))
-        output.old output.new written.new result }
+    ensures told { Tells (IsBudget budget) WrongBudget decimals
+        (λ width. Answers (WritesRun width budget steps.new input.now)) output.old output.new written.new result }
     ensures steps { steps.new ≤ budget }
 {
     *written = 0;

@@ -27,7 +27,7 @@ pub fn run_text<A: Allocator + Copy>(
     steps: &mut u64,
 ) -> Outcome
     requires { budget ≤ BUDGET_LIMIT }
-    ensures gives { Gives (WritesRun width budget input.now) output.old output.new written.new result }
+    ensures gives { Gives (WritesRun width budget steps.new input.now) output.old output.new written.new result }
     ensures within { steps.new ≤ budget }
     ensures counted { (q : PlainSession) × TakesSteps steps.new (new_session RECORDS width) q }
 {

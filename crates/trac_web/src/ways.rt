@@ -1,10 +1,12 @@
 //! Where a byte comes from, as data.
-ghost use Rattle.std.specs.Prelude.{◌≡◌, ◌≤◌, ◌++◌, IfErr, IfOk, OnOk};
+ghost use Rattle.std.specs.Prelude.{◌≡◌, ◌≤◌, ℕ, List, ◌++◌, IfErr, IfOk, OnOk};
 ghost use Rattle.std.specs.Option.{option_map};
 ghost use Rattle.trac_debug.specs.Debugging.{ready};
 ghost use Rattle.trac_follow.specs.Places.{place_of};
 ghost use Rattle.trac_run.specs.Runs.{TakesSteps};
-ghost use Rattle.trac_web.specs.Ways.{IsReason, IsSaid, IsWay, WritesWay, end_field, place_in, read_field, spot_seen};
+ghost use Rattle.trac_web.specs.Ways.{IsReason, IsSaid, IsWay, WindowGoes, WritesWay, end_field, place_in, read_field};
+ghost use Rattle.trac_web.specs.Ways.{spot_seen};
+ghost use Rattle.trac_window.specs.Windows.{IsWindow};
 
 use crate::outcome::Outcome;
 use crate::rows::{Rows, word_into};
@@ -85,6 +87,8 @@ fn window_at<A: Allocator + Copy>(
     requires some_records { 1 ≤ limit }
     requires most_records { limit ≤ JOURNAL_LIMIT }
     ensures reached { IfOk result (λ w. TakesSteps step (ready tape.now limit width) w.session) }
+    ensures output { IfOk result
+        (λ w. (text : List ℕ) × IsWindow tape.now step text w.forgotten w.released w.session) }
     ensures none { IfErr result IsReason }
 {
     let mut window = match Window::over(alloc, tape, limit, width) {
@@ -100,6 +104,8 @@ fn window_at<A: Allocator + Copy>(
 // Goes forward by so many steps. If there is no room for more, it forgets the older half of those so far.
 fn go<A: Allocator + Copy>(window: &mut Window<A>, steps: u64) -> Result<(), Outcome>
     ensures went { OnOk result (TakesSteps steps window.old.session window.new.session) }
+    ensures output { OnOk result (WindowGoes steps window.old.forgotten window.old.released window.old.session
+        window.new.forgotten window.new.released window.new.session) }
     ensures none { IfErr result IsReason }
 {
     let mut left = steps;

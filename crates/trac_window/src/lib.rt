@@ -3,4 +3,4 @@
 
 mod window;
 
-pub use window::Window;
+pub use window::{Window, windows_are_walked};

@@ -1,8 +1,11 @@
 //! A session whose last steps are kept, with counts of what is forgotten.
-ghost use Rattle.std.specs.Prelude.{◌≡◌, ◌+◌, ◌-◌, ◌/◌, ◌^◌, ◌<◌, ◌≤◌, ◌↔◌, length, true, false, IfErr, IfOk, OnOk};
-ghost use Rattle.trac_rules.specs.Session.{Commit, Feed, answer, done, first_kept, new_session};
+ghost use Rattle.std.specs.Prelude.{◌≡◌, ◌+◌, ◌-◌, ◌/◌, ◌^◌, ◌<◌, ◌≤◌, ◌↔◌, ℕ, List, [], ◌++◌, length, true, false};
+ghost use Rattle.std.specs.Prelude.{IfErr, IfOk, OnOk, Some};
+ghost use Rattle.trac_rules.specs.Session.{Back, Commit, End, Feed, PlainSession, Step, answer, done};
+ghost use Rattle.trac_rules.specs.Session.{first_kept, new_session, repeated};
 ghost use Rattle.trac_rules.specs.Weights.{weights_from};
 ghost use Rattle.trac_streams.specs.Tape.{MayRefuseTape};
+ghost use Rattle.trac_window.specs.Windows.{IsWindow};
 
 use std::alloc::Allocator;
 use trac_rules::limit::{JOURNAL_LIMIT, TAPE_LIMIT};
@@ -32,6 +35,7 @@ impl<A: Allocator + Copy> Window<A> {
         ensures made { OnOk result (length tape.now ≤ TAPE_LIMIT) }
         ensures begun { IfOk result (λ w. answer (Feed tape.now) (new_session limit width) ≡ done w.session) }
         ensures fresh { IfOk result (λ w. (w.forgotten ≡ 0) × (w.released ≡ 0)) }
+        ensures output { IfOk result (λ w. IsWindow tape.now 0 [] w.forgotten w.released w.session) }
         ensures refused { IfErr result (MayRefuseTape tape.now) }
     {
         if tape.len() > TAPE_LIMIT {
@@ -48,13 +52,18 @@ impl<A: Allocator + Copy> Window<A> {
     }
 
     /// Forgets all steps but the last, so many of them, and counts these, and the bytes of the
-    /// output that are forgotten with them.
+    /// output that are forgotten with them. What is forgotten of the output and what is pending are
+    /// what all steps print (`trac_session::outputs`).
     pub fn keep_steps(&mut self, keep: usize)
         ensures kept { answer (Commit keep) self.old.session ≡ done self.new.session }
         ensures steps { self.old.forgotten + (length self.old.session.earlier - keep) < 2 ^ 64 →
             self.new.forgotten ≡ self.old.forgotten + (length self.old.session.earlier - keep) }
         ensures counted { self.old.released + length (first_kept keep self.old.session).output < 2 ^ 64 →
             self.new.released ≡ self.old.released + length (first_kept keep self.old.session).output }
+        ensures output { (input text : List ℕ) (steps : ℕ) →
+            IsWindow input steps text self.old.forgotten self.old.released self.old.session →
+            IsWindow input steps (text ++ (first_kept keep self.old.session).output)
+            self.new.forgotten self.new.released self.new.session }
     {
         let steps = self.session.len().saturating_sub(keep);
         let released = forget_before(&mut self.session, keep);
@@ -76,6 +85,11 @@ impl<A: Allocator + Copy> Window<A> {
             self.old.released + length (first_kept (length self.old.session.earlier / 2) self.old.session).output
             < 2 ^ 64 → self.new.released
             ≡ self.old.released + length (first_kept (length self.old.session.earlier / 2) self.old.session).output }
+        ensures output { result ≡ true → (input text : List ℕ) (steps : ℕ) →
+            IsWindow input steps text self.old.forgotten self.old.released self.old.session →
+            IsWindow input steps
+            (text ++ (first_kept (length self.old.session.earlier / 2) self.old.session).output)
+            self.new.forgotten self.new.released self.new.session }
         ensures stayed { result ≡ false → self.new ≡ self.old }
     {
         let len = self.session.len();
@@ -86,6 +100,20 @@ impl<A: Allocator + Copy> Window<A> {
         true
     }
 }
+
+/// If the session of a window goes forward or back, or its input ends, what it has released stays,
+/// and is still what the window has counted.
+pub fn windows_are_walked()
+    ensures forward { (n : ℕ) (input text : List ℕ) (steps forgotten released : ℕ) (p q : PlainSession) →
+        IsWindow input steps text forgotten released p → repeated Step n p ≡ Some q →
+        IsWindow input (steps + n) text forgotten released q }
+    ensures back { (n : ℕ) (input text : List ℕ) (steps forgotten released : ℕ) (p q : PlainSession) →
+        IsWindow input steps text forgotten released p → repeated Back n p ≡ Some q →
+        IsWindow input (steps - n) text forgotten released q }
+    ensures end { (input text : List ℕ) (steps forgotten released : ℕ) (p q : PlainSession) →
+        IsWindow input steps text forgotten released p → answer End p ≡ done q →
+        IsWindow input steps text forgotten released q }
+{}
 
 // A session over this tape. The error is that memory was refused.
 fn session_over<A: Allocator + Copy>(

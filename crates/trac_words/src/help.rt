@@ -114,6 +114,9 @@ error: 'trac' requires a subcommand but one was not provided
 For more information, try '--help'.
 ";
 
+/// The text for a line whose words, as they are shown, would be understood. There is none.
+pub const NO_WORDS: &str = "error: the command line is not understood\n";
+
 /// The text for a word that is not UTF-8.
 pub const NOT_TEXT: &str = "\
 error: invalid UTF-8 was detected in one or more arguments

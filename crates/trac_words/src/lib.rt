@@ -4,6 +4,8 @@
 
 pub mod help;
 pub mod lint_words;
+pub mod memory_words;
+pub mod names;
 mod tips;
 pub mod walk_words;
 pub mod words;

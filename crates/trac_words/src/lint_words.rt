@@ -1,8 +1,9 @@
 //! The command line of `trac-lint`.
 ghost use Rattle.std.specs.Prelude.{IfOk};
-ghost use Rattle.trac_words.specs.Words.{IsLintLine};
+ghost use Rattle.trac_words.specs.Words.{IsLintLine, IsMemory};
 
 use crate::help::{LINT_USAGE, LINT_USE, VERSION};
+use crate::memory_words::{memory, memory_in};
 use crate::tips::{Program, Said, said_of};
 use crate::walk_words::{DEFAULT_KEEP, KEEP_LIMIT};
 use crate::words::{Made, Widths, decimals, described, number_in, number_option, width_in, widths};
@@ -28,6 +29,8 @@ pub enum LintLine {
         keep: u64,
         /// How wide a program's numbers are.
         decimals: Width,
+        /// How many bytes of memory it may take, if the line says it.
+        memory: Option<u64>,
     },
     /// To be shown this text: help, or the version.
     Help(String),
@@ -38,6 +41,21 @@ pub enum LintLine {
 fn lint_line(alloc: Global, found: &ArgMatches<'_>) -> Result<LintLine, AllocError>
     ensures { IfOk result IsLintLine }
 {
+    match memory_in(alloc, found)? {
+        Ok(memory) => programs_in(alloc, found, memory),
+        Err(text) => Ok(LintLine::Bad(text)),
+    }
+}
+
+// To look for doubts in the programs that are named, within so much memory.
+fn programs_in(
+    alloc: Global,
+    found: &ArgMatches<'_>,
+    memory: Option<u64>,
+) -> Result<LintLine, AllocError>
+    requires { IsMemory memory }
+    ensures { IfOk result IsLintLine }
+{
     let paths = paths_in(alloc, found)?;
     let input = input_in(alloc, found)?;
     Ok(LintLine::Lint {
@@ -46,6 +64,7 @@ fn lint_line(alloc: Global, found: &ArgMatches<'_>) -> Result<LintLine, AllocErr
         steps: number_in(found, "steps", DEFAULT_STEPS, BUDGET_LIMIT),
         keep: number_in(found, "keep", DEFAULT_KEEP, KEEP_LIMIT),
         decimals: width_in(found),
+        memory,
     })
 }
 
@@ -91,7 +110,8 @@ pub(crate) fn lint_command<'a>(alloc: Global, widths: Widths<'a>) -> Made<'a> {
         .arg(input(alloc))?
         .arg(steps(alloc))?
         .arg(keep(alloc))?
-        .arg(decimals(alloc, widths))
+        .arg(decimals(alloc, widths))?
+        .arg(memory(alloc))
 }
 
 // The command without its arguments.

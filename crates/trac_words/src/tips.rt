@@ -2,8 +2,9 @@
 //! sentences: which tip helps is told by the word that is not known, and where it goes by the blank lines of the text.
 //! The error of each function is that memory was refused.
 
-use crate::help::{BUDGET_TIP, PAGE_TIP, RUN_TIP, VERSION_TIP, WALK_TIP};
+use crate::help::{BUDGET_TIP, NO_WORDS, PAGE_TIP, RUN_TIP, VERSION_TIP, WALK_TIP};
 use crate::lint_words::lint_command;
+use crate::names::shown;
 use crate::walk_words::walk_command;
 use crate::words::{Made, Widths, trac_command, widths};
 use clap::error::ErrorKind;
@@ -38,16 +39,49 @@ pub(crate) fn said_of(
     if kind == ErrorKind::OutOfMemory {
         return Err(AllocError);
     }
-    let text = error.to_string(alloc)?;
     match kind {
-        ErrorKind::DisplayHelp | ErrorKind::DisplayVersion => Ok(Said::Help(text)),
-        kind if is_unknown(kind) => {
-            let word = unknown_in(alloc, program, words)?;
-            let said = with_tip(alloc, program, words, kind, word, text)?;
-            Ok(Said::Bad(said))
+        ErrorKind::DisplayHelp | ErrorKind::DisplayVersion => {
+            Ok(Said::Help(error.to_string(alloc)?))
         }
-        _ => Ok(Said::Bad(text)),
+        _ => Ok(Said::Bad(bad_line(alloc, program, words)?)),
     }
+}
+
+// What is said of a command line that is not understood: what clap says of its words as they are shown.
+fn bad_line(alloc: Global, program: Program, words: &[&str]) -> Result<String, AllocError> {
+    let mut names = Vec::new(alloc);
+    for word in words {
+        names.push(shown(alloc, word)?)?;
+    }
+    bad_names(alloc, program, names.as_slice())
+}
+
+fn bad_names(alloc: Global, program: Program, names: &[String]) -> Result<String, AllocError> {
+    let words: Vec<&str> = names.iter().map(|name| name.as_str()).collect(alloc)?;
+    let widths = widths();
+    match command_of(alloc, program, &widths)?.try_get_matches_from(words.as_slice()) {
+        Ok(_found) => String::from_str(alloc, NO_WORDS),
+        Err(error) => why_bad(alloc, program, words.as_slice(), &error),
+    }
+}
+
+// What is said of these words, for this error.
+fn why_bad(
+    alloc: Global,
+    program: Program,
+    words: &[&str],
+    error: &Error,
+) -> Result<String, AllocError> {
+    let kind = error.kind();
+    if kind == ErrorKind::OutOfMemory {
+        return Err(AllocError);
+    }
+    let text = error.to_string(alloc)?;
+    if !is_unknown(kind) {
+        return Ok(text);
+    }
+    let word = unknown_in(alloc, program, words)?;
+    with_tip(alloc, program, words, kind, word, text)
 }
 
 // The first word of a command line that its program does not know.

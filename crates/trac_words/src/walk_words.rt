@@ -3,6 +3,7 @@ ghost use Rattle.std.specs.Prelude.{IfOk};
 ghost use Rattle.trac_words.specs.Words.{IsWalkLine};
 
 use crate::help::{VERSION, WALK_USAGE, WALK_USE};
+use crate::memory_words::memory_in;
 use crate::tips::{Program, Said, said_of};
 use crate::words::{
     BACK, Made, Widths, described, file, number_in, number_option, options_in, path_in, widths,
@@ -29,6 +30,8 @@ pub enum WalkLine {
         keep: u64,
         /// Whether a prompt is written.
         prompt: bool,
+        /// How many bytes of memory the walk may take, if the line says it.
+        memory: Option<u64>,
     },
     /// To be shown this text: help, or the version.
     Help(String),
@@ -54,13 +57,16 @@ pub fn read_walk_line(alloc: Global, words: &[&str]) -> Result<WalkLine, AllocEr
 fn walk_line(alloc: Global, found: &ArgMatches<'_>) -> Result<WalkLine, AllocError>
     ensures { IfOk result IsWalkLine }
 {
-    let path = path_in(alloc, found)?;
-    Ok(WalkLine::Walk {
-        path,
-        options: options_in(found, DEFAULT_BUDGET),
-        keep: number_in(found, "keep", DEFAULT_KEEP, KEEP_LIMIT),
-        prompt: found.get_flag("prompt"),
-    })
+    match memory_in(alloc, found)? {
+        Ok(memory) => Ok(WalkLine::Walk {
+            path: path_in(alloc, found)?,
+            options: options_in(found, DEFAULT_BUDGET),
+            keep: number_in(found, "keep", DEFAULT_KEEP, KEEP_LIMIT),
+            prompt: found.get_flag("prompt"),
+            memory,
+        }),
+        Err(text) => Ok(WalkLine::Bad(text)),
+    }
 }
 
 /// The command, which takes these widths of numbers.

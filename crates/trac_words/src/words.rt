@@ -3,6 +3,7 @@ ghost use Rattle.std.specs.Prelude.{◌≤◌, IfOk};
 ghost use Rattle.trac_words.specs.Words.{AreWithin, IsLine};
 
 use crate::help::{DEBUG_USE, NO_SUBCOMMAND, RUN_USAGE, RUN_USE, USE, VERSION};
+use crate::memory_words::{memory, memory_in};
 use crate::tips::{Program, Said, said_of};
 use clap::builder::PossibleValue;
 use clap::{Arg, ArgMatches, Command, value_parser};
@@ -17,10 +18,10 @@ pub const DEFAULT_JOURNAL: usize = 65_536;
 /// What a command line asks for.
 #[derive(Drop)]
 pub enum Line {
-    /// To run the standard input.
-    Run(Options),
-    /// To debug the program in this file. The budget is the default one, and not used.
-    Debug(String, Options),
+    /// To run the standard input, within so many bytes of memory, if it says how many.
+    Run(Options, Option<u64>),
+    /// To debug the program in this file, within so many bytes too. The budget is the default one, and not used.
+    Debug(String, Options, Option<u64>),
     /// To be shown this text: help, or the version.
     Help(String),
     /// Nothing that is understood: this text says why.
@@ -47,15 +48,30 @@ fn line_of(alloc: Global, matches: &ArgMatches<'_>) -> Result<Line, AllocError>
     ensures { IfOk result IsLine }
 {
     match matches.subcommand() {
-        Some(("run", found)) => {
-            let budget = number_in(found, "budget", DEFAULT_BUDGET, BUDGET_LIMIT);
-            Ok(Line::Run(options_in(found, budget)))
-        }
-        Some(("debug", found)) => {
-            let path = path_in(alloc, found)?;
-            Ok(Line::Debug(path, options_in(found, DEFAULT_BUDGET)))
-        }
+        Some(("run", found)) => run_line(alloc, found),
+        Some(("debug", found)) => debug_line(alloc, found),
         _ => Ok(Line::Bad(String::from_str(alloc, NO_SUBCOMMAND)?)),
+    }
+}
+
+fn run_line(alloc: Global, found: &ArgMatches<'_>) -> Result<Line, AllocError>
+    ensures { IfOk result IsLine }
+{
+    let budget = number_in(found, "budget", DEFAULT_BUDGET, BUDGET_LIMIT);
+    let options = options_in(found, budget);
+    match memory_in(alloc, found)? {
+        Ok(memory) => Ok(Line::Run(options, memory)),
+        Err(text) => Ok(Line::Bad(text)),
+    }
+}
+
+fn debug_line(alloc: Global, found: &ArgMatches<'_>) -> Result<Line, AllocError>
+    ensures { IfOk result IsLine }
+{
+    let options = options_in(found, DEFAULT_BUDGET);
+    match memory_in(alloc, found)? {
+        Ok(memory) => Ok(Line::Debug(path_in(alloc, found)?, options, memory)),
+        Err(text) => Ok(Line::Bad(text)),
     }
 }
 
@@ -181,7 +197,8 @@ pub(crate) fn with_options<'a>(
 ) -> Made<'a> {
     command
         .arg(journal(alloc, records))?
-        .arg(decimals(alloc, widths))
+        .arg(decimals(alloc, widths))?
+        .arg(memory(alloc))
 }
 
 /// What `--journal` means if steps are gone back over.

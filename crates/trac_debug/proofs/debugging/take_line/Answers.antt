@@ -1,4 +1,4 @@
-use Rattle.std.proofs.Common.{refl, sym, subst, take, arith}
+use Rattle.std.proofs.Common.{sym, subst, take, arith}
 use Rattle.std.proofs.lemmas.Result.{err_from_is_err_and}
 use Rattle.trac_streams.specs.declared.ending.Ending.TheVariants.{Ended, NotUnderstood}
 use Rattle.trac_debug.specs.Debugs.{Halts}
@@ -15,13 +15,13 @@ returns-in_err-seek_counted-clause-err g c =
 
 pub returns-then-len-gt-LINE_LIMIT-clause-err : goal.returns-then-len-gt-LINE_LIMIT-clause-err
 returns-then-len-gt-LINE_LIMIT-clause-err g c =
-    halts_before _ _ _ _ _ c.args.number c.args.lines.now c.seek_counted.new.self c.args.session.now (NotUnderstood c.args.number) refl c.in_ok-seek_counted.ensures.read
+    halts_before _ _ _ _ _ c.args.number c.args.lines.now c.seek_counted.new.self c.args.session.now (NotUnderstood c.args.number) tt c.in_ok-seek_counted.ensures.read
     (halts_long c.args.number c.seek_counted.new.self c.args.session.now c.in-Line.len c.in-Line.whole c.requires.few
     (subst (IsFront c.seek_counted.new.self.bytes c.seek_counted.new.self.ended) c.in-Line.is c.in_ok-seek_counted.ensures.front) c.if-len-gt-LINE_LIMIT.true)
 
 pub returns-in-TooLong-clause-err : goal.returns-in-TooLong-clause-err
 returns-in-TooLong-clause-err g c =
-    halts_before _ _ _ _ _ c.args.number c.args.lines.now c.seek_counted.new.self c.args.session.now (NotUnderstood c.args.number) refl c.in_ok-seek_counted.ensures.read
+    halts_before _ _ _ _ _ c.args.number c.args.lines.now c.seek_counted.new.self c.args.session.now (NotUnderstood c.args.number) tt c.in_ok-seek_counted.ensures.read
     (halts_too_long c.args.number c.seek_counted.new.self c.args.session.now c.requires.few
     (subst (IsFront c.seek_counted.new.self.bytes c.seek_counted.new.self.ended) c.in-TooLong.is c.in_ok-seek_counted.ensures.front))
 
@@ -41,6 +41,6 @@ returns-in_ok-carry_out-in-Line-clause-ok g c =
 
 pub returns-in-End-clause-err : goal.returns-in-End-clause-err
 returns-in-End-clause-err g c =
-    halts_before _ _ _ _ _ c.args.number c.args.lines.now c.seek_counted.new.self c.args.session.now Ended refl c.in_ok-seek_counted.ensures.read
+    halts_before _ _ _ _ _ c.args.number c.args.lines.now c.seek_counted.new.self c.args.session.now Ended tt c.in_ok-seek_counted.ensures.read
     (halts_at_end c.args.number c.seek_counted.new.self c.args.session.now
     (subst (IsFront c.seek_counted.new.self.bytes c.seek_counted.new.self.ended) c.in-End.is c.in_ok-seek_counted.ensures.front))

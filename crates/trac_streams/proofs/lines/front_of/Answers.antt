@@ -1,5 +1,5 @@
 use Rattle.std.proofs.Common.{length, arith}
-use Rattle.trac_streams.proofs.Splitting.{front_line, front_last, line_too_long, some_of_test}
+use Rattle.trac_streams.proofs.Splitting.{front_line, front_last, line_too_long, no_feeds, some_of_test}
 use Rattle.trac_streams.proofs.lines.front_of.Goals as goal
 
 pub returns-in-Some : goal.returns-in-Some
@@ -9,6 +9,9 @@ returns-in-Some c =
 
 pub returns-then-bytes : goal.returns-then-bytes
 returns-then-bytes c = λ more. line_too_long c.args.bytes.now more (omega arith) c.in_default.ensures
+
+pub returns-then-not-ended : goal.returns-then-not-ended
+returns-then-not-ended c = (c.if-not-ended.true, omega (arith, c.if-bytes.false), no_feeds c.args.bytes.now c.in_default.ensures)
 
 pub returns : goal.returns
 returns c =

@@ -1,0 +1,3 @@
+-- The room that is left of a limit, and the allocator that keeps within one.
+pub mod Room
+pub mod Limited

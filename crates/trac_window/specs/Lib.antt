@@ -1,0 +1,2 @@
+-- What a window shows of the output.
+pub mod Windows
