@@ -1,10 +1,10 @@
-# Completion of trac, trac-walk, trac-lint, trac-play, trac-page and trac-course for bash: subcommands, options, and a FILE where one is
-# wanted.
+# Completion of trac, trac-walk, trac-lint, trac-play, trac-page and trac-course for bash: subcommands, options, and a
+# FILE where one is wanted.
 _trac() {
     local word=${COMP_WORDS[COMP_CWORD]} before=${COMP_WORDS[COMP_CWORD - 1]} words=''
     COMPREPLY=()
     case $before in
-        --budget | --journal) return ;;
+        --budget | --journal | --memory) return ;;
         --decimals)
             mapfile -t COMPREPLY < <(compgen -W '64 128' -- "$word")
             return
@@ -14,8 +14,8 @@ _trac() {
         words='run debug help --help --version'
     else
         case ${COMP_WORDS[1]} in
-            run) words='--budget --journal --decimals --help --version' ;;
-            debug) words='--journal --decimals --help --version' ;;
+            run) words='--budget --journal --decimals --memory --help --version' ;;
+            debug) words='--journal --decimals --memory --help --version' ;;
             help) words='run debug' ;;
         esac
     fi
@@ -33,7 +33,7 @@ _trac_file() {
     local word=${COMP_WORDS[COMP_CWORD]}
     COMPREPLY=()
     case ${COMP_WORDS[COMP_CWORD - 1]} in
-        --budget | --steps | --journal | --keep | --first | --last | --to) ;;
+        --budget | --steps | --step | --journal | --keep | --memory) ;;
         --decimals) mapfile -t COMPREPLY < <(compgen -W '64 128' -- "$word") ;;
         *)
             if [[ $word == -* ]]; then
@@ -45,10 +45,10 @@ _trac_file() {
             ;;
     esac
 }
-_trac_walk() { _trac_file '--journal --keep --decimals --prompt'; }
-_trac_lint() { _trac_file '--steps --input --decimals --keep'; }
-_trac_play() { _trac_file '--budget --journal --decimals'; }
-_trac_page() { _trac_file '--first --last --to --program'; }
+_trac_walk() { _trac_file '--journal --keep --decimals --memory --prompt'; }
+_trac_lint() { _trac_file '--steps --input --decimals --keep --memory'; }
+_trac_play() { _trac_file '--budget --journal --decimals --memory'; }
+_trac_page() { _trac_file '--input --step --budget --decimals'; }
 complete -F _trac_walk trac-walk
 complete -F _trac_lint trac-lint
 complete -F _trac_play trac-play

@@ -1,7 +1,8 @@
-"""A session of `trac debug` or `trac-walk` over a file, for trac-page and trac-play: its replies, with bounds on memory."""
+"""A session of `trac-walk` over a file, for trac-play: its replies, with a bound on memory. And what the tools do with
+files and programs."""
+import argparse
 import contextlib
 import os
-import re
 import resource
 import shutil
 import subprocess
@@ -12,8 +13,8 @@ from tool import Fault, begin, shown, write
 TAPE = 33_554_432
 
 
-class TooLarge(Exception):
-    """A state is larger than is taken, or there was no memory to print it. The session is of no use any more."""
+class NoMemory(Exception):
+    """There was no memory. The session is of no use any more."""
 
 
 class Debugger:
@@ -26,26 +27,15 @@ class Debugger:
                                  pass_fds=[file.number])
             file.close()
             give()
-        # replies that are read, and how many of their bytes are taken
-        self.replies, self.taken = b"", 0
-        # how long the last state was
-        self.size = 0
+        # replies that are read and not taken
+        self.replies = b""
 
     def bound(self):
         """Bounds the memory of the process that is begun."""
-        self.allow(self.memory, 0)
-
-    def allow(self, memory, process=None):
-        """Sets the bound anew, for the process that was begun or for this one."""
-        number = self.process.pid if process is None else process
-        try:
-            most = resource.prlimit(number, resource.RLIMIT_AS)[1]
-            if most != resource.RLIM_INFINITY:
-                memory = min(memory, most)
-            resource.prlimit(number, resource.RLIMIT_AS, (memory, most))
-        except OSError:
-            # (it has ended, or the system lets nothing be set: then it goes by the bound that it has)
-            pass
+        with contextlib.suppress(OSError):
+            most = resource.getrlimit(resource.RLIMIT_AS)[1]
+            memory = self.memory if most == resource.RLIM_INFINITY else min(self.memory, most)
+            resource.setrlimit(resource.RLIMIT_AS, (memory, most))
 
     def read(self):
         """Some more bytes of its replies."""
@@ -53,46 +43,16 @@ class Debugger:
         if not part:
             status = self.process.wait()
             if status == 5:
-                raise TooLarge
+                raise NoMemory
             raise Fault("the debugger ended early, with status {}".format(status), max(status, 1))
         return part
 
-    def read_to(self, mark, most=None):
-        """Reads replies until they have this mark, which must come within so many bytes; returns where it stands."""
-        place = self.replies.find(mark, self.taken)
-        if place >= 0:
-            return place
-        edge = self.replies[self.taken:]
-        parts, length = [edge], len(edge)
-        while mark not in edge and (most is None or length <= most):
-            parts.append(self.read())
-            length += len(parts[-1])
-            edge = edge[-len(mark):] + parts[-1]
-        self.replies, self.taken = b"".join(parts), 0
-        place = self.replies.find(mark)
-        if place < 0 or most is not None and place > most:
-            self.end()
-            raise TooLarge
-        return place
-
-    def pass_to(self, mark, kept=0):
-        """Passes over replies up to this mark and over it; returns how many bytes stood before it, and the last few."""
-        length, back = 0, b""
-        while True:
-            place = self.replies.find(mark, self.taken)
-            end = place if place >= 0 else max(len(self.replies) - len(mark) + 1, self.taken)
-            part = self.replies[self.taken:end]
-            length, back = length + len(part), (back + part)[-kept:] if kept else b""
-            if place >= 0:
-                self.taken = place + len(mark)
-                return length, back
-            self.replies, self.taken = self.replies[end:] + self.read(), 0
-
     def line(self):
         """The next line of its replies."""
-        end = self.read_to(b"\n")
-        line, self.taken = self.replies[self.taken:end].decode("ascii"), end + 1
-        return line
+        while b"\n" not in self.replies:
+            self.replies += self.read()
+        line, self.replies = self.replies.split(b"\n", 1)
+        return line.decode("ascii")
 
     def give(self, commands):
         """Writes commands, so few that they are taken at once."""
@@ -101,41 +61,6 @@ class Debugger:
             self.process.stdin.flush()
         except (OSError, ValueError):
             pass
-
-    def move(self, command):
-        """Carries out a move; returns how many steps were taken, and why there were no more."""
-        self.give(command + "\n")
-        return self.moved()
-
-    def moved(self):
-        """The reply to a move: how many steps were taken, and why there were no more."""
-        reply = re.fullmatch(r"forward ([0-9]+)(?: ([A-Za-z]+))?", self.line())
-        if reply is None:
-            raise Fault("trac debug gave a reply that is not understood")
-        return int(reply[1]), reply[2]
-
-    def state(self, most=None):
-        """The lines of a state, without that of the journal."""
-        end = self.read_to(b"\njournal ", most)
-        self.size = end - self.taken
-        lines, self.taken = self.replies[self.taken:end].decode("ascii").split("\n"), end + 1
-        self.line()
-        return lines
-
-    def pass_state(self):
-        """Passes over a state; returns how many bytes of the file were read since the first state that can be gone back to,
-        and how long the state is, but for what was printed."""
-        size, _ = self.pass_to(b"\nposition ")
-        position = int(self.line())
-        self.pass_to(b"\njournal ")
-        self.line()
-        return position, size
-
-    def printed(self, kept):
-        """The reply to a commit: the last few signs of what was printed, which do not begin within the sign of a byte."""
-        self.pass_to(b"[")
-        _, back = self.pass_to(b"]\n", kept + 4)
-        return tail(back.decode("ascii"), kept)
 
     def end(self):
         """Ends the session, and what it holds of replies."""
@@ -146,7 +71,7 @@ class Debugger:
         except OSError:
             pass
         self.process.wait()
-        self.replies, self.taken = b"", 0
+        self.replies = b""
 
 
 class Passed:
@@ -180,22 +105,10 @@ def passed_on(tape):
         file.close()
 
 
-def inside(line):
-    """The text of a line with one text."""
-    return line[line.index("[") + 1:-1]
-
-
 def bytes_of(text):
     """The bytes of a text as the debugger shows it."""
     front, *rest = text.split("\\x")
     return front.encode() + b"".join(bytes((int(part[:2], 16),)) + part[2:].encode() for part in rest)
-
-
-def tail(text, most):
-    """The back of a text, which does not begin within the sign of a byte."""
-    start = max(len(text) - most, 0)
-    inner = text.rfind("\\", max(start - 3, 0), start)
-    return text[start if inner < 0 else inner + 4:]
 
 
 def find(name, script):
@@ -231,3 +144,15 @@ def version_of(program):
         raise Fault("{} --version ended with status {}".format(shown(program), said.returncode),
                     said.returncode if said.returncode > 0 else 70)
     return said.stdout.decode("utf-8", "replace").strip()
+
+
+class ShowVersion(argparse.Action):
+    """An option of a script that shows the version of the processor and ends it, whatever else the command line has."""
+
+    def __init__(self, script, **more):
+        super().__init__(nargs=0, **more)
+        self.script = script
+
+    def __call__(self, parser, *_):
+        write(version_of(find("trac", self.script)) + "\n")
+        parser.exit()

@@ -37,3 +37,14 @@ function callsSaid(text, end) {
   calls.from = calls.steps.length === MOST_CALLS ? calls.steps[0] : Number(forgotten?.[1] ?? 0);
   return calls;
 }
+
+// For each call the one that it was an argument of, or -1. It is performed later, and fewer calls are begun then.
+function parentsOf(depths) {
+  const parents = new Int32Array(depths.length).fill(-1);
+  const open = [];
+  depths.forEach((depth, index) => {
+    while (open.length && depths[open[open.length - 1]] > depth) parents[open.pop()] = index;
+    open.push(index);
+  });
+  return parents;
+}

@@ -53,7 +53,7 @@ function chooseSign(page, text, key) {
 function showChosen(page, text, { holder, number }) {
   const range = rangeOfByte(holder, number);
   if (!range) return;
-  if (window.Highlight) CSS.highlights.set("chosen", new Highlight(range));
+  setLight("chosen", [range]);
   bringInView(text, range);
   page.note(`byte ${grouped(number + 1)}: ${BLANKS[range] ?? range}`);
 }
@@ -73,7 +73,7 @@ function bringInView(text, range) {
 
 // Nothing is chosen any more: no sign is marked, and a line stands as it did.
 function forgetChosen(text) {
-  if (window.Highlight) CSS.highlights.delete("chosen");
+  setLight("chosen", []);
   const line = text.querySelector?.(":scope > .line[data-shift]");
   if (!line) return;
   delete line.dataset.shift;

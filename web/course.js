@@ -1,8 +1,14 @@
 // The course: a lesson or an exercise beside the editor. An exercise is checked by running the program of the editor.
 
 const SHOWN_BYTES = 4096;
-// What a lesson says of the exercises in a terminal: here `next` leads to them.
+// What a lesson says of the exercises in a terminal: here `next` leads to them. And sentences of what only a terminal shows.
 const IN_TERMINAL = /\n## Exercises\n[^]*$/;
+const OF_SHELL = /(?<=^|[.:] )[^.:\n]*\bshell\b[^.]*\.\s?/gm;
+
+// A text of the course without what holds in a terminal alone.
+function inPage(text) {
+  return text.replace(IN_TERMINAL, "").replace(OF_SHELL, "");
+}
 
 class Course {
   constructor(page, open) {
@@ -13,13 +19,14 @@ class Course {
     // lessons, each before its exercises
     this.items = lessons.flatMap((lesson) => [lesson, ...lesson.exercises]);
     this.list();
+    byId("lesson-before").addEventListener("click", () => this.show(this.at - 1));
     byId("lesson-next").addEventListener("click", () => this.show(this.at + 1));
     byId("lesson-close").addEventListener("click", () => this.close());
   }
 
   list() {
     const list = byId("course");
-    list.append(new Option("The course ..", ""));
+    list.append(new Option("Course", ""));
     this.items.forEach(({ text, runs }, index) => {
       const margin = runs ? "\u00a0\u00a0\u00a0" : "";
       list.append(new Option(margin + titleOf(text), String(index)));
@@ -30,13 +37,15 @@ class Course {
   // Shows a lesson or an exercise.
   show(index) {
     this.at = index;
-    const item = this.items[index], next = this.items[index + 1];
+    const item = this.items[index], next = this.items[index + 1], before = this.items[index - 1];
     const place = byId("lesson-text");
     byId("lesson-title").textContent = (item.runs ? "Exercise " : "") + titleOf(item.text);
+    byId("lesson-before").hidden = !before;
+    if (before) byId("lesson-before").setAttribute("aria-label", `previous: ${titleOf(before.text)}`);
     byId("lesson-next").hidden = !next;
     if (next) byId("lesson-next").setAttribute("aria-label", `next: ${titleOf(next.text)}`);
     place.replaceChildren();
-    addMarkdown(place, item.text.replace(IN_TERMINAL, ""), (name, text) => this.program(name, text));
+    addMarkdown(place, inPage(item.text), (name, text) => this.program(name, text));
     if (item.runs) this.addExercise(place, item);
     byId("lesson").hidden = false;
     place.scrollTop = 0;

@@ -47,10 +47,13 @@ function markDoubts({ tree, step }) {
   }
 }
 
-// Lists the first doubts, each as a link to its step, marks all of them in the program, and each under its call.
-function showDoubts(page, doubts) {
+// Lists the first doubts, each as a link to its step, marks all of them in the program, and each under its call. Hints of the page have no
+// step.
+function showDoubts(page, told) {
   page.tree.doubts = new Map();
+  const doubts = told.map((doubt) => ({ ...doubt, words: wordsOfDoubt(doubt, page) }));
   for (const { step, words } of doubts) {
+    if (step === null) continue;
     const said = page.tree.doubts.get(step);
     page.tree.doubts.set(step, said ? `${said}; ${words}` : words);
   }
@@ -58,13 +61,12 @@ function showDoubts(page, doubts) {
   markDoubts(page);
   const inProgram = doubts.filter(({ byte }) => byte < page.program.length);
   page.editor.light("doubtful", page.isStale ? [] : inProgram.map(({ byte }) => byte), false);
-  byId("doubts-section").hidden = doubts.length === 0;
+  page.tabs.count("doubts", grouped(doubts.length), doubts.length > 0);
+  byId("doubts-hint").textContent = doubts.length ? "What was probably not meant." : "Nothing is done that was probably not meant.";
   byId("doubts").replaceChildren(...doubts.slice(0, MOST_DOUBTS).map(({ step, byte, words }) => {
     const row = make("p", "way-row");
-    const link = make("button", "", `step ${grouped(step)}`);
-    link.type = "button";
-    link.addEventListener("click", () => page.visit(step));
-    row.append(link, make("span", "doubt", words));
+    if (step !== null) row.append(page.button(`step ${grouped(step)}`, () => page.visit(step)));
+    row.append(make("span", "doubt", words));
     if (byte < page.program.length) row.append(placeOf(page, byte));
     return row;
   }));

@@ -1,5 +1,5 @@
-// The proved processor, in a Worker. It keeps nothing: each request has the whole input, commands and a budget, and is answered
-// by a new instance of the module.
+// The proved processor, in a Worker. It keeps nothing but the input: each request has commands and a budget, and is
+// answered as if it were the first.
 
 // The answer was dropped, since the Worker was stopped.
 class Stopped extends Error {}
@@ -12,11 +12,62 @@ class Refused extends Error {
   }
 }
 
+// A module beside others takes so much memory at most, in bytes. What needs more is done alone, as is all over a long
+// input.
+const SHARED = 96 << 20;
+const ALONE = 512 << 20;
+const LONG_TAPE = 1 << 20;
+
+// What is to be done alone: one request after the other, of all engines of a page.
+class Turns {
+  constructor() {
+    this.engines = [];
+    this.requests = [];
+    this.atWork = null;
+    // inputs over which all is done alone
+    this.large = new WeakSet();
+  }
+
+  isLarge(tape) {
+    return tape.length > LONG_TAPE || this.large.has(tape);
+  }
+
+  add(request) {
+    this.requests.push(request);
+    this.next();
+  }
+
+  // Begins the next one, of the first engine that has one. An engine that does nothing, or only what has spare memory, keeps none
+  // meanwhile.
+  next() {
+    if (this.atWork || this.requests.length === 0) return;
+    const ranks = this.requests.map(({ engine }) => this.engines.indexOf(engine));
+    [this.atWork] = this.requests.splice(ranks.indexOf(Math.min(...ranks)), 1);
+    for (const engine of this.engines) if (engine !== this.atWork.engine) engine.giveWay();
+    this.atWork.engine.send(this.atWork, ALONE);
+  }
+
+  // The request that was done alone has an answer, or none is wanted. (All that is dropped at once is dropped first.)
+  end(request) {
+    if (this.atWork !== request) return;
+    this.atWork = null;
+    queueMicrotask(() => this.next());
+  }
+
+  // Drops what an engine asks for.
+  drop(engine) {
+    this.requests = this.requests.filter((request) => request.engine !== engine);
+    if (this.atWork?.engine === engine) this.end(this.atWork);
+  }
+}
+
 class Engine {
   // The bytes of the module, and the text of the Worker.
-  constructor(module, source) {
+  constructor(module, source, turns = new Turns()) {
     this.module = module;
     this.source = source;
+    this.turns = turns;
+    turns.engines.push(this);
     this.address = URL.createObjectURL(new Blob([source], { type: "text/javascript" }));
     this.last = 0;
     this.waiting = new Map();
@@ -27,7 +78,7 @@ class Engine {
 
   // Another one, for what goes on beside. Its Worker begins with its first request.
   twin() {
-    return new Engine(this.module, this.source);
+    return new Engine(this.module, this.source, this.turns);
   }
 
   // Begins a Worker. What an earlier one still says is dropped. It is ready once it has compiled the module.
@@ -37,7 +88,8 @@ class Engine {
     });
     this.ready.catch(() => {});
     const worker = new Worker(this.address);
-    this.worker = worker;
+    // the Worker, the input that it has, how many requests, and whether it has compiled the module
+    [this.worker, this.tape, this.sent, this.isUp] = [worker, null, 0, false];
     worker.onmessage = ({ data }) => {
       if (this.worker === worker) this.take(data);
     };
@@ -51,6 +103,7 @@ class Engine {
   // Takes an answer.
   take(answer) {
     if (answer.isReady) {
+      this.isUp = true;
       this.isReady.resolve();
       return;
     }
@@ -58,8 +111,18 @@ class Engine {
       this.isReady.reject(new Refused(answer.fault));
       return;
     }
+    this.sent--;
     const request = this.waiting.get(answer.number);
     if (!request) return;
+    const { isSpare } = request.words;
+    if (answer.isShort && !isSpare) this.turns.large.add(request.tape);
+    // (what needed much memory is not kept)
+    if (this.sent === 0 && !(answer.memory <= SHARED)) this.rest();
+    this.turns.end(request);
+    if (answer.isShort && !isSpare) {
+      this.turns.add(request);
+      return;
+    }
     this.waiting.delete(answer.number);
     this.told(this.waiting.size);
     if (answer.refused) request.reject(new Refused(answer.refused));
@@ -67,15 +130,39 @@ class Engine {
   }
 
   // Asks for a call of the module over bytes: its name, the input, what else it takes, and the room that is tried first for the
-  // answer.
+  // answer. What has spare memory (`isSpare`) is never done alone: it is refused.
   ask(call, tape, more = {}, room = 1 << 20) {
-    if (!this.worker) this.start();
     const number = ++this.last;
+    if (more.isSpare && this.turns.isLarge(tape)) return Promise.reject(new Refused("no memory"));
     return new Promise((resolve, reject) => {
-      this.waiting.set(number, { resolve, reject });
+      const request = { engine: this, number, tape, words: { call, room, ...more }, resolve, reject };
+      this.waiting.set(number, request);
       this.told(this.waiting.size);
-      this.worker.postMessage({ number, call, tape, room, ...more });
+      if (this.turns.isLarge(tape)) this.turns.add(request);
+      else this.send(request, SHARED);
     });
+  }
+
+  // Sends a request to the Worker, which may take so much memory for it; the input only if it has another one.
+  send({ number, tape, words }, memory) {
+    if (!this.worker) this.start();
+    const copy = this.tape === tape ? null : tape.slice();
+    [this.tape, this.sent] = [tape, this.sent + 1];
+    this.worker.postMessage({ number, tape: copy, memory, decimals: DECIMALS, ...words }, copy ? [copy.buffer] : []);
+  }
+
+  // Keeps no memory if it does nothing, or only what has spare memory.
+  giveWay() {
+    const requests = [...this.waiting.values()];
+    if (requests.length && requests.every(({ words }) => words.isSpare)) this.stop();
+    else this.rest();
+  }
+
+  // Ends a Worker that does nothing, so that it keeps no memory.
+  rest() {
+    if (!this.worker || !this.isUp || this.sent > 0) return;
+    this.worker.terminate();
+    this.worker = null;
   }
 
   // Ends what is going on, at once.
@@ -88,22 +175,23 @@ class Engine {
   fail(fault) {
     const requests = [...this.waiting.values()];
     this.waiting.clear();
+    this.turns.drop(this);
     this.told(0);
     this.isReady?.reject(fault);
     for (const request of requests) request.reject(fault);
   }
 }
 
-// The bytes of an element's base64 text.
-function bytesOfElement(id) {
-  return Uint8Array.from(atob(document.getElementById(id).textContent.trim()), (sign) => sign.charCodeAt(0));
+// The bytes that are packed in a text: by deflate, and in base64.
+async function unpackedText(text) {
+  const packed = new Blob([bytesOfSigns(text)]).stream();
+  return new Uint8Array(await new Response(packed.pipeThrough(new DecompressionStream("deflate"))).arrayBuffer());
 }
 
-// The engine of this page. The module is packed.
+// The engine of this page.
 async function engineOfPage() {
-  const packed = new Blob([bytesOfElement("module")]);
-  const module = await new Response(packed.stream().pipeThrough(new DecompressionStream("deflate"))).arrayBuffer();
-  const engine = new Engine(module, document.getElementById("worker").textContent);
+  const module = await unpackedText(byId("module").textContent);
+  const engine = new Engine(module, byId("worker").textContent);
   try {
     engine.start();
   } catch (fault) {

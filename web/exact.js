@@ -16,6 +16,24 @@ function listedLength(text, { neutral, texts }) {
 }
 
 class CallTree extends Tree {
+  // What is told how many calls there are.
+  constructor(go, counted) {
+    super(go);
+    this.counted = counted;
+  }
+
+  list() {
+    super.list();
+    this.counted?.(grouped(this.calls.steps.length));
+  }
+
+  // It is seen now: its rows are made, and that of the step is in view.
+  seen() {
+    this.draw();
+    if (this.places.has(this.current)) this.bring(this.current);
+    this.draw();
+  }
+
   show(calls) {
     // the calls as they stood, as far as they are known
     this.exact = new Map();
@@ -31,8 +49,8 @@ class CallTree extends Tree {
   fill(row, index) {
     const text = this.calls.texts[index], call = this.exact.get(index);
     const length = call ? listedLength(text, call) : 0;
-    if (length === 0) super.fill(row, index);
-    else row.append(addCallText(make("span"), call, 80), text.slice(length, length + 200));
+    if (length > 0) row.append(addCallText(make("span"), call, 80));
+    addText(row, text.slice(length, boundary(text, Math.min(length + (length ? 200 : 300), text.length))));
   }
 
   // The call that is performed at a step, as it is listed, or nothing.

@@ -1,8 +1,8 @@
 // The input of a run: after the program stand lines, each with the step where the cursor was when it was given.
 
-// All input: the program, and what was given.
+// All input: the program, and what was given. (A copy of it alone would be of no use.)
 function tapeOf({ program, inputs }) {
-  return joined([program, ...inputs.map(({ bytes }) => bytes)]);
+  return inputs.length ? joined([program, ...inputs.map(({ bytes }) => bytes)]) : program;
 }
 
 // The lines of which something is read, where so many bytes of all lines are.
@@ -21,8 +21,8 @@ function linesBegun(inputs, read) {
 
 // How many lines have something in them.
 function countOfLines(inputs) {
-  const texts = inputs.map(({ bytes }) => new TextDecoder("latin1").decode(bytes).split("\n"));
-  return texts.reduce((sum, lines) => sum + lines.filter((line) => line !== "").length, 0);
+  const isEnd = (byte, at, bytes) => byte !== 10 && (at + 1 === bytes.length || bytes[at + 1] === 10);
+  return inputs.reduce((sum, { bytes }) => sum + bytes.reduce((count, ...of) => count + (isEnd(...of) ? 1 : 0), 0), 0);
 }
 
 // What came after a step: so many lines, and perhaps the end of input. Nothing if neither did.

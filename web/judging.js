@@ -41,7 +41,7 @@ function withoutEnds(bytes) {
 }
 
 function isEqual(one, other) {
-  return one.length === other.length && one.every((byte, at) => byte === other[at]);
+  return one === other || (one.length === other.length && one.every((byte, at) => byte === other[at]));
 }
 
 // Where two texts begin to differ.

@@ -22,6 +22,10 @@ function onKey(page, event, keys) {
     page.stop();
     return;
   }
+  if (event.key === "Escape" && !event.defaultPrevented && !byId("help").hidden && !event.target.closest("dialog")) {
+    page.help(false);
+    return;
+  }
   if (event.key === "Enter" && event.target.id === "filter") {
     page.visitFound();
     return;

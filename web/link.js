@@ -144,7 +144,7 @@ async function openedLink(address) {
   if (text.length > 2 * MOST_PACKED) throw new WrongLink(LINK_FAULTS.large);
   let bytes;
   try {
-    bytes = Uint8Array.from(atob(text.slice(2).replaceAll("-", "+").replaceAll("_", "/")), (sign) => sign.charCodeAt(0));
+    bytes = bytesOfSigns(text.slice(2).replaceAll("-", "+").replaceAll("_", "/"));
   } catch {
     throw new WrongLink(LINK_FAULTS.cut);
   }

@@ -1,15 +1,13 @@
 // Begins the page: what buttons, keys, files and the mouse do.
 
-// Opens a program: its bytes stand in the editor, and what was run before is gone from the page.
-function openProgram(page, name, bytes) {
+// Opens a program: its bytes stand in the editor, and what was run before is gone from the page. What stood in the editor can be brought
+// back. That of a link is not kept for the next time.
+function openProgram(page, name, bytes, isKept = true) {
   page.editor.open(name, bytes);
+  byId("welcome-about").hidden = true;
   page.forget();
+  if (isKept) page.draft.changed();
   page.announcer.say("ending", `${byId("program-name").textContent} is opened.`);
-}
-
-// Whether what was typed may be dropped.
-async function mayDrop(page) {
-  return !page.isTyped || await ask("The program in the editor is not saved. Open another in its place?");
 }
 
 // The most bytes that a program may have. A longer file is not even read: a tab has no room for any size.
@@ -22,7 +20,6 @@ async function openFile(page, file) {
     refuseFile(page, `${file.name} has ${grouped(file.size)} bytes: ${most}. Nothing is opened.`);
     return;
   }
-  if (!await mayDrop(page)) return;
   try {
     openProgram(page, file.name, new Uint8Array(await file.arrayBuffer()));
   } catch {
@@ -32,7 +29,7 @@ async function openFile(page, file) {
 
 // Says that a file is not opened.
 function refuseFile(page, words) {
-  byId("ending").textContent = words;
+  page.showWords(words);
   page.announcer.say("ending", words);
 }
 
@@ -43,27 +40,7 @@ function saveProgram(page) {
   link.download = page.editor.name;
   link.click();
   setTimeout(() => URL.revokeObjectURL(link.href), 1000);
-  page.isTyped = false;
-}
-
-// The programs that come with the page.
-function listLibrary(page) {
-  const programs = JSON.parse(byId("library-data").textContent);
-  const list = byId("library");
-  list.append(new Option("A program ..", ""));
-  for (const group of new Set(programs.map((program) => program.group))) {
-    const part = make("optgroup");
-    part.label = group;
-    programs.forEach((program, index) => {
-      if (program.group === group) part.append(new Option(program.name, String(index)));
-    });
-    list.append(part);
-  }
-  startList(list, async (index) => {
-    const program = programs[Number(index)];
-    if (!await mayDrop(page)) return;
-    openProgram(page, program.name, Uint8Array.from(atob(program.text), (sign) => sign.charCodeAt(0)));
-  });
+  page.draft.isKept = true;
 }
 
 function startFiles(page) {
@@ -89,14 +66,8 @@ function startFiles(page) {
     drop.hidden = true;
     openFile(page, event.dataTransfer.files[0]);
   });
-  listLibrary(page);
-  new Course(page, async (name, bytes) => {
-    if (await mayDrop(page)) openProgram(page, name, bytes);
-  });
-  // what was typed and not saved is not to be lost
-  addEventListener("beforeunload", (event) => {
-    if (page.isTyped && page.editor.bytes().length > 0) event.preventDefault();
-  });
+  page.library = new Library(page);
+  page.course = new Course(page, (name, bytes) => openProgram(page, name, bytes));
 }
 
 // What is said where a sign that stands for a begun call is clicked.
@@ -120,17 +91,22 @@ function isDark() {
   return theme ? theme === "dark" : matchMedia("(prefers-color-scheme: dark)").matches;
 }
 
+// The looks that were chosen are kept for the next time.
 function startLooks(page) {
   const named = () => {
     byId("theme").textContent = isDark() ? "Light" : "Dark";
     page.timeline.draw();
   };
+  const theme = kept(THEME);
+  if (theme === "dark" || theme === "light") document.documentElement.dataset.theme = theme;
   byId("theme").addEventListener("click", () => {
     document.documentElement.dataset.theme = isDark() ? "light" : "dark";
+    keepText(THEME, document.documentElement.dataset.theme);
     named();
   });
   for (const looks of ["(prefers-color-scheme: dark)", "(forced-colors: active)"]) matchMedia(looks).addEventListener("change", named);
   byId("help-button").addEventListener("click", () => page.help());
+  byId("help-close").addEventListener("click", () => page.help(false));
   named();
 }
 
@@ -143,16 +119,16 @@ function startPage(page) {
   });
   byId("input-form").addEventListener("submit", (event) => {
     event.preventDefault();
-    const box = byId("input");
-    const bytes = new TextEncoder().encode(`${box.value}\n`);
+    const box = byId("input"), line = box.value;
     box.value = "";
-    page.feed(bytes).then(() => box.focus());
+    page.feed(line).then(() => box.focus());
   });
   byId("end-input").addEventListener("click", () => page.endInput());
   // a button that the mouse has pressed is not to be pressed again by the space key
   document.addEventListener("click", (event) => {
-    if (event.detail > 0) event.target.closest("#buttons button, #run")?.blur();
+    if (event.detail > 0) event.target.closest("#buttons button, #more-buttons button, #run")?.blur();
   });
+  startLights();
   startKeys(page);
   startAnnouncing(page);
   startFollowing(page);
@@ -167,8 +143,12 @@ function startPage(page) {
 engineOfPage().then(async (engine) => {
   const page = new Page(engine);
   startPage(page);
-  await engine.ready.catch((fault) => playRecorded(page, fault));
-  await openAddress(page);
+  await engine.ready.catch((fault) => goWithout(page, fault));
+  const given = givenToPage();
+  welcome(page, given !== null);
+  // (a link to the page of a program says more than that)
+  if (given && location.hash.length < 2) await openGiven(page, given);
+  else await openAddress(page);
   document.documentElement.dataset.ready = "yes";
 }).catch((fault) => {
   byId("ending").textContent = `This page takes Chromium 105, Firefox 121, Safari 16.4 or later: ${fault.message}`;

@@ -1,74 +1,109 @@
 // A run to where it waits, ends, or has taken as many steps as it may.
 
-// So many steps are taken at once, and then what was printed is taken.
-const STRIDE = 65536;
+// So many steps are between two landmarks; fewer where a way over so many takes too much memory, or prints too much.
+const STRIDES = [65536, 4096, 256, 16];
+// So many landmarks are asked for at most, and of what they are asked of so many steps and bytes of records are kept.
+const MOST_LANDMARKS = 20000;
+const MEASURED = { journal: 65536, keep: 1 << 24 };
 
 // With so much output landmarks stand nearer to each other, for a way to a state has what was printed since the last.
 const MUCH_OUTPUT = 1 << 20;
-const MOST_LANDMARKS = 64;
+const NEAR_LANDMARKS = 64;
+// So much of it is shown.
+const MOST_OUTPUT = 1 << 26;
 
-// What a run comes to: how many steps it takes, why no more, the last state, what was printed, and landmarks on the way: how much
-// was read and printed until then.
-async function measure(engine, tape, isClosed, budget) {
-  const most = isClosed ? budget : await stepsOfOpen(engine, tape, budget);
-  const run = await strode(engine, tape, most, STRIDE, 4 << 20);
-  if (run.output.length > MUCH_OUTPUT) {
-    const nearer = Math.min(STRIDE, Math.ceil(run.end / MOST_LANDMARKS));
-    run.landmarks = (await strode(engine, tape, run.end, nearer, run.output.length * 3)).landmarks;
-  }
-  run.stand = standOf(run.state);
+// How far it comes, as trac-walk shows that. (Of a long line the end is cut.)
+const REACHED = /^step +(\d+), back to \d+; (\d+) bytes? of input not read, (?:(\d+) b)?/gm;
+
+// What a run comes to: how many steps it takes, why no more, the last states, what was printed, if it is not too much, and landmarks
+// on the way: how much was read and printed until then.
+async function measure(engine, tape, isClosed, budget, mostOutput = MOST_OUTPUT) {
+  const run = await measured(engine, tape, isClosed, budget);
+  const state = run.window.states.at(-1);
+  run.meta = state.parts.meta;
+  // (whether one byte is read, and no text)
+  run.isOfByte = /^rc$/i.test(state.parts.calls.at(-1)?.texts[0] ?? "");
+  run.stand = run.why === "TooLong" || run.why === "Memory" ? "refused" : standOf(state);
   if (run.stand === "refused" && run.end >= budget) run.stand = "spent";
+  // (trac-walk, which keeps steps, takes more memory than the debugger)
+  else run.why ??= "Memory";
+  if (run.printed > mostOutput) throw new Refused("the output is too long");
+  run.output = await outputOf(engine, tape, run);
   return run;
 }
 
-// A run of so many steps, some at a time. Its last two states are there to be shown.
-async function strode(engine, tape, most, stride, room) {
-  const turns = Math.floor((Math.max(most, 1) - 1) / stride);
-  const rest = Math.max(most, 1) - 1 - turns * stride;
-  const commands = `${`s ${stride}\np\nc\n`.repeat(turns)}s ${rest}\np\nc\np\ns 1\np\nc\n`;
-  const { bytes } = taken(await engine.ask("debug", tape, { commands }, room));
-  return runSaid(new Replies(bytes), turns + 1);
-}
-
-// What the replies to that say.
-function runSaid(replies, strides) {
-  const run = { end: 0, why: null, landmarks: [] };
-  const texts = [], before = { position: 0, printed: 0 };
-  for (let left = strides; left > 0; left--) {
-    const { done, why } = replies.moved("forward");
-    before.position += positionIn(replies.state());
-    texts.push(replies.committed());
-    before.printed += lengthOf(texts[texts.length - 1]);
-    [run.end, run.why] = [run.end + done, why];
-    if (done > 0) run.landmarks.push({ step: run.end, ...before });
+// The same without what follows from that. If no way comes to the end, what it stops before is the end.
+async function measured(engine, tape, isClosed, budget) {
+  let most = budget, tried = null;
+  for (const stride of STRIDES) {
+    if (tried && most / stride > MOST_LANDMARKS) break;
+    const marks = await landmarksOf(engine, tape, isClosed, most, stride);
+    most = marks.at(-1).step;
+    const run = await endOf(engine, tape, marks);
+    if (run.window) return run;
+    tried = { ...run, stride };
   }
+  const run = await endOf(engine, tape, await landmarksOf(engine, tape, isClosed, tried.end, tried.stride));
+  if (!run.window) throw new Refused("no memory");
+  return { ...run, why: tried.why };
+}
+
+// How far it comes, and how much is read and printed there, each time that it has taken so many steps; of much output
+// more often.
+async function landmarksOf(engine, tape, isClosed, most, stride) {
+  const turns = Math.floor(most / stride), rest = most - turns * stride;
+  const moves = [...Array(turns).fill(stride), ...(rest ? [rest] : [])].flatMap((steps) => [`s ${steps}`, "p"]);
+  const text = await walked(engine, tape, [...endOfInput(isClosed), ...moves], (turns + 2) * SCREEN, MEASURED);
+  let mark = { step: -1, printed: 0 };
+  const marks = [];
+  for (const [, step, unread, printed] of text.matchAll(REACHED)) {
+    if (Number(step) === mark.step) continue;
+    const position = tape.length - Number(unread);
+    // (only a large number is cut)
+    mark = { step: Number(step), position, printed: Number(printed ?? Math.max(mark.printed, 1)) };
+    marks.push(mark);
+  }
+  if (marks.length === 0) throw new NotUnderstood(text.slice(0, 80));
+  if (mark.printed > MOST_OUTPUT) throw new Refused("the output is too long");
+  const near = Math.ceil(mark.step / NEAR_LANDMARKS);
+  return mark.printed > MUCH_OUTPUT && near < stride ? landmarksOf(engine, tape, isClosed, mark.step, near) : marks;
+}
+
+// The end of a run with its last states, if the way there over these landmarks comes to it; else how far that comes, and
+// why no farther.
+async function endOf(engine, tape, marks) {
+  const landmarks = [...marks], { step: end, position: read, printed } = landmarks.pop();
+  const first = Math.max(end - 1, 0);
+  const way = new Story(engine, tape, landmarks).way(first);
+  const commands = `${way.commands.join("")}p\n${"s 1\np\n".repeat(end - first)}s 1\n`;
+  const room = way.room + 2 * (printed - way.last.printed) + (1 << 18);
+  const { bytes } = taken(await engine.ask("debug", tape, { commands }, room));
+  const replies = new Replies(bytes);
+  const { step, before, why: stopped } = Story.went(replies, way);
+  if (stopped) return { end: step, why: stopped };
   const states = [new State(replies.state(), before)];
-  const { done, why } = replies.moved("forward");
-  states.push(new State(replies.state(), before));
-  texts.push(replies.committed());
+  if (first < end) {
+    const { why } = replies.moved("forward");
+    if (why) return { end: first, why };
+    states.push(new State(replies.state(), before));
+  }
+  const { why } = replies.moved("forward");
   replies.end();
-  if (done === 1) run.window = windowOf(run.end, states);
-  [run.end, run.why, run.state] = [run.end + done, why, states[1]];
-  run.read = before.position + positionIn(run.state.text);
-  run.output = joinedBytes(texts);
-  return run;
+  return { end, why, landmarks, read, printed, window: windowOf(first, states) };
 }
 
-// The number that a state says was read.
-function positionIn(text) {
-  const at = text.lastIndexOf("\nposition ");
-  return Number(text.slice(at + "\nposition ".length, text.indexOf("\n", at + 1)));
-}
-
-// How many steps a run takes whose input may go on: trac-walk says it.
-async function stepsOfOpen(engine, tape, budget) {
-  const text = await walked(engine, tape, [`s ${budget}`]);
-  return stepSaid(text);
+// All that a run prints.
+async function outputOf(engine, tape, { end, printed }) {
+  if (printed === 0) return new Uint8Array(0);
+  const wanted = { budget: Math.max(end, 1), most: MOST_OUTPUT + 1 };
+  const { bytes } = await engine.ask("run", tape, wanted, printed);
+  if (bytes.length > MOST_OUTPUT) throw new Refused("the output is too long");
+  return bytes;
 }
 
 // What trac-walk says to some lines.
-async function walked(engine, tape, lines, room = 1 << 16) {
-  const { bytes } = taken(await engine.ask("walk", tape, { commands: lines.join("\n") + "\n" }, room));
+async function walked(engine, tape, lines, room = 1 << 16, more = {}) {
+  const { bytes } = taken(await engine.ask("walk", tape, { commands: lines.join("\n") + "\n", ...more }, room));
   return new TextDecoder("latin1").decode(bytes);
 }
 
@@ -84,22 +119,4 @@ function stepSaid(text) {
   const found = /^(?:here: )?(\d+)  /.exec(last);
   if (!found) throw new NotUnderstood(last.slice(0, 80));
   return Number(found[1]);
-}
-
-// The bytes of texts as the debugger prints them, joined.
-function joinedBytes(texts) {
-  const bytes = new Uint8Array(texts.reduce((sum, text) => sum + lengthOf(text), 0));
-  let at = 0;
-  for (const text of texts) at = putBytes(bytes, at, text);
-  return bytes;
-}
-
-function putBytes(bytes, at, text) {
-  for (let place = 0; place < text.length; place++) {
-    if (text.charCodeAt(place) === 92) {
-      bytes[at++] = parseInt(text.slice(place + 2, place + 4), 16);
-      place += 3;
-    } else bytes[at++] = text.charCodeAt(place);
-  }
-  return at;
 }

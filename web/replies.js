@@ -8,20 +8,35 @@ const STATE_LINE = new RegExp(
     .replaceAll("T", "[^\\][\\\\]*(?:\\\\x[0-9a-f]{2}[^\\][\\\\]*)*"),
 );
 
-// Replies, read one after the other.
+// Replies, read one after the other. They are kept as bytes: only what is wanted of them becomes text.
 class Replies {
   constructor(bytes) {
     this.bytes = bytes;
     this.decoder = new TextDecoder("latin1");
-    this.text = this.decoder.decode(bytes);
     this.at = 0;
+  }
+
+  // All of them as text, of which each sign is a byte.
+  get text() {
+    this.whole ??= this.decoder.decode(this.bytes);
+    return this.whole;
+  }
+
+  textBetween(from, to) {
+    return this.decoder.decode(this.bytes.subarray(from, to));
+  }
+
+  // Whether these signs stand there.
+  has(words, at = this.at) {
+    for (let index = 0; index < words.length; index++) if (this.bytes[at + index] !== words.charCodeAt(index)) return false;
+    return true;
   }
 
   // The next line.
   line() {
-    const end = this.text.indexOf("\n", this.at);
+    const end = this.bytes.indexOf(10, this.at);
     if (end < 0) throw new NotUnderstood(`no reply at ${this.at}`);
-    const line = this.text.slice(this.at, end);
+    const line = this.textBetween(this.at, end);
     this.at = end + 1;
     return line;
   }
@@ -33,6 +48,12 @@ class Replies {
     return { done: Number(found[2]), why: found[3] ?? null };
   }
 
+  // A move forward took all its steps.
+  goes() {
+    const { why } = this.moved("forward");
+    if (why) throw new NotUnderstood(`the way is ${why}`);
+  }
+
   // What was printed before a commit, as it stands in the reply.
   committed() {
     const line = this.line();
@@ -40,19 +61,41 @@ class Replies {
     return line.slice("commit [".length, -1);
   }
 
-  // The lines of a state, as they stand, without the last one. (What is kept of them does not keep all replies.)
+  // How many bytes were printed before a commit.
+  committedLength() {
+    if (!this.has("commit [")) throw new NotUnderstood("no reply to c");
+    const from = this.at + "commit [".length, end = this.bytes.indexOf(10, from) - 1;
+    let length = end - from;
+    for (let at = this.bytes.indexOf(92, from); at >= 0 && at < end; at = this.bytes.indexOf(92, at + 4)) length -= 3;
+    this.at = end + 2;
+    return length;
+  }
+
+  // The lines of a state, as they stand, without the last one.
   state() {
-    const end = this.text.indexOf("\njournal ", this.at);
-    if (end < 0 || !this.text.startsWith("active [", this.at)) throw new NotUnderstood("no state");
-    const text = this.decoder.decode(this.bytes.subarray(this.at, end));
+    const from = this.at;
+    const { end } = this.passed();
+    return this.textBetween(from, end);
+  }
+
+  // Passes over a state: where its lines end without the last one, and how much was read until then.
+  passed() {
+    if (!this.has("active [")) throw new NotUnderstood("no state");
+    let end = this.at, position = 0;
+    do {
+      const from = end + 1;
+      end = this.bytes.indexOf(10, from);
+      if (end < 0) throw new NotUnderstood("no state");
+      if (this.has("position ", from)) position = Number(this.textBetween(from + "position ".length, end));
+    } while (!this.has("journal ", end + 1));
     this.at = end + 1;
     if (!STATE_LINE.test(this.line())) throw new NotUnderstood("no number of steps");
-    return text;
+    return { end, position };
   }
 
   // All of them were read.
   end() {
-    if (this.at !== this.text.length) throw new NotUnderstood("more replies than commands");
+    if (this.at !== this.bytes.length) throw new NotUnderstood("more replies than commands");
   }
 }
 

@@ -1,10 +1,11 @@
-// The sentences of what led here and of what comes next: of the state before, here, and after.
-function showSentences(step, last, next, stand, { before, at, after }) {
-  const said = last && stepsSaid(last.from, step);
-  if (last) showSentence(byId("last"), `${said[0].toUpperCase()}${said.slice(1)}: `, last.move, step - 1, before, at);
+// The sentences of what led here and of what comes next: of the state before, here, and after. Only the next step is numbered: it has the
+// number that stands in the box, and in the lists.
+function showSentences(step, last, next, endWords, { before, at, after }) {
+  const count = last ? step - last.from : 0;
+  if (last) showSentence(byId("last"), count === 1 ? "Just done: " : `Just done, ${grouped(count)} steps: `, last.move, step - 1, before, at);
   else showWords(byId("last"), "Start: ", ["the idle program is there. ", ...IDLE_WORDS]);
   if (next) showSentence(byId("next"), `Next, ${stepsSaid(step, next.to)}: `, next.move, step, at, after);
-  else showWords(byId("next"), "Next: ", [STANDS[stand].words]);
+  else showWords(byId("next"), "Next: ", [endWords]);
 }
 
 // What the step after a number of steps does. The call and its value can be followed where they stand.
@@ -31,14 +32,3 @@ function placeOfValue(move, parts) {
   const place = inner ? `argument ${parts.calls.length - 1} ${inner.texts.length - 1}` : "base";
   return { place, first: lengthOf(currentOf(parts)) - lengthOf(move.value) };
 }
-
-// Why there is no next step, as docs/running.md says it.
-const STANDS = {
-  done: { words: "all of the program is run; what you type now is read as more of it" },
-  waits: { words: "the program waits for input" },
-  halts: { words: "the program halts" },
-  ended: { words: "the input has ended" },
-  refused: { words: "a limit is passed: a form may grow with each call, or a text lack its '" },
-  Memory: { words: "memory was refused: a form may grow with each call" },
-  spent: { words: "the budget of steps is spent: a form may call itself without end" },
-};

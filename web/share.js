@@ -16,28 +16,36 @@ function heldByPage(page) {
 
 // Opens what a link holds: the program, and if it was run, a run with the same input, at the same step.
 async function openHeld(page, held) {
-  openProgram(page, "shared.trac", held.program);
+  openProgram(page, "shared.trac", held.program, false);
   if (held.step === null) return;
-  const { program, inputs, isClosed } = held;
-  const steps = Math.min(Math.max(held.step, 1), MOST_LINK_STEPS);
+  const steps = Math.min(held.step, MOST_LINK_STEPS);
   const isFar = steps > BUDGET
     && await ask(`The link is to step ${grouped(held.step)}. Run ${grouped(steps)} steps of this program?`);
-  const budget = isFar ? BUDGET * Math.ceil(steps / BUDGET) : BUDGET;
+  await performTo(page, { ...held, budget: budgetTo(isFar ? steps : 0) }, "the link");
+}
+
+// How many steps a run may take at least that comes to a step.
+function budgetTo(step) {
+  return BUDGET * Math.max(Math.ceil(step / BUDGET), 1);
+}
+
+// Runs a program, and goes to the step that a link or a page is to, if there is one.
+async function performTo(page, { program, inputs, isClosed, step, budget }, who) {
   await page.perform({ program, inputs, isClosed, budget, isNew: true });
-  if (!page.run) return;
-  await page.visit(held.step);
-  if (held.step > page.run.end) page.note(`the link is to step ${grouped(held.step)}, and the run ends before it`);
+  if (!page.run || step === null) return;
+  await page.visit(step);
+  if (step > page.run.end) page.note(`${who} is to step ${grouped(step)}, and the run ends before it`);
 }
 
 // Opens the link that is the address, if there is one. If it is wrong, that is said beside an empty editor.
 async function openAddress(page) {
-  if (location.hash.length < 2 || !await mayDrop(page)) return;
+  if (location.hash.length < 2) return;
   try {
     await openHeld(page, await openedLink(location.hash));
   } catch (fault) {
     if (!(fault instanceof WrongLink)) throw fault;
-    openProgram(page, "program.trac", new Uint8Array(0));
-    byId("ending").textContent = fault.message;
+    openProgram(page, "program.trac", new Uint8Array(0), false);
+    page.showWords(fault.message);
     page.announcer.say("ending", fault.message);
   }
 }
@@ -55,9 +63,10 @@ async function share(page) {
     ...(held.step === null ? [] : [`step ${grouped(held.step)}`])];
   const holds = `${parts.slice(0, -1).join(", ")}${parts.length > 1 ? " and " : ""}${parts[parts.length - 1]}`;
   const text = link && (isServed() ? location.href.replace(/#.*$/, "") : "") + "#" + link;
+  const lacks = DECIMALS === WIDE ? "" : ` It does not say that numbers have ${DECIMALS} bits here.`;
   byId("share-words").textContent = link === null ? "A link holds at most 1 MiB. Save the program to a file."
-    : isServed() ? `This link holds ${holds}, in ${grouped(text.length)} signs.`
-      : `This text holds ${holds}, in ${grouped(text.length)} signs. Whoever has this page opens it by Open. `
+    : isServed() ? `This link holds ${holds}, in ${grouped(text.length)} signs.${lacks}`
+      : `This text holds ${holds}, in ${grouped(text.length)} signs.${lacks} Whoever has this page opens it by Open. `
         + "This page is a file on your disk, so a link to it would open for nobody else.";
   byId("share-text").value = text ?? "";
   byId("share-text").hidden = byId("share-copy").hidden = link === null;
@@ -83,7 +92,7 @@ async function openPasted(page) {
   try {
     const held = await openedLink(byId("paste").value);
     byId("open-box").close();
-    if (await mayDrop(page)) await openHeld(page, held);
+    await openHeld(page, held);
   } catch (fault) {
     if (!(fault instanceof WrongLink)) throw fault;
     byId("open-note").textContent = fault.message;

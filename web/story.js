@@ -39,15 +39,23 @@ class Story {
   }
 
   // Reads the replies to those; returns what was read and printed until then.
-  static passed(replies, { commands, last }) {
-    for (let left = commands.length; left > 1; left--) {
-      replies.moved("forward");
-      replies.committed();
-    }
-    const { why } = replies.moved("forward");
+  static passed(replies, way) {
+    const { before, why } = Story.went(replies, way);
     if (why) throw new NotUnderstood(`the way is ${why}`);
-    const position = last.position + positionIn(replies.state());
-    return { position, printed: last.printed + lengthOf(replies.committed()) };
+    return before;
+  }
+
+  // The same, or how many steps it took, and why no more.
+  static went(replies, { commands, last }) {
+    let step = 0, printed = 0, position = last.position;
+    for (let left = commands.length; left > 0; left--) {
+      const { done, why } = replies.moved("forward");
+      step += done;
+      if (why) return { step, why };
+      if (left === 1) position += replies.passed().position;
+      printed += replies.committedLength();
+    }
+    return { before: { position, printed }, why: null };
   }
 
   // The state at a step where it is kept, or nothing.
@@ -83,10 +91,15 @@ class Story {
     const [from, to] = [Math.max(step - WIDE_STEPS / 4, 0), Math.min(step + WIDE_STEPS / 4, end)];
     if (this.isWidening || this.size > 16384 || this.windowOf(from, to)) return;
     this.isWidening = true;
-    this.fetch(from, to, end, WIDE_STEPS, this.ahead).catch(() => {}).finally(() => {
+    this.small(from, to, end, WIDE_STEPS, this.ahead).catch(() => {}).finally(() => {
       this.isWidening = false;
       if (this.cursor !== step) this.widen(end);
     });
+  }
+
+  // Forgets all states, so that others have their room.
+  letGo() {
+    [this.windows, this.shown] = [[], []];
   }
 
   windowOf(from, to) {
@@ -101,13 +114,42 @@ class Story {
   }
 
   // Fetches the states from a step to another, and on both sides as many more as are small together.
-  async fetch(from, to, end, most, engine = this.engine) {
+  async fetch(from, to, end, most) {
+    if (this.size * (to - from + 1) <= WINDOW) await this.small(from, to, end, most, this.engine);
+    // (they are larger than those before)
+    if (!this.windowOf(from, to)) this.keep(await this.large(from, to));
+  }
+
+  // The states of some steps that are large, each by itself. What was kept goes first: no more is to be there than is shown.
+  async large(from, to) {
+    this.letGo();
+    const { commands, last } = this.way(from);
+    const way = [...commands.slice(0, -1), `s ${from - last.step}\nc\n`];
+    const text = await walked(this.engine, this.tape, ["e", `s ${from}`, "p"], SCREEN, MEASURED);
+    const [reached] = text.matchAll(REACHED);
+    if (!reached) throw new NotUnderstood(text.slice(0, 80));
+    const states = [];
+    for (let step = from; step <= to; step++) {
+      const more = `${step > from ? `s ${step - from}\n` : ""}p\n`;
+      const { bytes } = await this.engine.ask("debug", this.tape, { commands: way.join("") + more }, this.size * 2);
+      const replies = new Replies(bytes);
+      const before = { position: this.tape.length - Number(reached[2]), printed: 0 };
+      for (let left = way.length; left > 0; left--) {
+        replies.goes();
+        before.printed += replies.committedLength();
+      }
+      if (step > from) replies.goes();
+      states.push(new State(replies.state(), before));
+    }
+    return windowOf(from, states);
+  }
+
+  // The same, but of large ones only some.
+  async small(from, to, end, most, engine) {
     const count = Math.min(Math.floor(WINDOW / this.size), most);
     const side = Math.max(Math.floor((count - (to - from + 1)) / 2), 0);
     const window = await this.window(engine, Math.max(from - side, 0), Math.min(to + side, end), WINDOW);
     if (window) this.keep(window);
-    // (they are larger than those before)
-    if (!this.windowOf(from, to)) this.keep(await this.window(engine, from, to));
   }
 
   // The states of some steps: of so many bytes, if there is a bound, or nothing.

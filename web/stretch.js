@@ -115,8 +115,9 @@ function bytesAsSaid(text, count) {
 function idleWords(page, move, idle) {
   const { step, view } = page;
   if (step < idle.to) return ["the idle program reads on: ", ...RULES[move.rule](move)];
-  view.idleTold ??= step;
-  const explained = view.idleTold === step ? [". ", ...IDLE_WORDS] : [];
+  // (at the end of a run there is nothing to explain: the program is done)
+  if (step < page.run.end) view.idleTold ??= step;
+  const explained = view.idleTold === step && step < page.run.end ? [". ", ...IDLE_WORDS] : [];
   if (!move.call) return ["the idle program waits to read on", ...explained];
   const more = explained.length ? explained : [", which is scanned next"];
   return ["the idle program reads on: its ", ["rs"], " gives ", [move.value, "value"], ...more];

@@ -231,7 +231,7 @@ class Timeline {
     this.label.hidden = index < 0;
     if (index < 0) return;
     const place = this.across(this.marks[index].step);
-    this.label.textContent = this.nameOf(this.marks[index]);
+    showFramed(this.label, this.nameOf(this.marks[index]));
     this.label.style.left = `calc(0.5rem + ${place} * (100% - 1rem))`;
     this.label.style.transform = `translateX(-${place * 100}%)`;
   }
@@ -247,6 +247,7 @@ class Timeline {
     const picture = { pen, scale, width: canvas.width - 2 * scale, height: canvas.height, colour };
     const deepest = this.drawDepth(picture);
     for (const { from, to } of this.calls.idles ?? []) this.drawIdle(picture, from, to);
+    if (!this.calls.prints) this.drawPrinted(picture);
     for (const { step, kind } of this.marks) {
       const { colour: name, top, height } = LANES[kind];
       pen.fillStyle = colour(name);
@@ -255,6 +256,18 @@ class Timeline {
       else [0, 0.4, 0.8].forEach((part) => pen.fillRect(left, from + part * long, 2 * scale, 2 * scale));
     }
     byId("timeline-note").textContent = this.calls.begun ? `, at most ${grouped(deepest)} at once` : "";
+  }
+
+  // Draws where something is printed, as far as the run itself told it, until each print is known.
+  drawPrinted({ pen, width, height, colour }) {
+    const { top, height: high } = LANES.print;
+    let before = { step: 0, printed: 0 };
+    pen.fillStyle = colour("--put-line");
+    for (const mark of this.end < MOST_IDLE_STEPS ? [] : this.page.run?.landmarks ?? []) {
+      const [left, right] = [before.step, mark.step].map((step) => this.across(step) * width);
+      if (mark.printed > before.printed) pen.fillRect(left, top * height, Math.max(right - left, 1), high * height);
+      before = mark;
+    }
   }
 
   // Draws how many calls are begun, as soon as it is known: a stair, each tread from one step to the next. Returns the most.

@@ -19,7 +19,7 @@ function startSwipes(page) {
     const across = event.clientX - from.clientX, along = event.clientY - from.clientY;
     from = null;
     if (Math.abs(across) < SWIPE || Math.abs(across) < 2 * Math.abs(along)) return;
-    page.act(page.actions.find(({ id }) => id === (across > 0 ? "forward" : "back")));
+    page.act(page.actions.find(({ keys }) => keys.includes(across > 0 ? "s" : "b")));
   });
 }
 
@@ -36,7 +36,7 @@ function startSlider(page) {
 function byteNear(x, y) {
   const found = byteUnder(x, y);
   if (found || !matchMedia("(pointer: coarse)").matches) return found;
-  const text = document.elementFromPoint(x, y)?.closest(`${TEXTS}, [data-place], .way-row .code, .head, .rule`);
+  const text = document.elementFromPoint(x, y)?.closest(`${TEXTS}, [data-place], .way-row .code, .box > .head, .rule`);
   const near = text ? nearestRect(text, x, y) : null;
   if (!near) return null;
   const within = (at, from, to) => Math.min(Math.max(at, from + 1), to - 1);

@@ -1,22 +1,25 @@
 // Moves through a run. Where a call is meant, trac-walk says the step.
 
-// What can be done in the player: a button's sign, what it is for, its keys, and what it does.
+// What can be done in the player: a button's sign, if it has one, what it is for, its keys, and what it does. `way` says that it does
+// nothing at the start, or at the end.
 function actionsOf(page) {
   const walk = (line) => () => page.walk(line);
   return [
-    { id: "start", sign: "|◀", words: "to the start", keys: ["Home"], does: () => page.go(0) },
-    { id: "call-back", sign: "◀ call", words: "back to the call before", keys: ["r", "Shift+ArrowLeft"], does: walk("r") },
-    { id: "over-back", sign: "◀ over", words: "back over the call that gave what stands here", keys: ["N"], does: walk("N") },
-    { id: "begin", sign: "◀ in", words: "back to where the innermost begun call began", keys: ["O"], does: walk("O") },
-    { id: "token-back", sign: "◀ token", words: "a token back", keys: ["ArrowLeft"], does: () => page.tokenBack() },
-    { id: "back", sign: "◀ byte", words: "a step back", keys: ["b"], does: () => page.go(page.step - 1) },
-    { id: "play", sign: "play", words: "play, pause", keys: [" "], does: () => page.play() },
-    { id: "forward", sign: "byte ▶", words: "a step forward", keys: ["s"], does: () => page.go(page.step + 1) },
-    { id: "token", sign: "token ▶", words: "a token forward", keys: ["ArrowRight"], does: () => page.token() },
-    { id: "out", sign: "out ▶", words: "out of the innermost begun call", keys: ["o"], does: walk("o") },
-    { id: "over", sign: "over ▶", words: "over this call, until its value is scanned too", keys: ["n"], does: walk("n") },
-    { id: "call", sign: "call ▶", words: "forward to the next call", keys: ["u", "Shift+ArrowRight"], does: walk("u") },
-    { id: "end", sign: "▶|", words: "to the end", keys: ["End"], does: () => page.go(page.run.end) },
+    { id: "start", bar: "buttons", sign: "|◀", words: "to the start", keys: ["Home"], way: -1, does: () => page.go(0) },
+    { id: "back", bar: "buttons", sign: "◀ back", words: "back, as far as the switch says", keys: [], way: -1, does: () => page.unitBack() },
+    { id: "play", bar: "buttons", sign: "play", words: "play, pause", keys: [" "], does: () => page.play() },
+    { id: "forward", bar: "buttons", sign: "step ▶", words: "forward, as far as the switch says", keys: [], way: 1, does: () => page.unitForward() },
+    { id: "end", bar: "buttons", sign: "▶|", words: "to the end", keys: ["End"], way: 1, does: () => page.go(page.run.end) },
+    { words: "a step back", keys: ["b"], way: -1, does: () => page.go(page.step - 1) },
+    { words: "a step forward", keys: ["s"], way: 1, does: () => page.go(page.step + 1) },
+    { words: "a token back", keys: ["ArrowLeft"], way: -1, does: () => page.tokenBack() },
+    { words: "a token forward", keys: ["ArrowRight"], way: 1, does: () => page.token() },
+    { words: "back to the call before", keys: ["r", "Shift+ArrowLeft"], way: -1, does: walk("r") },
+    { words: "forward to the next call", keys: ["u", "Shift+ArrowRight"], way: 1, does: walk("u") },
+    { id: "over-back", bar: "more-buttons", sign: "◀ over", words: "back over the call that gave what stands here", keys: ["N"], way: -1, does: walk("N") },
+    { id: "over", bar: "more-buttons", sign: "over ▶", words: "over this call, until its value is scanned too", keys: ["n"], way: 1, does: walk("n") },
+    { id: "begin", bar: "more-buttons", sign: "◀ in", words: "back to where the innermost begun call began", keys: ["O"], way: -1, does: walk("O") },
+    { id: "out", bar: "more-buttons", sign: "out ▶", words: "out of the innermost begun call", keys: ["o"], way: 1, does: walk("o") },
   ];
 }
 
@@ -29,7 +32,7 @@ function moreKeys(page) {
     { keys: ["d"], words: "forward to the next doubt", does: () => page.doubt(1) },
     { keys: ["D"], words: "back to the last doubt", does: () => page.doubt(-1) },
     { keys: ["g"], words: "to the number of a step", does: () => byId("place").select() },
-    { keys: ["/"], words: "search the calls", does: () => byId("filter").focus() },
+    { keys: ["/"], words: "search the calls", does: () => page.search() },
     { keys: ["f"], words: "rule and text alone, in large type, and back", does: () => page.big.toggle() },
     { keys: ["?", "h"], words: "this help", does: () => page.help() },
   ];
@@ -41,6 +44,8 @@ function keyOf(event) {
 }
 
 const KEY_NAMES = { ArrowLeft: "←", ArrowRight: "→", "Shift+ArrowLeft": "Shift+←", "Shift+ArrowRight": "Shift+→", " ": "Space" };
+// What a step is, as far as the switch says, and its keys, back and forward.
+const UNIT_WORDS = { byte: ["a byte", "b", "s"], token: ["a token", "←", "→"], call: ["a call", "r", "u"] };
 
 // The name of a button for those who do not see it, or say it: it has the word that is seen.
 function buttonName({ sign, words }) {
@@ -48,20 +53,13 @@ function buttonName({ sign, words }) {
   return words.includes(word) ? words : `${word}: ${words}`;
 }
 
-// Shows buttons and the list of keys.
+// Shows buttons, the switch, and the list of keys.
 function showActions(page, actions) {
-  const bar = byId("buttons");
-  for (const action of actions) {
-    const button = make("button", "", action.sign);
-    button.type = "button";
-    button.id = action.id;
-    button.title = `${action.words} (${action.keys.map((key) => KEY_NAMES[key] ?? key).join(", ")})`;
-    button.setAttribute("aria-label", buttonName(action));
-    button.addEventListener("click", () => page.act(action));
-    bar.append(button);
-    if (action.id === "play") bar.append(placeBox(page));
-  }
-  for (const { keys, words } of [...actions, ...moreKeys(page)]) {
+  for (const action of actions) if (action.bar) addButton(page, action);
+  byId("buttons").append(unitSwitch(page));
+  for (const speed of SPEEDS) byId("speed").append(new Option(`${speed}/s`, String(speed), speed === SPEED, speed === SPEED));
+  startPlace(page);
+  for (const { keys, words } of [...actions.filter((action) => action.keys.length), ...moreKeys(page)]) {
     const row = make("div");
     const name = make("dt");
     keys.forEach((key) => name.append(make("kbd", key.length === 1 ? "single" : "", KEY_NAMES[key] ?? key), " "));
@@ -70,13 +68,44 @@ function showActions(page, actions) {
   }
 }
 
+function addButton(page, action) {
+  const { id, bar, sign, words, keys } = action;
+  const button = page.button("", () => page.act(action));
+  button.id = id;
+  // (a small window has no room for the words of two of them)
+  const parts = /^(◀ )?(back|step)( ▶)?$/.test(sign) ? sign.split(/([a-z]+)/) : [sign];
+  button.append(...parts.filter((part) => part).map((part) => (parts.length > 1 && /[a-z]/.test(part) ? make("span", "word", part) : part)));
+  button.title = keys.length ? `${words} (${keys.map((key) => KEY_NAMES[key] ?? key).join(", ")})` : words;
+  button.setAttribute("aria-label", buttonName({ sign, words }));
+  byId(bar).insertBefore(button, bar === "buttons" ? null : byId("speed-label"));
+}
+
+// How far a step goes by these buttons.
+function unitSwitch(page) {
+  const place = make("span");
+  place.id = "unit";
+  place.setAttribute("role", "group");
+  place.setAttribute("aria-label", "How far a step goes");
+  for (const unit of UNITS) {
+    const button = page.button(unit, () => page.setUnit(unit));
+    button.id = unit;
+    place.append(button);
+  }
+  return place;
+}
+
+// The buttons say how far they go.
+function showUnit(unit) {
+  const [words, back, forward] = UNIT_WORDS[unit];
+  for (const [id, word, way, key] of [["back", "back", "back", back], ["forward", "step", "forward", forward]]) {
+    byId(id).title = `${words} ${way} (${key})`;
+    byId(id).setAttribute("aria-label", buttonName({ sign: word, words: `${words} ${way}` }));
+  }
+}
+
 // The number of the step, which can be typed.
-function placeBox(page) {
-  const box = make("input");
-  box.type = "text";
-  box.id = "place";
-  box.inputMode = "numeric";
-  box.setAttribute("aria-label", "The number of the step");
+function startPlace(page) {
+  const box = byId("place");
   box.addEventListener("change", () => {
     const digits = box.value.replaceAll(",", "").trim();
     const isStep = /^\d+$/.test(digits) && Number(digits) <= page.run.end;
@@ -84,5 +113,4 @@ function placeBox(page) {
     if (/^\d+$/.test(digits)) page.visit(Number(digits));
     else page.redraw();
   });
-  return box;
 }

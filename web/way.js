@@ -22,9 +22,10 @@ class Way {
   clear() {
     this.turn++;
     this.rows = [];
-    byId("way-section").hidden = true;
+    byId("way-hint").hidden = false;
     byId("way-list").replaceChildren();
-    if (window.Highlight) CSS.highlights.delete("followed");
+    this.page.tabs?.count("way", "");
+    setLight("followed", []);
     this.page.editor.light("read", []);
   }
 
@@ -35,7 +36,8 @@ class Way {
     const row = holder.closest(".way-row");
     this.rows = row?.dataset.row ? this.rows.slice(0, Number(row.dataset.row) + 1) : [];
     const range = rangeOfByte(holder, number);
-    if (range && window.Highlight) CSS.highlights.set("followed", new Highlight(range));
+    setLight("followed", range ? [range] : []);
+    this.page.tabs.choose("way");
     let from = { place: holder.dataset.place, step: Number(holder.dataset.step), number };
     for (let hop = 0; from && hop < MOST_HOPS && turn === this.turn; hop++) from = await this.hop(from, turn);
     if (turn !== this.turn) return;
@@ -81,7 +83,8 @@ class Way {
 
   draw() {
     const list = byId("way-list");
-    byId("way-section").hidden = false;
+    byId("way-hint").hidden = true;
+    this.page.tabs.count("way", grouped(this.rows.reduce((sum, { left }) => sum + (left ?? 1), 0)));
     keepFocus(() => list.replaceChildren(...this.rows.map((row, index) => this.row(row, index))));
     const last = this.rows[this.rows.length - 1];
     this.light(last?.deed === "reads" ? last.byte : null);
@@ -94,7 +97,7 @@ class Way {
     const isInput = byte !== null && byte >= program.length;
     editor.light("read", byte === null || isInput || this.page.isStale ? [] : [byte]);
     const range = isInput && rangeOfByte(byId("given-text"), byte - program.length);
-    if (range && window.Highlight) CSS.highlights.get("followed")?.add(range);
+    if (range) addLight("followed", range);
   }
 
   row(row, index) {
@@ -110,7 +113,7 @@ class Way {
     line.append(link);
     // (until the state comes, the call stands as it is listed)
     const listed = row.state ? undefined : this.page.tree.textAt(row.step);
-    if (listed !== undefined) line.append(make("span", "code", listed.length > 60 ? `${listed.slice(0, 60)}…` : listed));
+    if (listed !== undefined) addShort(line, listed, "code", 60);
     const own = callOf(row);
     if (own) {
       const call = make("span", "code");

@@ -1,22 +1,31 @@
-// The Worker of the page. It is given the module once. Each request after that is done by a new instance of it, so nothing is
-// left of one for the next.
+// The Worker of the page. It is given the module once, and the input where that is another than before. All requests are done by one
+// instance of the module, which forgets what it had of one before the next: so its memory is as large as the largest needs, and no
+// memory of others is left behind.
 "use strict";
 (() => {
-  // A reply may be so long, in bytes.
-  const MOST = 1 << 28;
-  const FULL = 9;
-  const JOURNAL = 1048576n, KEEP = 268435456n, DECIMALS = 128n;
+  // A reply may be so long, in bytes, and the memory of the module so large.
+  const MOST = 1 << 27, MEMORY = 1 << 29;
+  const FULL = 9, NO_MEMORY = 5;
+  const JOURNAL = 1048576, KEEP = 1 << 28, DECIMALS = 128;
 
-  // What the module has, for one request.
+  // Why a request is not answered, where the module is as it was before.
+  class Refusal extends Error {}
+
+  // What the module has.
   class Instance {
     constructor(module) {
       this.exports = new WebAssembly.Instance(module, {}).exports;
     }
 
+    // Forgets all that there is; the memory may grow to so many bytes from here on.
+    begin(memory) {
+      this.exports.trac_web_begin(BigInt(memory));
+    }
+
     // The address of a block of so many bytes.
     room(size) {
       const address = this.exports.trac_web_allocate(BigInt(size));
-      if (address === 0n) throw new RangeError("no room for the texts");
+      if (address === 0n) throw new Refusal("no memory");
       return address;
     }
 
@@ -41,40 +50,58 @@
 
   // What each call takes before the room for its reply, and how many numbers it writes beside.
   const CALLS = {
-    run: (instance, { tape, budget }) => ["trac_web_run", [...instance.put(tape), BigInt(budget), DECIMALS], 1],
-    debug: (instance, { tape, commands }) =>
-      ["trac_web_debug", [...instance.put(tape), ...instance.put(encode(commands)), JOURNAL, DECIMALS]],
-    walk: (instance, { tape, commands }) =>
-      ["trac_web_walk", [...instance.put(tape), ...instance.put(encode(commands)), JOURNAL, KEEP, DECIMALS]],
-    way: (instance, { tape, step, kind, numbers, name }) => {
-      const place = [step, kind, ...numbers].map(BigInt);
-      return ["trac_web_way", [...instance.put(tape), ...place, ...instance.put(name), JOURNAL, DECIMALS]];
+    run: (instance, { tape, budget, decimals }) =>
+      ["trac_web_run", [...instance.put(tape), BigInt(budget), BigInt(decimals)], 1],
+    debug: (instance, { tape, commands, decimals }) =>
+      ["trac_web_debug", [...instance.put(tape), ...instance.put(encode(commands)), BigInt(JOURNAL), BigInt(decimals)]],
+    walk: (instance, { tape, commands, journal = JOURNAL, keep = KEEP, decimals }) => {
+      const numbers = [journal, keep, decimals].map(BigInt);
+      return ["trac_web_walk", [...instance.put(tape), ...instance.put(encode(commands)), ...numbers]];
     },
-    doubts: (instance, { tape, budget }) => ["trac_web_doubts", [...instance.put(tape), BigInt(budget), DECIMALS], 1],
+    way: (instance, { tape, step, kind, numbers, name, decimals }) => {
+      const place = [step, kind, ...numbers].map(BigInt), most = [JOURNAL, decimals].map(BigInt);
+      return ["trac_web_way", [...instance.put(tape), ...place, ...instance.put(name), ...most]];
+    },
+    doubts: (instance, { tape, budget, decimals }) =>
+      ["trac_web_doubts", [...instance.put(tape), BigInt(budget), BigInt(decimals)], 1],
   };
 
-  // Answers a request: a reply that is too long for its room is asked for again with twice the room or more. Where so much is not
+  // Answers a request: a reply that is too long for its room is asked for again with twice the room or more. If so much is not
   // wanted, its front is enough.
-  function answer(module, request) {
+  function answer(instance, request) {
     const most = request.most ?? MOST;
     for (let room = Math.min(request.room, most); ; room = Math.min(Math.max(room * 2, 1 << 22), most)) {
-      const instance = new Instance(module);
+      instance.begin(request.memory);
       const [name, words, beside] = CALLS[request.call](instance, request);
       const { status, bytes } = instance.call(name, words, room, beside);
-      if (status === 5) throw new RangeError("no memory");
+      if (status === NO_MEMORY || isShort(instance, request)) throw new Refusal("no memory");
       if (status !== FULL || (room === most && request.most)) return { status, bytes };
-      if (room === most) throw new RangeError("the reply is too long");
+      if (room === most) throw new Refusal("the reply is too long");
     }
   }
+
+  // Whether memory was refused that the module may have if nothing else takes any.
+  function isShort({ exports }, { memory }) {
+    return memory < MEMORY && exports.trac_web_refusals() > 0n;
+  }
+
+  // The instance, and the input.
+  let instance = null, tape = null;
 
   // Answers a request, or says why not.
   async function reply(compiled, request) {
     const { number } = request;
+    tape = request.tape ?? tape;
+    const asked = { decimals: DECIMALS, ...request, tape, memory: request.memory ?? MEMORY };
+    const module = await compiled;
     try {
-      const { status, bytes } = answer(await compiled, request);
-      self.postMessage({ number, status, bytes }, [bytes.buffer]);
+      instance ??= new Instance(module);
+      const { status, bytes } = answer(instance, asked);
+      self.postMessage({ number, status, bytes, memory: instance.exports.memory.buffer.byteLength }, [bytes.buffer]);
     } catch (fault) {
-      self.postMessage({ number, refused: fault.message });
+      self.postMessage({ number, refused: fault.message, isShort: instance !== null && isShort(instance, asked) });
+      // (one that was cut off is not used again)
+      if (!(fault instanceof Refusal)) instance = null;
     }
   }
 

@@ -1,0 +1,68 @@
+// What this browser keeps for the next time: the program in the editor with its name, and the looks. Where it keeps nothing, the page
+// goes on without.
+
+const DRAFT = "trac.draft", THEME = "trac.theme";
+// A longer program is not kept, and it is kept so many milliseconds after it was typed.
+const MOST_DRAFT = 1 << 20;
+const DRAFT_TIME = 250;
+
+function kept(key) {
+  try {
+    return localStorage.getItem(key);
+  } catch {
+    return null;
+  }
+}
+
+// Keeps a text, or forgets it. Returns whether that was done.
+function keepText(key, text) {
+  try {
+    if (text === null) localStorage.removeItem(key);
+    else localStorage.setItem(key, text);
+    return true;
+  } catch {
+    return false;
+  }
+}
+
+class Draft {
+  constructor(editor) {
+    this.editor = editor;
+    // whether what stands in the editor is kept or saved
+    this.isKept = true;
+    addEventListener("pagehide", () => this.later && this.keep());
+    // what was typed and is neither saved nor kept is not to be lost
+    addEventListener("beforeunload", (event) => {
+      if (this.later) this.keep();
+      if (!this.isKept && editor.bytes().length > 0) event.preventDefault();
+    });
+  }
+
+  // The program is another now: it is kept soon.
+  changed() {
+    this.isKept = false;
+    clearTimeout(this.later);
+    this.later = setTimeout(() => this.keep(), DRAFT_TIME);
+  }
+
+  keep() {
+    clearTimeout(this.later);
+    this.later = 0;
+    const { editor } = this;
+    const bytes = editor.bytes();
+    const text = bytes.length > MOST_DRAFT ? null : textOf(bytes);
+    this.isKept = text !== null && keepText(DRAFT, JSON.stringify({ name: editor.name, text }));
+  }
+
+  // Brings back what was kept, if there is something.
+  restore() {
+    try {
+      const { name, text } = JSON.parse(kept(DRAFT));
+      if (typeof name !== "string" || typeof text !== "string" || text === "") return false;
+      this.editor.put({ name, bytes: new TextEncoder().encode(text) });
+      return true;
+    } catch {
+      return false;
+    }
+  }
+}

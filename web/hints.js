@@ -1,0 +1,34 @@
+// What the text of a program shows by itself: places where it hardly says what was meant, each with what to do. The page finds them; a run
+// need not come there.
+
+const HINTS = [
+  { sign: /#[ \t]+\(/g, at: 0, words: "a blank stands between # and (, so no call begins here; without it one does" },
+  { sign: /[A-Za-z]'[a-z]/g, at: 1, words: "this ' ends the text, as it does wherever it stands; #(cm,;)' has ; end texts instead", unless: /#\(cm,/i },
+];
+// So many of a kind are told.
+const MOST_HINTS = 5;
+
+// The hints of a program: rows like doubts, without a step.
+function hintsOf(bytes) {
+  const text = new TextDecoder("latin1").decode(bytes.subarray(0, MOST_HINTED));
+  return HINTS.filter(({ unless }) => !unless?.test(text)).flatMap((hint) => rowsOfHint(text, hint));
+}
+
+function rowsOfHint(text, { sign, at, words }) {
+  const rows = [];
+  for (const { index } of text.matchAll(sign)) {
+    rows.push({ step: null, byte: index + at, words });
+    if (rows.length === MOST_HINTS) break;
+  }
+  return rows;
+}
+
+// So much of a program is looked at.
+const MOST_HINTED = 1 << 20;
+
+// The words of a doubt. Where a result does not fit since a number is divided by 0, that is said.
+function wordsOfDoubt({ words, step }, page) {
+  const found = /^##?\(dv,[^,]*(?:,([^,)]*))?[,)]/i.exec(page.tree.textAt(step) ?? "");
+  const isByZero = found && /does not fit/.test(words) && numberAt(found[1] ?? "").digits === "";
+  return isByZero ? "this divides by 0, which gives nothing: a third argument is given in its place" : words;
+}

@@ -1,0 +1,43 @@
+// Ranges that are lit, each kind under a name: by the browser's highlights, or where it has none by boxes under the signs.
+
+// So many boxes of a kind stand there at most.
+const MOST_BOXES = 200;
+const lit = new Map();
+
+// Lights these ranges in the way of a name, and no others in that way.
+function setLight(name, ranges) {
+  const before = lit.get(name);
+  for (const box of before?.boxes ?? []) box.remove();
+  lit.delete(name);
+  if (window.Highlight) CSS.highlights.delete(name);
+  if (ranges.length === 0) return;
+  lit.set(name, { ranges, boxes: window.Highlight ? [] : ranges.flatMap((range) => boxesOf(name, range)).slice(0, MOST_BOXES) });
+  if (window.Highlight) CSS.highlights.set(name, new Highlight(...ranges));
+}
+
+// Lights one more.
+function addLight(name, range) {
+  setLight(name, [...(lit.get(name)?.ranges ?? []), range]);
+}
+
+// Boxes where a range stands, within what it scrolls with.
+function boxesOf(name, range) {
+  const element = range.startContainer.nodeType === Node.TEXT_NODE ? range.startContainer.parentElement : range.startContainer;
+  const frame = element?.offsetParent;
+  if (!frame) return [];
+  const outer = frame.getBoundingClientRect();
+  return [...range.getClientRects()].map((rect) => {
+    const box = make("i", `light ${name}`);
+    box.style.left = `${rect.left - outer.left - frame.clientLeft + frame.scrollLeft}px`;
+    box.style.top = `${rect.top - outer.top - frame.clientTop + frame.scrollTop}px`;
+    box.style.width = `${rect.width}px`;
+    box.style.height = `${rect.height}px`;
+    frame.append(box);
+    return box;
+  });
+}
+
+// Lines may break elsewhere now: boxes are made anew.
+function startLights() {
+  if (!window.Highlight) addEventListener("resize", () => [...lit].forEach(([name, { ranges }]) => setLight(name, ranges)));
+}

@@ -1,0 +1,81 @@
+// The parts of a state, of the lines that the debugger prints of it. Texts stay as they stand there.
+
+// The text within the brackets of a line, and the texts of a line with several.
+function textIn(line) {
+  return line.slice(line.indexOf("[") + 1, -1);
+}
+
+function textsIn(line) {
+  return textIn(line).split("][");
+}
+
+// A begun call of a line. There may be very many, so texts are taken apart where they are asked for.
+class Begun {
+  constructor(text, line) {
+    this.text = text;
+    this.line = line;
+  }
+
+  get neutral() {
+    return this.text.startsWith("call ##");
+  }
+
+  get texts() {
+    return textsIn(this.text);
+  }
+}
+
+// A form of a line, in the storage or in a block.
+class Form {
+  constructor(source, line) {
+    this.source = source;
+    this.line = line;
+  }
+
+  get name() {
+    return this.texts[0];
+  }
+
+  get text() {
+    return this.texts[1];
+  }
+
+  get texts() {
+    this.kept ??= textsIn(this.source.replace("] [", "]["));
+    return this.kept;
+  }
+}
+
+// The parts, where so much was read and printed before what the lines say. Each knows the number of its line.
+function partsOf(lines, before) {
+  const parts = {
+    lines, active: textIn(lines[0]), base: textIn(lines[1]), calls: [], forms: [], blocks: [], outputFrom: before.printed,
+    // how many bytes were printed, counted where it is asked for
+    get printed() {
+      this.counted ??= before.printed + lengthOf(this.output);
+      return this.counted;
+    },
+  };
+  let at = 2;
+  for (; lines[at].startsWith("call "); at++) parts.calls.push(new Begun(lines[at], at));
+  for (; lines[at].startsWith("form "); at++) parts.forms.push(new Form(lines[at], at));
+  for (; !lines[at].startsWith("meta "); at++) {
+    if (lines[at].startsWith("held ")) parts.blocks[parts.blocks.length - 1].forms.push(new Form(lines[at], at));
+    else {
+      const [, number, erased] = lines[at].split(" ");
+      parts.blocks.push({ number: Number(number), isErased: Boolean(erased), forms: [], line: at });
+    }
+  }
+  parts.tail = at;
+  parts.meta = textIn(lines[at]);
+  parts.trace = lines[at + 1] === "trace on";
+  parts.position = before.position + Number(lines[at + 2].slice("position ".length));
+  parts.output = textIn(lines[at + 3]);
+  return parts;
+}
+
+// The text that what is scanned goes to.
+function currentOf(parts) {
+  const inner = parts.calls[parts.calls.length - 1];
+  return inner ? inner.texts[inner.texts.length - 1] : parts.base;
+}

@@ -1,0 +1,59 @@
+// Tabs: where a byte comes from, calls, forms, begun calls, doubts. One stop for the Tab key; arrows choose.
+
+const TABS = { way: "Where from", tree: "Calls", forms: "Forms", begun: "Begun", doubts: "Doubts" };
+
+class Tabs {
+  constructor(shown) {
+    // what is told that a panel is seen now
+    this.shown = shown;
+    this.names = Object.keys(TABS);
+    for (const name of this.names) byId("tabs").append(this.make(name));
+    byId("tabs").addEventListener("keydown", (event) => this.key(event));
+    this.choose("way");
+  }
+
+  make(name) {
+    const tab = make("button", "", TABS[name]);
+    tab.type = "button";
+    tab.id = `tab-${name}`;
+    tab.setAttribute("role", "tab");
+    tab.setAttribute("aria-controls", `${name}-panel`);
+    tab.append(" ", make("span", "count"));
+    byId(`${name}-panel`).setAttribute("aria-labelledby", tab.id);
+    tab.addEventListener("click", () => this.choose(name));
+    return tab;
+  }
+
+  get chosen() {
+    return this.names.find((name) => !byId(`${name}-panel`).hidden);
+  }
+
+  choose(chosen) {
+    for (const name of this.names) {
+      const tab = byId(`tab-${name}`), isChosen = name === chosen;
+      tab.setAttribute("aria-selected", String(isChosen));
+      tab.tabIndex = isChosen ? 0 : -1;
+      byId(`${name}-panel`).hidden = !isChosen;
+    }
+    this.shown(chosen);
+  }
+
+  // How much a panel has stands beside its name.
+  count(name, text, isAlarm = false) {
+    const place = byId(`tab-${name}`).lastChild;
+    place.textContent = text;
+    byId(`tab-${name}`).setAttribute("aria-label", text ? `${TABS[name]} ${text}` : TABS[name]);
+    place.classList.toggle("alarm", isAlarm);
+  }
+
+  key(event) {
+    if (event.ctrlKey || event.altKey || event.metaKey || event.shiftKey) return;
+    const last = this.names.length - 1, at = this.names.indexOf(this.chosen);
+    const places = { ArrowLeft: at === 0 ? last : at - 1, ArrowRight: at === last ? 0 : at + 1, Home: 0, End: last };
+    if (!(event.key in places)) return;
+    this.choose(this.names[places[event.key]]);
+    byId(`tab-${this.chosen}`).focus();
+    event.preventDefault();
+    event.stopPropagation();
+  }
+}

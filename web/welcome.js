@@ -1,0 +1,56 @@
+// The first minute: a program to run, what to do with it, and some others to try. And the list of all programs that come with the page.
+
+// What is there at first, and what else is offered beside that.
+const FIRST = "wrong-factorial.trac";
+const TRIES = ["hello.trac", "guess.trac", "hanoi.trac"];
+
+class Library {
+  constructor(page) {
+    this.page = page;
+    this.programs = JSON.parse(byId("library-data").textContent);
+    const list = byId("library");
+    list.append(new Option("Examples", ""));
+    for (const group of new Set(this.programs.map((program) => program.group))) {
+      const part = make("optgroup");
+      part.label = group;
+      this.programs.forEach(({ group: own, title, line, name }, index) => {
+        if (own !== group) return;
+        const option = new Option(`${title}: ${line}`, String(index));
+        option.title = name;
+        part.append(option);
+      });
+      list.append(part);
+    }
+    startList(list, (index) => this.open(this.programs[Number(index)]));
+  }
+
+  open(program) {
+    openProgram(this.page, program.name, bytesOfSigns(program.text));
+    this.page.showWords(`${program.title}: ${program.line}. Press Run.`);
+  }
+
+  named(name) {
+    return this.programs.find((program) => program.name === name);
+  }
+}
+
+// Shows what a newcomer meets: the program that was typed last, or a first one, and what to do. Whoever opens the page of
+// a program meets that.
+function welcome(page, isGiven) {
+  const { library } = page;
+  const first = library.named(FIRST);
+  const isBack = page.draft.restore();
+  if (!isBack && !isGiven) page.editor.put({ name: first.name, bytes: bytesOfSigns(first.text) });
+  byId("welcome-about").hidden = page.editor.name !== FIRST || page.editor.box.value !== textOf(bytesOfSigns(first.text));
+  for (const program of TRIES.map((name) => library.named(name))) {
+    addTry(page, program.title, program.line, () => library.open(program));
+  }
+  addTry(page, "The course", "TRAC in short lessons, with exercises", () => page.course.show(0));
+  byId("welcome").hidden = isGiven;
+}
+
+function addTry(page, title, line, does) {
+  const button = page.button("", does);
+  button.append(make("b", "", title), line);
+  byId("tries").append(button);
+}
