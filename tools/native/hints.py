@@ -1,8 +1,8 @@
 #!/usr/bin/env python3
 """hints.py TOP KIT FROM.ll TO.ll: puts the hints on inlining that stand in the sources into LLVM's text of a program.
 
-A function is known by its crate, its module and its name. A type of one module may have methods in another, so a name that is
-marked once in a crate is enough.
+A function is known by its crate, its module and its name. A type of one module may have methods in another, so a name
+that is marked once in a crate is enough.
 """
 import glob
 import os
