@@ -1,14 +1,17 @@
 #!/usr/bin/env python3
-"""Times programs that call much, against a yardstick where one is given, and walks over them there and back; prints two tables.
+"""Times programs that call much, against a yardstick where one is given, and walks over them there and back; prints
+two tables.
 
-The yardstick is a processor for the same language that keeps what a way back needs (`YARDSTICK run --undo`), as the plain Rust
-program does that is handed around beside this repository. Both run in turn, each round on the same input, and their outputs are
-compared. Each time is the least processor time of all rounds: other work on the machine can only add to it. With `--count` the
-instructions of one run are counted instead, by valgrind, so that other work changes nothing.
+The yardstick is a processor for the same language that keeps what a way back needs (`YARDSTICK run --undo`), as the
+plain Rust program does that is handed around beside this repository. Both run in turn, each round on the same input,
+and their outputs are compared. Each time is the least processor time of all rounds: other work on the machine can only
+add to it. With `--count` the instructions of one run are counted instead, by valgrind, so that other work changes
+nothing.
 
-Walks are made in the debugger, with a journal of 1,048,576 records, the most that there may be: the time of a session that goes
-forward, less that of one which does nothing, and the time of one that goes back too, less that. What the journal takes is how much
-more memory the session holds at most that goes forward than the one that does nothing, by the steps that it took.
+Walks are made in the debugger, with a journal of 1,048,576 records, the most that there may be: the time of a session
+that goes forward, less that of one which does nothing, and the time of one that goes back too, less that. What the
+journal takes is how much more memory the session holds at most that goes forward than the one that does nothing, by
+the steps that it took.
 
     python3 bench/calls/run.py [--count] [--program TRAC] [ROUNDS [YARDSTICK]]
 """

@@ -1,8 +1,8 @@
 #!/usr/bin/env python3
 """Times `d` of trac-walk, the way to the first doubtful step, beside `s` over the same steps, and prints a table.
 
-In each program the first doubt comes after about 1,000,000 steps. Each number is the least processor time of all rounds, less
-that of a session that stays at the start: other work on the machine can only add to it.
+In each program the first doubt comes after about 1,000,000 steps. Each number is the least processor time of all
+rounds, less that of a session that stays at the start: other work on the machine can only add to it.
 
     python3 bench/doubts/run.py [--program TRAC_WALK] [ROUNDS]
 """
@@ -16,7 +16,8 @@ ROOT = pathlib.Path(__file__).resolve().parent.parent.parent
 DOUBT = b"#(pr,x)'\n"
 ROWS = [
     ("calls", b"#(ds,Loop,(#(eq,N,0,,(#(cl,Loop,#(su,N,1))))))'\n#(ss,Loop,N)'\n#(cl,Loop,26550)'\n"),
-    ("protected texts", b"#(ds,Loop,(#(eq,N,0,,((a)(b)(c)(d)#(cl,Loop,#(su,N,1))))))'\n#(ss,Loop,N)'\n#(cl,Loop,24000)'\n"),
+    ("protected texts", b"#(ds,Loop,(#(eq,N,0,,((a)(b)(c)(d)#(cl,Loop,#(su,N,1))))))'\n"
+                        b"#(ss,Loop,N)'\n#(cl,Loop,24000)'\n"),
     ("plain text", b"a" * 1_000_000),
 ]
 

@@ -1,10 +1,10 @@
 #!/usr/bin/env python3
 """Times forms over the gap buffer against forms over two plain vectors, and prints tables.
 
-Two copies of the crates are built under target/bench/forms, by `rt run`, which proves them first: one as they are, one with
-the alias `Items` of trac_forms naming PlainEnds. What earlier checks kept of the crates is copied with them. Then both programs
-run in turn, so that both meet the same machine. Each figure is the least of all rounds of all runs: other work on the machine
-can only add to it. The second table says what a doubling of the length costs.
+Two copies of the crates are built under target/bench/forms, by `rt run`, which proves them first: one as they are, one
+with the alias `Items` of trac_forms naming PlainEnds. What earlier checks kept of the crates is copied with them. Then
+both programs run in turn, so that both meet the same machine. Each figure is the least of all rounds of all runs:
+other work on the machine can only add to it. The second table says what a doubling of the length costs.
 
     python3 bench/forms/run.py [RUNS]
 """
@@ -39,7 +39,8 @@ def build(name, kind):
     crates.mkdir(parents=True, exist_ok=True)
     lines = [line for line in (ROOT / "crates.txt").read_text().splitlines() if line.split(":")[0] in CRATES]
     (root / "crates.txt").write_text("\n".join(lines) + "\nforms_bench: trac_gap trac_forms\n")
-    for crate, source in [(crate, ROOT / "crates" / crate) for crate in CRATES] + [("forms_bench", HERE / "forms_bench")]:
+    sources = [(crate, ROOT / "crates" / crate) for crate in CRATES] + [("forms_bench", HERE / "forms_bench")]
+    for crate, source in sources:
         for part in ("src", "specs", "proofs"):
             shutil.rmtree(crates / crate / part, ignore_errors=True)
             if (source / part).is_dir():

@@ -79,7 +79,8 @@ def main():
         a, b = statistics.median(ours[name]), statistics.median(theirs[name])
         print(f"| {text} | {shown(a, calls)} | {shown(b, calls)} | {a / b:.2f} |")
     a, b = statistics.median(ours["cross_runs"]), statistics.median(theirs["bare_copies"])
-    print(f"| the same 64 KiB across a wide gap, against a bare copy | {shown(a, 128)} | {shown(b, 128)} | {a / b:.2f} |")
+    what = "the same 64 KiB across a wide gap, against a bare copy"
+    print(f"| {what} | {shown(a, 128)} | {shown(b, 128)} | {a / b:.2f} |")
 
 
 if __name__ == "__main__":

@@ -1,9 +1,10 @@
 #!/usr/bin/env python3
-"""Times the machine over one block (`GapBuf`) against the same core over two vectors (`PlainEnds`), and prints a table.
+"""Times the machine over one block (`GapBuf`) against the same core over two vectors (`PlainEnds`), and prints a
+table.
 
-The program is built under target/bench_machine, by `rt run`, which proves it and what it stands on. All crates are copied
-there, with what earlier checks kept of them (2 GB). Each step makes its record, which is let go. Each figure is the median of
-all rounds of all runs; both representations are timed in turn, in one run.
+The program is built under target/bench_machine, by `rt run`, which proves it and what it stands on. All crates are
+copied there, with what earlier checks kept of them (2 GB). Each step makes its record, which is let go. Each figure is
+the median of all rounds of all runs; both representations are timed in turn, in one run.
 
     python3 bench/machine/run.py [RUNS]
 """

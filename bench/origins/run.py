@@ -1,14 +1,14 @@
 #!/usr/bin/env python3
 """Times `y` of trac-walk beside going back over the same steps, and prints a table.
 
-Each program defines a form and prints a byte first, and then calls much, for up to 1,000,000 steps. The way back of that byte of
-the output, and of the form's byte, goes over all of them. In a second table a call prints a byte that waited in its argument
-while a loop called itself last, or while functions were begun within one another, and a byte that was not scanned meanwhile. In
-a third each level of a recursion hands a byte to the next as an argument, and the innermost prints it.
-Walks are made with a journal of 1,048,576 records, the most that there may be: the time of a session that goes forward and then
-back, or follows a byte, less that of one that only goes forward. Each is the least processor time of all rounds: other work on
-the machine can only add to it. With `--count` the instructions of one run are counted instead, by valgrind, so that other work
-changes nothing.
+Each program defines a form and prints a byte first, and then calls much, for up to 1,000,000 steps. The way back of
+that byte of the output, and of the form's byte, goes over all of them. In a second table a call prints a byte that
+waited in its argument while a loop called itself last, or while functions were begun within one another, and a byte
+that was not scanned meanwhile. In a third each level of a recursion hands a byte to the next as an argument, and the
+innermost prints it. Walks are made with a journal of 1,048,576 records, the most that there may be: the time of a
+session that goes forward and then back, or follows a byte, less that of one that only goes forward. Each is the least
+processor time of all rounds: other work on the machine can only add to it. With `--count` the instructions of one run
+are counted instead, by valgrind, so that other work changes nothing.
 
     python3 bench/origins/run.py [--count] [--program TRAC_WALK] [ROUNDS]
 """
@@ -45,7 +45,8 @@ def spent():
 def seconds(program, path, commands):
     """The processor time of one session with these commands."""
     before = spent()
-    done = subprocess.run([program, "--journal", "1048576", path], input=commands.encode(), stdout=subprocess.PIPE, check=True)
+    done = subprocess.run([program, "--journal", "1048576", path], input=commands.encode(), stdout=subprocess.PIPE,
+                          check=True)
     return spent() - before, done.stdout
 
 

@@ -1,8 +1,8 @@
 #!/usr/bin/env python3
 """Times whole runs of the built program, and prints a table with the most memory of each.
 
-Each run has at most 60 seconds and 4 GB of address space (`ulimit -v`), and is timed by GNU `time`. Each figure is the least of
-all rounds: other work on the machine can only add to it. KB and MB are 1,000 and 1,000,000 bytes.
+Each run has at most 60 seconds and 4 GB of address space (`ulimit -v`), and is timed by GNU `time`. Each figure is the
+least of all rounds: other work on the machine can only add to it. KB and MB are 1,000 and 1,000,000 bytes.
 
     python3 bench/runs/run.py [ROUNDS] [PROGRAM]
 """
@@ -15,7 +15,8 @@ ROOT = pathlib.Path(__file__).resolve().parent.parent.parent
 SECONDS = 60
 # in units of 1,024 bytes
 SPACE = 4 << 20
-WORDS = "the quick brown fox jumps over a lazy dog while seven wizards make toxic brew for an evil queen and jack".split()
+WORDS = ("the quick brown fox jumps over a lazy dog while seven wizards make toxic brew for an evil queen "
+         "and jack").split()
 LOOP = b"#(ds,L,(#(eq,N,100000,,(#(cl,L,#(ad,N,1))))))'#(ss,L,N)'#(cl,L,0)'"
 ENDLESS = b"#(ds,L,(#(cl,L)))'#(cl,L)'"
 

@@ -1,11 +1,13 @@
 #!/usr/bin/env python3
-"""Times scanning by the built program, against a yardstick where one is given, and going back over it; prints two tables.
+"""Times scanning by the built program, against a yardstick where one is given, and going back over it; prints two
+tables.
 
-The yardstick is a processor for the same language that keeps what a way back needs (`YARDSTICK run --undo`), as the plain Rust
-program does that is handed around beside this repository. Both run in turn, each round on the same input, and their outputs are
-compared. Each figure is the least processor time of all rounds: other work on the machine can only add to it. Going back is
-timed in the debugger, with a journal of 1,048,576 records, the most that there may be: the time of a session that goes forward,
-less that of one which does nothing, and the time of one that goes back too, less that.
+The yardstick is a processor for the same language that keeps what a way back needs (`YARDSTICK run --undo`), as the
+plain Rust program does that is handed around beside this repository. Both run in turn, each round on the same input,
+and their outputs are compared. Each figure is the least processor time of all rounds: other work on the machine can
+only add to it. Going back is timed in the debugger, with a journal of 1,048,576 records, the most that there may be:
+the time of a session that goes forward, less that of one which does nothing, and the time of one that goes back too,
+less that.
 
     python3 bench/scanning/run.py [ROUNDS [YARDSTICK]]
 """
@@ -94,7 +96,8 @@ def walks(rounds):
             least = []
             for lines in (b"", f"s {steps}\n".encode(), f"s {steps}\nb {steps}\n".encode()):
                 least.append(min(timed(command, lines)[0] for _ in range(rounds)))
-        print(f"| {name} | {in_milliseconds(least[1] - least[0])} | {in_milliseconds(least[2] - least[1])} |", flush=True)
+        there, back = in_milliseconds(least[1] - least[0]), in_milliseconds(least[2] - least[1])
+        print(f"| {name} | {there} | {back} |", flush=True)
 
 
 def main():

@@ -1,5 +1,5 @@
-// Times the module of release/trac.html in Node: unpacking and compiling it, a run of 1,000,000 steps, a jump into it and back, and a
-// way of `y` over it. Each figure is the least and the median of all rounds, in milliseconds.
+// Times the module of release/trac.html in Node: unpacking and compiling it, a run of 1,000,000 steps, a jump into it
+// and back, and a way of `y` over it. Each figure is the least and the median of all rounds, in milliseconds.
 //
 //     node bench/web/run.mjs [ROUNDS] [PAGE]
 import fs from 'node:fs'
@@ -29,6 +29,9 @@ timed('opening: unpack, compile, first state', () => new Engine(page).debug(toll
 const engine = new Engine(page)
 timed('a run of 1,000,000 steps', () => engine.run(toll, steps), (it) => it.status === 3 && it.others[0] === steps)
 timed('a state after 1,000,000 steps', () => engine.debug(toll, `s ${steps}\np\n`, 1048576), (it) => it.status === 0)
-timed('a state half the way, and one 1,000 steps back', () => engine.debug(toll, `s ${steps / 2}\nb 1000\np\n`, 1048576), (it) => it.status === 0)
-timed('20,000 states, a step from one to the next', () => engine.debug(toll, 's 1\np\n'.repeat(20000)), (it) => it.status === 0)
-timed('`y` of a byte of a form, over 1,000,000 steps', () => engine.way(toll, steps, 4, [0], Buffer.from('toll')), (it) => it.status === 0)
+const isWell = (it) => it.status === 0
+const halfTheWay = `s ${steps / 2}\nb 1000\np\n`
+timed('a state half the way, and one 1,000 steps back', () => engine.debug(toll, halfTheWay, 1048576), isWell)
+timed('20,000 states, a step from one to the next', () => engine.debug(toll, 's 1\np\n'.repeat(20000)), isWell)
+const form = () => engine.way(toll, steps, 4, [0], Buffer.from('toll'))
+timed('`y` of a byte of a form, over 1,000,000 steps', form, isWell)

@@ -1,13 +1,13 @@
 #!/usr/bin/env python3
 """Times commits that keep a window of the last steps, small journals, and long runs; prints a table of each.
 
-The program is $TRAC, or out/trac, which the launcher ./trac keeps up to date. What is compared is timed in turn, in one run.
-Each time is the least processor time of all rounds: other work on the machine can only add to it. MB are 1,000,000 bytes. What
-takes longer than 120 seconds is stopped, and has no figure.
+The program is $TRAC, or out/trac, which the launcher ./trac keeps up to date. What is compared is timed in turn, in
+one run. Each time is the least processor time of all rounds: other work on the machine can only add to it. MB are
+1,000,000 bytes. What takes longer than 120 seconds is stopped, and has no figure.
 
 With `--sessions` the same steps are also timed without a debugger around them: the program window_bench is built under
-target/bench_window by `rt run`, which proves it and what it stands on. All crates are copied there, with what earlier checks kept
-of them.
+target/bench_window by `rt run`, which proves it and what it stands on. All crates are copied there, with what earlier
+checks kept of them.
 
     python3 bench/window/run.py [--sessions] [ROUNDS]
 """
@@ -51,7 +51,8 @@ def ran(command, given):
 
 
 def timed(command, given):
-    """The processor time in milliseconds that a program takes with this on its standard input; none where it was not done."""
+    """The processor time in milliseconds that a program takes with this on its standard input; none where it was
+    not done."""
     before = resource.getrusage(resource.RUSAGE_CHILDREN)
     said = ran(command, given)
     after = resource.getrusage(resource.RUSAGE_CHILDREN)
@@ -154,16 +155,16 @@ def runs(rounds):
 
 
 def printing(long, count):
-    """A text that prints a byte in each six steps, 10,000 times, then a long text at once, then so many bytes again; and the
-    commands that go to right after the long one."""
+    """A text that prints a byte in each six steps, 10,000 times, then a long text at once, then so many bytes
+    again; and the commands that go to right after the long one."""
     text = PRINT * 10_000 + b"#(ps,(" + b"." * long + b"))" + PRINT * count + b"'"
     # eight steps until the text is read
     return text, b"s 60008\ns 6\n" + WIDE_WINDOW
 
 
 def reading(long, count):
-    """A loop that reads a byte of the input in each eleven steps, with as many bytes of input as it reads and a long text after
-    them; and the commands that go to where it has read some."""
+    """A loop that reads a byte of the input in each eleven steps, with as many bytes of input as it reads and a
+    long text after them; and the commands that go to where it has read some."""
     return READING + b"." * (long + count + 1_000), b"s 5000\n" + WINDOW
 
 
@@ -217,7 +218,8 @@ def sessions(rounds):
         for line in subprocess.run([str(program)], check=True, capture_output=True, text=True).stdout.splitlines():
             name, nanos = line.split()
             found.setdefault(name, []).append(int(nanos) / 1e6)
-    rows = [("full", "where the journal is full"), ("window", "`commit(1000)` after each"), ("none", "`commit(0)` after each")]
+    rows = [("full", "where the journal is full"), ("window", "`commit(1000)` after each"),
+            ("none", "`commit(0)` after each")]
     print("\n| 1,000,000 steps of a session | time | ratio |\n|---|---|---|")
     for name, text in rows:
         print(f"| {text} | {shown(min(found[name]))} | {ratio(min(found[name]), min(found['full']))} |")

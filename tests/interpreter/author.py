@@ -1,7 +1,7 @@
 """Random programs, biased toward what is easy to get wrong; and random commands to `trac debug`."""
 import random
 
-import processor
+from interpreter import processor
 
 FORMS = ["F", "G", "k", "", "f", "ps"]
 WORDS = ["a", "b", "ab", "aba", "ba", "aab", "x", "1", "12", "bab", ";", "", "", "#", "(", "Cat"]

@@ -1,5 +1,5 @@
 """What `trac debug` replies, by docs/debugger.md: a session over the plain processor, which keeps each state whole."""
-import processor
+from interpreter import processor
 
 
 def text_of(text):

@@ -116,7 +116,7 @@ function rooms() {
 
 // Memory: a request past the declared most is refused, and so is what a program needs there.
 function memory() {
-    for (const size of [2n ** 30n, 2n ** 31n, 2n ** 32n, 2n ** 32n + 16n, 2n ** 63n, 2n ** 64n - 1n]) {
+    for (const size of [2n ** 29n, 2n ** 30n, 2n ** 31n, 2n ** 32n, 2n ** 32n + 16n, 2n ** 63n, 2n ** 64n - 1n]) {
         const { exports } = new WebAssembly.Instance(engine.module, {})
         holds(`a request of ${size} bytes is refused`, exports.trac_web_allocate(size) === 0n)
         holds(`after that one of 64 KiB is not`, exports.trac_web_allocate(65536n) !== 0n)
@@ -124,13 +124,44 @@ function memory() {
     const { exports } = new WebAssembly.Instance(engine.module, {})
     let taken = 0
     while (exports.trac_web_allocate(2n ** 24n) !== 0n) taken++
-    holds(`${taken} blocks of 16 MiB are there`, taken >= 40 && taken < 64)
-    holds('no more is taken than is declared', exports.memory.buffer.byteLength <= 2 ** 30)
+    holds(`${taken} blocks of 16 MiB are there`, taken >= 28 && taken < 32)
+    holds('no more is taken than is declared', exports.memory.buffer.byteLength <= 2 ** 29)
     const text = Buffer.from("#(ds,E,(#(ds,D,##(cl,D)##(cl,D))#(cl,E)))'#(ds,D,x)#(cl,E)'")
     const place = exports.trac_web_allocate(BigInt(text.length)), output = exports.trac_web_allocate(64n), count = exports.trac_web_allocate(16n)
     new Uint8Array(exports.memory.buffer).set(text, Number(place))
     const status = exports.trac_web_run(place, BigInt(text.length), 1_000_000n, 128n, output, 64n, count, count + 8n)
     holds(`a run without memory: status ${status}, and not ${MEMORY}`, status === MEMORY)
+    blocks()
+}
+
+// Blocks of random sizes that are taken and freed: none lies in another. What is free and touches is one block.
+function blocks() {
+    const { exports } = new WebAssembly.Instance(engine.module, {}), next = random.numbers(77)
+    const take = (size) => Number(exports.trac_web_allocate(BigInt(size))), free = (place) => exports.trac_web_release(BigInt(place))
+    const at = (place, size) => Buffer.from(exports.memory.buffer, place, size)
+    exports.trac_web_begin(2n ** 26n)
+    const held = []
+    let whole = 0, wrong = 0
+    const drop = (index) => {
+        const [{ place, size, value }] = held.splice(index, 1)
+        at(place, size).equals(Buffer.alloc(size, value)) ? whole++ : wrong++
+        free(place)
+    }
+    for (let turn = 0; turn < 4000; turn++) {
+        const size = 1 + next(turn % 3 ? 3000 : 600_000), place = take(size)
+        if (place % 16 !== 0) wrong++
+        if (place) held.push({ place, size, value: turn % 251 })
+        if (place) at(place, size).fill(turn % 251)
+        while (held.length > 0 && next(100) < (place ? 40 : 80)) drop(next(held.length))
+    }
+    while (held.length > 0) drop(held.length - 1)
+    holds(`${whole} blocks are whole, ${wrong} are not`, wrong === 0 && whole > 3500)
+    holds('some memory was refused', exports.trac_web_refusals() > 0n)
+    exports.trac_web_begin(2n ** 26n)
+    const rows = Array.from({ length: 20 }, () => take(2 ** 20)), least = rows[0], most = rows[19] + 2 ** 20
+    for (const order of [1, 0, 3, 2]) rows.filter((_, index) => index % 4 === order).forEach(free)
+    const one = take(20 * 2 ** 20)
+    holds('20 blocks that touch become one', one >= least && one + 20 * 2 ** 20 <= most + 320 && exports.trac_web_refusals() === 0n)
 }
 
 // Random programs: what they print and how they end.

@@ -85,7 +85,8 @@ def check_stop(page):
         page.click("document.getElementById('run')")
         page.until("!document.getElementById('stop').hidden", "it runs")
         ended, said = page.script(STOP)
-        check(ended > 0 and said == "The run was stopped.", "Stop ends {} Workers, and says: {}".format(ended, said))
+        check(ended > 0 and "stopped" in said, "Stop ends {} Workers, and says: {}".format(ended, said))
+        page.until("document.getElementById('stop').hidden", "it is stopped")
     page.script(WATCH.format(leaves="true"))
     page.click("document.getElementById('run')")
     page.until("!document.getElementById('stop').hidden", "it runs")
@@ -94,7 +95,7 @@ def check_stop(page):
     page.run()
     page.until("window.late > 0", "a late answer comes")
     said = [page.text(name) for name in ("output", "ending", "place")] + [page.script("document.getElementById('slider').max")]
-    check(said[0] == "again" and said[1].startswith("After 2") and said[3] == "27", "a late answer is dropped: {}".format(said))
+    check(said[0] == "again" and said[1].startswith("Done after 2") and said[3] == "27", "a late answer is dropped: {}".format(said))
 
 
 def check_jumps(page):

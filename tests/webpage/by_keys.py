@@ -28,6 +28,7 @@ def focus(page, name):
 def start(page):
     """Has the wrong factorial run, its calls listed, and where its 0 comes from; all of that by keys."""
     focus(page, "source")
+    page.script("document.getElementById('source').select()")
     page.insert(open(FACTORIAL).read())
     page.press("Enter", control=True)
     page.until("document.activeElement.id === 'output'", "the output has the focus")
@@ -38,7 +39,8 @@ def start(page):
 
 
 def check_order(page):
-    """Tab goes over every control in the order in which the page is read; the tree of calls is one stop."""
+    """Tab goes over every control in the order in which the page is read; the tree of calls is one stop, and so are the tabs."""
+    page.tab("tree")
     page.script("document.getElementById('help-button').getAttribute('aria-expanded') === 'true' || document.getElementById('help-button').click()")
     wanted = page.script(STOPS)
     page.script("(document.activeElement.blur(), getSelection().removeAllRanges(), document.querySelector('h1').tabIndex = -1, "
@@ -49,19 +51,25 @@ def check_order(page):
         seen.append(page.script(FOCUS))
     page.script("document.querySelector('h1').removeAttribute('tabindex')")
     check(seen == wanted, "the order of the focus: {}".format([pair for pair in zip(seen, wanted) if pair[0] != pair[1]][:3]))
-    check(sum("tree" in name for name in seen) == 1, "the tree is one stop: {}".format(seen))
-    places = page.script("[...document.querySelectorAll('header, #help, #program-section, #result, #rules, #tape, #timeline, #buttons, #begun, #forms, #tree')]"
-                         ".map((it) => it.compareDocumentPosition(document.getElementById('tree')))")
-    check(all(place & 4 or place == 0 for place in places), "the tree is read last: {}".format(places))
+    check(sum(name == "tree" for name in seen) == 1, "the tree is one stop: {}".format(seen))
+    check(sum(name.startswith("tab-") for name in seen) == 1, "the tabs are one stop: {}".format(seen))
+    places = page.script("[...document.querySelectorAll('header, #help, #program-section, #result, #rules, #tape, #timeline, #buttons, #tabs')]"
+                         ".map((it) => it.compareDocumentPosition(document.getElementById('tabs')))")
+    check(all(place & 4 or place == 0 for place in places), "the tabs are read last: {}".format(places))
     page.script("document.getElementById('help-button').click()")
 
 
 def check_buttons(page):
     """Each button of the player by Enter, the slider by arrows, the number of a step by typing."""
-    for name, before, after in (("start", 100, 0), ("end", 100, 276), ("back", 78, 77), ("forward", 77, 78), ("token", 0, 1),
-                                ("token-back", 138, 137), ("call", 0, 23), ("call-back", 265, 263), ("over", 77, 267),
-                                ("over-back", 263, 138), ("out", 138, 263), ("begin", 263, 132)):
+    for name, unit, before, after in (
+        ("start", "token", 100, 0), ("end", "token", 100, 276), ("back", "byte", 78, 77), ("forward", "byte", 77, 78),
+        ("forward", "token", 0, 1), ("back", "token", 138, 137), ("forward", "call", 0, 23), ("back", "call", 265, 263),
+        ("over", "token", 77, 267), ("over-back", "token", 263, 138), ("out", "token", 138, 263), ("begin", "token", 263, 132),
+    ):
         page.go(before)
+        focus(page, unit)
+        page.press("Enter")
+        check(page.script("document.getElementById('{}').getAttribute('aria-pressed')".format(unit)) == "true", "the switch: " + unit)
         focus(page, name)
         page.press("Enter")
         page.at(after, "the button {} from {}".format(name, before))
@@ -92,6 +100,7 @@ def check_playing(page):
 
 def check_others(page):
     """A step on the way of a byte, the other looks, a program of the list, a doubt, and earlier output."""
+    page.tab("way")
     page.script("document.querySelector('#way-list [data-go]').focus()")
     page.press("Enter")
     page.at(267, "a call on the way")
@@ -100,15 +109,14 @@ def check_others(page):
         page.press("Enter")
         page.until("document.documentElement.dataset.theme === '{}'".format(looks), "the looks are " + looks)
     focus(page, "library")
-    page.press("f")
-    check(page.text("program-name") == "", "going through a closed list opens nothing yet: " + page.text("program-name"))
-    page.press("Enter")
-    page.until("document.getElementById('question').open", "it asks, since a program was typed")
-    focus(page, "question-yes")
+    name = page.text("program-name")
+    page.press("H")
+    check(page.text("program-name") == name, "going through a closed list opens nothing yet: " + page.text("program-name"))
     page.press("Enter")
     page.until("document.getElementById('program-name').textContent === 'first.trac'", "first.trac is opened")
     again(page, "#(pr,a)#(ps,({}))'".format("long " * 2000))
     page.until("document.querySelector('#doubts button') !== null", "a doubt is listed")
+    page.tab("doubts")
     page.script("document.querySelector('#doubts button').focus()")
     page.press("Enter")
     page.at(13, "a doubt")
@@ -128,7 +136,7 @@ def again(page, text):
     page.script("document.getElementById('source').select()")
     page.insert(text)
     page.press("Enter", control=True)
-    page.until("document.activeElement.id === 'output' && document.getElementById('ending').textContent.startsWith('After')", "it is run")
+    page.until("document.activeElement.id === 'output' && /^(Done|A)/.test(document.getElementById('ending').textContent)", "it is run")
 
 
 def check_texts(page):
@@ -138,15 +146,18 @@ def check_texts(page):
         if name == "output":
             page.go(276)
         page.script("document.getElementById('way-list').replaceChildren()")
+        page.tab("begun")
         focus(page, name)
         page.press("ArrowRight", max(keys, 1))
         check(page.text("note").startswith("byte "), "the chosen sign of {}: {}".format(name, page.text("note")))
         page.press("Enter")
         page.until(IN_WAY, "a sign of {} is followed".format(name))
+    page.tab("forms")
     page.script("document.querySelector('#forms [data-place]').focus()")
     page.press("ArrowLeft")
     page.press("Enter")
     page.until(IN_WAY, "a sign of a form is followed")
+    page.tab("forms")
     page.script("document.querySelector('#forms [data-who]').focus()")
     page.press("Enter")
     page.at(50, "who changed the form")
@@ -158,6 +169,7 @@ def check_focus_stays(page):
     stops = page.script("[...document.querySelectorAll('#player [tabindex], #player button, #panels [tabindex], #panels button')]"
                         ".filter((it) => it.checkVisibility()).length")
     dropped = []
+    page.tab("forms")
     for index in range(stops):
         page.script("[...document.querySelectorAll('#player [tabindex], #player button, #panels [tabindex], #panels button')]"
                     ".filter((it) => it.checkVisibility())[{}]?.focus()".format(index))
@@ -175,6 +187,7 @@ def check_focus_stays(page):
 def check_tree(page):
     """Arrows, Home, End and letters within the tree; places among the calls of the same call; a focus that scrolling keeps."""
     page.go(90)
+    page.tab("tree")
     page.script("document.getElementById('filter').focus()")
     page.press("Tab")
     check(page.script(FOCUS) == "tree", "the tree has the focus: " + page.script(FOCUS))
@@ -223,12 +236,10 @@ def check_switch(page):
     focus(page, "single-keys")
     page.press(" ")
     page.press("Escape")
+    page.until("document.getElementById('help').hidden", "Escape closes the help")
     page.script("document.activeElement.blur()")
     page.press("s")
     page.at(1, "s, after they are on again")
-    focus(page, "help-button")
-    page.press("Enter")
-    page.until("document.getElementById('help').hidden", "the help is gone")
 
 
 def check_input(page):
@@ -253,6 +264,9 @@ def check_input(page):
     page.press("Escape")
     page.press("End")
     page.at(page.script("document.getElementById('slider').max"), "End")
+    page.script("document.querySelector('#ending button').focus()")
+    page.press("Enter")
+    page.until(FOCUS + " === 'input'", "more may be typed")
     focus(page, "end-input")
     page.press("Enter")
     page.until("document.getElementById('ending').textContent.includes('the input has ended')", "the input ends")
@@ -267,7 +281,7 @@ def check_comes_back(page):
     page.press("?", shift=True)
     check(page.script(FOCUS) == "help", "the help has the focus: " + page.script(FOCUS))
     page.press("Tab")
-    check(page.script(FOCUS) == "single-keys", "the switch is next: " + page.script(FOCUS))
+    check(page.script(FOCUS) == "help-close", "its button is next: " + page.script(FOCUS))
     page.press("?", shift=True)
     check(page.script(FOCUS) == "rules", "the focus comes back: " + page.script(FOCUS))
     is_said = "document.getElementById('said').textContent.includes('Where it comes from: ')"
@@ -288,7 +302,7 @@ def check_comes_back(page):
     page.press("Enter", control=True)
     page.until("!document.getElementById('stop').hidden", "it runs")
     page.press("Escape")
-    page.until("document.getElementById('ending').textContent === 'The run was stopped.'", "Escape stops it")
+    page.until("document.getElementById('note').textContent === 'stopped'", "Escape stops it")
     page.until(FOCUS + " === 'output'", "the output has the focus then")
 
 

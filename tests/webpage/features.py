@@ -19,8 +19,8 @@ LATER = {
 
 
 def check_features():
-    """Each part of the pages, line by line."""
-    for path in sorted(glob.glob(os.path.join(TOP, "web", "*")) + glob.glob(os.path.join(TOP, "page", "*"))):
+    """Each part of the page, line by line."""
+    for path in sorted(glob.glob(os.path.join(TOP, "web", "*"))):
         pattern = LATER.get(path.rsplit(".", 1)[-1])
         if not pattern:
             continue

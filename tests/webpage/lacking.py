@@ -1,58 +1,32 @@
-"""The page where modules of WebAssembly do not run: it says what is lacking, and plays recorded runs."""
+"""The page where modules of WebAssembly do not run: it says what is lacking, and programs can be read and written."""
 import os
-import subprocess
 import tempfile
 
-from pages import TOP, check, opened, ready
+from given import Maker
+from pages import FACTORIAL, check, opened, ready
 
-BUTTONS = "[...document.querySelectorAll('#lacking button')]"
-
-
-def texts_at(path, steps):
-    """What trac debug says is not scanned yet at some steps."""
-    command, commands = [os.path.join(TOP, "trac"), "debug", path], "".join("s {}\np\nb 9999\n".format(step) for step in steps)
-    said = subprocess.run(command, input=commands, stdout=subprocess.PIPE, universal_newlines=True).stdout
-    return [line[len("active ["):-1] for line in said.split("\n") if line.startswith("active [")]
+NOT_RUN = "This takes the processor, which does not run in this browser."
 
 
-def check_played(page):
-    """Each recorded run comes to what trac prints, and goes through the states of trac debug."""
-    names = page.script(BUTTONS + ".map((button) => button.textContent)")
-    check(len(names) >= 3, "the recorded runs: {}".format(names))
-    for number, name in enumerate(names):
-        path = next(filter(os.path.exists, [os.path.join(TOP, folder, name) for folder in ("examples", "library")]))
-        page.click(BUTTONS + "[{}]".format(number))
-        page.until("document.getElementById('program-name').textContent === {!r}".format(name), name + " is opened")
-        page.until("document.getElementById('place').value === '0' && !document.getElementById('player').hidden", name + " is run")
-        end = int(page.script("document.getElementById('slider').max"))
-        steps = range(0, end + 1, max(end // 5, 1))
-        for step, text in zip(steps, texts_at(path, steps)):
-            page.go(step)
-            shown = page.script("[...document.querySelectorAll('#active [data-byte]')].map((cell) => cell.textContent).join('')")
-            check(text.replace("\\x0a", "LF").startswith(shown) and (shown or not text), "{} at {}: {}".format(name, step, shown))
-        page.press("End")
-        with open(path[:-len("trac")] + "out") as out:
-            printed = out.read()
-        page.until("document.getElementById('slider').value === '{}'".format(end), name + " to its end")
-        check(page.text("output").strip() == printed.strip(), "{} prints {}".format(name, page.text("output")))
-        page.until("document.getElementById('timeline-note').textContent.startsWith(', at most ')", name + ": how many calls are begun")
-        check(page.text("output-note") == "", "no byte can be followed: " + page.text("output-note"))
+def check_writing(page, words):
+    """What is lacking is said; a program can be typed, and that it is not run is said too."""
+    check(words in page.text("lacking"), "what is lacking: " + page.text("lacking"))
+    page.type("#(ps,other)'")
+    page.run()
+    check(page.text("ending") == NOT_RUN, "a program is not run: " + page.text("ending"))
+    check(page.script("document.getElementById('source').value") == "#(ps,other)'", "the program stays")
 
 
-def check_lacking(kind, file, check_moves, is_first):
-    """Without WebAssembly; in the first browser each run."""
-    with opened(kind, file, modules=False) as page:
-        check("has no WebAssembly" in page.text("lacking"), "what is lacking: " + page.text("lacking"))
-        if is_first:
-            check_played(page)
-        page.click(BUTTONS + ".find((button) => button.textContent === 'wrong-factorial.trac')")
-        page.until("document.getElementById('program-name').textContent === 'wrong-factorial.trac'", "a run is opened")
-        page.until("document.getElementById('slider').max === '276'", "it is there")
-        check_moves(page)
-        page.type("#(ps,other)'")
-        page.run()
-        check("only the recorded runs play" in page.text("ending"), "another program: " + page.text("ending"))
-        page.well("recorded runs")
+def check_lacking(kind, file):
+    """Without WebAssembly; the page of a program shows that program."""
+    with opened(kind, file, modules=False) as page, tempfile.TemporaryDirectory(prefix="trac-webpage-test-") as room:
+        check_writing(page, "has no WebAssembly")
+        page.load(Maker(room, file).make(FACTORIAL))
+        ready(page)
+        check(page.text("ending") == NOT_RUN, "the program of a page is not run: " + page.text("ending"))
+        with open(FACTORIAL) as text:
+            check(page.script("document.getElementById('source').value") == text.read(), "the program of a page")
+        page.well("without WebAssembly")
 
 
 def check_forbidden(kind, file):
@@ -64,16 +38,7 @@ def check_forbidden(kind, file):
             with open(copy, "w") as out:
                 out.write(text.replace(words, "", 1))
         with opened(kind, copies[0]) as page:
-            check_hello(page)
+            check_writing(page, "does not take the module")
             page.load(copies[1])
             ready(page)
-            check_hello(page)
-
-
-def check_hello(page):
-    """It is said that something is forbidden, and a recorded run plays."""
-    check("does not take the module" in page.text("lacking"), "what is forbidden: " + page.text("lacking"))
-    page.click(BUTTONS + "[0]")
-    page.until("document.getElementById('slider').max === '23'", "a recorded run is there")
-    page.press("End")
-    page.until("document.getElementById('output').textContent === 'Hello, world.\\n'", "a recorded run plays")
+            check_writing(page, "does not take the module")

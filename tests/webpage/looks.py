@@ -60,7 +60,7 @@ CONTRAST = """(() => {
   for (const name of ["lit", "read", "chosen", "followed"]) {
     const on = name === "lit" || name === "read" ? document.getElementById("paint") : document.body;
     const style = getComputedStyle(on, `::highlight(${name})`), paper = over(parse(style.backgroundColor), behind(on));
-    texts(name, on, on.id === "paint" ? getComputedStyle(document.getElementById("source")) : style, paper);
+    texts(name, on, style, paper);
   }
   return [count, low];
 })()"""
@@ -87,7 +87,7 @@ WIDE = """(() => {
 # What of the large view stands over what comes after it, or out of what can be scrolled in view.
 OVER = """(() => {
   const player = document.getElementById("player");
-  const boxes = ["rules", "tape", "big-key", "controls"].map((id) => document.getElementById(id).getBoundingClientRect());
+  const boxes = ["rules", "tape", "tape-key", "controls"].map((id) => document.getElementById(id).getBoundingClientRect());
   const over = boxes.flatMap((box, index) => (index && box.top < boxes[index - 1].bottom - 1 ? [index] : []));
   player.scrollTop = player.scrollHeight;
   const end = document.getElementById("end").getBoundingClientRect();
@@ -131,7 +131,8 @@ def check_contrast(page):
             page.script("document.getElementById('help-button').click()")
             page.type("#(pr,a)'\n#(ps,Hello, \x01world)'\n#(ps,##(rs))'")
             page.run()
-            page.until("!document.getElementById('doubts-section').hidden", "doubts are listed")
+            page.until("document.querySelector('#doubts .doubt') !== null", "doubts are listed")
+            page.tab("doubts")
             page.go(0)
         # (a border that changes little by little has other colours until then)
         page.until("document.getAnimations().length === 0", "nothing changes any more")

@@ -65,6 +65,14 @@ class Deeds:
         self.script("(() => {{ const box = document.getElementById('source'); box.value = {}; "
                     "box.dispatchEvent(new Event('input')); }})()".format(json.dumps(text)))
 
+    def tab(self, name):
+        """Has a panel seen: way, tree, forms, begun or doubts."""
+        self.script("document.getElementById('tab-{}').click()".format(name))
+
+    def unit(self, name):
+        """Has the buttons go a byte, a token or a call."""
+        self.script("document.getElementById('{}').click()".format(name))
+
     def click(self, element, around=None):
         """Clicks the middle of an element by the mouse, once it is there; and again if the page moved under the mouse."""
         self.script("{}({})".format(AIM, ", ".join("() => " + one for one in (element, around) if one)))
@@ -134,10 +142,17 @@ def ready(page):
     page.until("document.documentElement.dataset.ready === 'yes'", "the page is ready")
 
 
+# Forgets what the browser keeps of the page, and says whether that was something.
+FORGET = "(() => { const is = localStorage.length > 0; localStorage.clear(); return is; })()"
+
+
 @contextlib.contextmanager
 def opened(kind, file, **looks):
-    """The page in a browser of a kind, for some time."""
+    """The page in a browser of a kind, for some time, as it is for whom opens it first."""
     with parts.lent(kind, **looks) as page:
         page.load(file)
         ready(page)
+        if page.script(FORGET):
+            page.load(file)
+            ready(page)
         yield page

@@ -25,6 +25,12 @@ def check_stored(page):
     page.until("document.getElementById('said').textContent.startsWith('Next, step 90')", "the step is said")
     page.until(IS_GATHERED, "protected arguments stand in quotes")
     text = names.text(page)
+    # (of the other tabs what stands under them)
+    for tab in ("tree", "forms", "begun"):
+        page.tab(tab)
+        page.until("document.querySelectorAll('#tree .quote').length >= 6", "protected arguments stand in quotes")
+        text += "\n{}:\n{}".format(tab, names.text(page).split("    tablist ")[1].split("\n", 1)[1].split("status\n")[0])
+    page.tab("way")
     if os.environ.get("STORE_NAMES"):
         with open(STORED, "w") as stored:
             stored.write(text)
@@ -47,7 +53,8 @@ def check_named(page):
     page.script("document.getElementById('help-button').click()")
     page.type("#(pr,a)'\n#(ps,Hello, world)'\n#(sb,B)'#(ps,##(rs))'")
     page.run()
-    page.until("!document.getElementById('doubts-section').hidden", "doubts are listed")
+    page.until("document.querySelector('#doubts .doubt') !== null", "doubts are listed")
+    page.tab("doubts")
     all_named(page, "with doubts")
 
 
@@ -137,6 +144,7 @@ def check_heard(page):
     page.type("#(pr,a)#(ps,Hello, world)'")
     hears(page, page.run, "Printed is: Hello")
     page.until("window.said.join('|').includes('2 doubts are listed')", "how much is doubted")
+    page.tab("doubts")
     said = hears(page, lambda: press_in(page, "#doubts button", "Enter"), "Next, step 13: ) ends the function, and #(pr,a) is performed")
     check(said.endswith("its value is empty. Doubt: no primitive is named pr"), "what is doubted: " + said)
     said = hears(page, lambda: press_in(page, None, "r"), "there is no call before this step")
@@ -148,12 +156,11 @@ def check_heard(page):
     hears(page, lambda: page.go(24), "Next, step 24: a blank goes to the current text")
     page.script("document.getElementById('place').value = '999'")
     hears(page, lambda: press_in(page, "#place", "9", "Enter"), "the run has steps 0 to ")
+    page.tab("tree")
     page.script("document.getElementById('filter').focus()")
     hears(page, lambda: page.insert("hello"), "1 of 2 calls")
     hears(page, lambda: page.press("Enter"), ") ends the function, and #(ps,Hello, world) is performed")
-    press_in(page, "#library", "f", "Enter")
-    page.until("document.getElementById('question').open", "it asks, since a program was typed")
-    hears(page, lambda: page.press("Enter"), "first.trac is opened.")
+    hears(page, lambda: press_in(page, "#library", "H", "Enter"), "first.trac is opened.")
 
 
 def check_reading(kind, file):

@@ -86,12 +86,9 @@ def shared(page):
 
 def follow(page, text):
     """Follows a link within the page."""
-    is_opened = "document.getElementById('program-name').textContent !== ''"
     page.script("(() => {{ for (const name of ['program-name', 'ending']) document.getElementById(name).textContent = ''; "
                 "location.hash = {!r}; }})()".format(text))
-    if page.until("document.getElementById('question').open ? 'asks' : {} && 'opens'".format(is_opened), "a link: " + text[:40]) == "asks":
-        page.click("document.getElementById('question-yes')")
-        page.until(is_opened, "a link is opened: " + text[:40])
+    page.until("document.getElementById('program-name').textContent !== ''", "a link is opened: " + text[:40])
 
 
 def check_run(page, file):

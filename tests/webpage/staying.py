@@ -6,8 +6,9 @@ NO_END = "#(ps,(wxyz))'#(ds,L,(#(cl,L)))'#(cl,L)'"
 PERHAPS = "#(ds,L,(#(cl,L)))'#(ps,go)#(eq,##(rs),x,(#(cl,L)),(#(ps,ne)))'"
 WAITED = "After 40 steps: the program waits for input."
 # The places of the bytes of the program that are lit, with their signs.
-LIT = "[...CSS.highlights.get('read') ?? []].map((range) => [range.startOffset, range.toString()].join()).join(' ')"
-SHOWN = "['player', 'panels', 'input-form', 'doubts-section', 'way-section'].filter((id) => !document.getElementById(id).hidden).join()"
+LIT = ("[...CSS.highlights.get('read') ?? []].map((range) => { const front = document.createRange(); "
+       "front.setStart(document.getElementById('paint'), 0); front.setEnd(range.startContainer, range.startOffset); "
+       "return [front.toString().length, range.toString()].join(); }).join(' ')")
 COUNT = "document.getElementById('tree-count').textContent"
 NO_FORM = "document.getElementById('input-form').hidden"
 HAS_RUN = "document.getElementById('stop').hidden && document.getElementById('ending').textContent.startsWith('{}')"
@@ -45,14 +46,15 @@ def follow(page, sign, place):
 
 
 def check_stopped(page):
-    """Of another program that is stopped nothing stays, and nothing of the one before."""
+    """Where another program is stopped before anything is known of it, the run before stays, and says so."""
     page.type("#(ps,ABC)#(pr)'")
     page.run()
     page.until("document.querySelectorAll('#doubts .doubt').length === 1", "all is listed")
     page.put(NO_END)
     page.script("(document.getElementById('run').click(), document.getElementById('stop').click())")
-    said = [page.text(name) for name in ("ending", "output", "output-note", "program-note")] + [page.script(SHOWN)]
-    check(said == ["The run was stopped.", "", "", "", ""], "what stays of a run that was stopped: {}".format(said))
+    page.until("document.getElementById('output').textContent === 'ABC'", "what the run before printed stays")
+    check(page.text("ending").startswith("The run was stopped. The run before is shown. "), "what is said of it: " + page.text("ending"))
+    check(page.text("program-note") == "changed since the run", "its program is another: " + page.text("program-note"))
     page.type("#(ps,again)'")
     page.run()
     check(page.text("output") == "again", "the page goes on: " + page.text("output"))
@@ -63,9 +65,18 @@ def check_before(page):
     page.type(PERHAPS)
     page.run()
     check(page.text("ending") == WAITED, "it waits: " + page.text("ending"))
+    # (before anything is known of the new run)
+    page.script("""(() => {
+      const button = document.getElementById('stop');
+      const stop = new MutationObserver(() => {
+        if (button.hidden) return;
+        stop.disconnect();
+        button.click();
+      });
+      stop.observe(button, { attributes: true });
+    })()""")
     give(page, "x'")
-    page.until("!document.getElementById('stop').hidden", "it runs")
-    page.script("document.getElementById('stop').click()")
+    page.until("document.getElementById('ending').textContent.startsWith('The run was stopped')", "it is stopped")
     check(page.text("ending") == "The run was stopped. The run before is shown. " + WAITED, "it is stopped: " + page.text("ending"))
     check(page.text("output") == "go" and page.script("document.getElementById('given').hidden"), "what stays: " + page.text("output"))
     page.until(COUNT + " === '2'", "its calls are listed")
@@ -91,7 +102,7 @@ def check_listed(page):
     })()""")
     page.until("document.getElementById('note').textContent === 'stopped'", "Stop is pressed")
     page.until(COUNT + " === '2'", "the calls are listed")
-    check(page.text("output") == "3" and page.text("ending").startswith("After "), "what stays: " + page.text("ending"))
+    check(page.text("output") == "3" and page.text("ending").startswith("Done after "), "what stays: " + page.text("ending"))
 
 
 def check_edited(page):
@@ -116,7 +127,7 @@ def check_edited(page):
       box.value = ` ${box.value}`;
       box.dispatchEvent(new Event('input'));
     })()""")
-    page.until(HAS_RUN.format("After "), "the run ends")
+    page.until(HAS_RUN.format("Done after "), "the run ends")
     check(page.text("program-note") == "changed since the run", "an edit while it runs: " + page.text("program-note"))
 
 
@@ -125,7 +136,7 @@ def check_other_input(page):
     page.type("#(ps,Hello ##(rs))#(hl)'")
     page.run()
     give(page, "Ann'")
-    page.until(HAS_RUN.format("After 26 steps: the program halts."), "it halts")
+    page.until(HAS_RUN.format("Done after 26 steps: the program halts."), "it halts")
     check(page.script(NO_FORM), "no input is taken where it halts")
     page.go(22)
     check(page.script(NO_FORM), "no input is taken after the reading")
@@ -136,7 +147,7 @@ def check_other_input(page):
     page.go(10)
     page.click("document.getElementById('end-input')")
     answer(page, "One line of input came after step 10. End the input here, in place of that?")
-    page.until(HAS_RUN.format("After 21 steps: the input has ended."), "it is ended before that line")
+    page.until(HAS_RUN.format("Done after 21 steps: the input has ended."), "it is ended before that line")
     check(page.script(NO_FORM), "no input is taken where it has ended")
     page.go(20)
     give(page, "Eve'", "The end of input came after step 20. Take this line in place of that?")
@@ -144,7 +155,7 @@ def check_other_input(page):
     page.type(PERHAPS)
     page.run()
     give(page, "x'")
-    page.until(HAS_RUN.format("After 2,000,000 steps: the budget of steps is spent"), "it is spent")
+    page.until(HAS_RUN.format("After 2,000,000 steps: it was stopped there"), "it is spent")
     check(page.script(NO_FORM), "no input is taken where it is spent")
     page.go(39)
     give(page, "y'", "One line of input came after step 39. Take this line in place of that?")

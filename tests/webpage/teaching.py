@@ -89,6 +89,7 @@ def check_sentences(page, program, rows):
     page.type(program)
     page.run()
     page.until("document.getElementById('tree-count').textContent === '{}'".format(len(rows)), "all are listed")
+    page.tab("tree")
     page.script("document.getElementById('tree').scrollTop = 0")
     for index, (call, said) in enumerate(rows):
         page.script("document.getElementById('tree').focus()")
@@ -103,8 +104,8 @@ def check_sentences(page, program, rows):
             wrong.append((call, text))
         page.script("document.activeElement.blur()")
         page.press("s")
-        done = "document.getElementById('last').textContent.startsWith('Step {}: ) ends')".format(step)
-        page.until(done, "step {} is done".format(step))
+        page.at(int(step.replace(",", "")) + 1, "step {} is done, and the page goes".format(step))
+        says(page, "last", "Just done: ) ends")
         if said not in page.text("last"):
             wrong.append((call, page.text("last")))
     check(not wrong, "sentences: {}".format(wrong[:3]))
@@ -113,6 +114,7 @@ def check_sentences(page, program, rows):
 def check_protected(page):
     """Protected commas stand in quotes, in the list, the sentence and what is struck; the empty text has a sign."""
     page.type(PROTECTED)
+    page.tab("tree")
     page.run()
     page.until("document.querySelectorAll('#tree .quote').length === 8", "protected arguments stand in quotes")
     rows = page.script("[...document.querySelectorAll('#tree .row')]"
@@ -157,26 +159,26 @@ def check_tokens(page):
         page.press("ArrowRight")
         page.at(step)
         if step == 15:
-            says(page, "last", "Steps 12 to 14: abc goes to the current text")
+            says(page, "last", "Just done, 3 steps: abc goes to the current text")
         if step == 17:
             says(page, "next", "Next, steps 17 to 25: the idle program reads on")
         if step == 26:
-            says(page, "last", "Steps 17 to 25: the idle program reads on: its rs gives LF##(zz)")
+            says(page, "last", "Just done, 9 steps: the idle program reads on: its rs gives LF##(zz)")
         if step == 16:
             says(page, "next", ") of the idle program ends the function, and #(ps,empty) is performed")
         if step == 28:
             says(page, "last", "##( begins a neutral function: its value will not be scanned")
-    says(page, "last", "Steps 32 to 39: the idle program waits to read on")
+    says(page, "last", "Just done, 8 steps: the idle program waits to read on")
     for step in (*reversed(steps[:-1]), 0):
-        page.script("document.getElementById('token-back').click()")
+        page.script("document.getElementById('back').click()")
         page.at(step)
-    page.script("document.getElementById('token').click()")
+    page.script("document.getElementById('forward').click()")
     page.at(1)
     page.press("End")
     page.at(40)
     page.press("b")
     page.at(39)
-    says(page, "last", "Step 38: the idle program reads on: ")
+    says(page, "last", "Just done: the idle program reads on: ")
     page.put("#(ps," + "long" * 5000 + ")'")
     page.run()
     page.go(12)
@@ -236,13 +238,14 @@ def check_large_view(page):
     page.press("Escape")
     page.go(5)
     page.script("(document.activeElement.blur(), scrollTo(0, 150))")
+    before = page.script("scrollY")
     page.press("f")
     page.click("document.querySelector('#neutral [data-byte]')")
     page.until("document.getElementById('note').textContent.endsWith('it is there already; Esc shows the list')", "where it comes from is said")
     page.click("document.getElementById('big')")
     check(not page.script(is_open) and page.script(pressed) == "false", "the button closes it")
     page.frames()
-    check(page.script("scrollY") == 150, "the page stands where it stood: {}".format(page.script("scrollY")))
+    check(page.script("scrollY") == before, "the page stands where it stood: {}".format(page.script("scrollY")))
 
 
 def check_sizes(kind, file):

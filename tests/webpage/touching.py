@@ -23,6 +23,7 @@ def middle(page, element):
 def check_newcomer(page):
     """From a wrong 0 to the place where it was written, in four actions."""
     page.touch(middle(page, "document.getElementById('source')"))
+    page.script("document.getElementById('source').select()")
     page.insert(open(FACTORIAL).read())
     page.touch(middle(page, "document.getElementById('run')"))
     page.until("document.getElementById('output').textContent === '0'", "it prints 0")
@@ -42,7 +43,7 @@ def check_lesson(page):
     page.script("scrollTo(0, 0)")
     page.script(RESTS)
     page.touch(page.script(MIDDLE.format("document.getElementById('run')")))
-    page.until("document.getElementById('ending').textContent.startsWith('After ')", "it is run")
+    page.until("/^(Done a|A)fter /.test(document.getElementById('ending').textContent)", "it is run")
     seen = "(() => { const box = document.getElementById('ending').getBoundingClientRect(); return box.top >= 0 && box.bottom <= innerHeight; })()"
     page.until(seen, "what it prints is in view")
     page.script("document.getElementById('lesson-close').click()")

@@ -1,22 +1,18 @@
-"""Random programs, and the lines that trac-lint must print of each by the model.
-
-    programs.py COUNT SEED STEPS FOLDER
-
-writes FOLDER/N.trac, FOLDER/input, which every second program reads, and FOLDER/N.out.
-"""
-import pathlib
+"""Random programs with what is seldom meant."""
 import random
-import sys
 
-import model
+from model.doubts import USES
+from model.machine import NEED_FORM
 
 FORMS = ["F", "G", "H", " F", "forms", "froms", "ps", ""]
-NAMES = sorted(model.USES) + ["pr", "PS", "Cl", " ps", "cal", "", "F", "G"]
+NAMES = sorted(USES) + ["pr", "PS", "Cl", " ps", "cal", "", "F", "G"]
 CLOSED = ["ps", "cl", "ds", "ss", "ad", "dv", "eq", "cs", "cc", "cn", "in", "sb", "fb"]
 TEXTS = ["a", "b", "x", "ab", "7", "-3", "12", "x5", "0", "", "9" * 40, "a b", "\n", ",", "(a,b)", ";"]
 
 
 class Author:
+    """Writes one program after the other."""
+
     def __init__(self, seed):
         self.random = random.Random(seed)
 
@@ -39,13 +35,14 @@ class Author:
         name = self.random.choice(names)
         count = self.random.choice([0, 1, 2, 2, 3, 3, 4, 5])
         arguments = [self.argument(depth) for _ in range(count)]
-        if arguments and self.random.random() < 0.7 and name.lower() in model.NEED_FORM | {"ds", "sb"}:
+        if arguments and self.random.random() < 0.7 and name.lower() in NEED_FORM | {"ds", "sb"}:
             arguments[0] = self.random.choice(FORMS[:6])
         sign = self.random.choice(["#(", "#(", "##("])
         return sign + ",".join([name] + arguments) + self.random.choice([")"] * 30 + ["", "))"])
 
     def body(self, depth):
-        pieces = [self.call(depth) if self.random.random() < 0.6 else self.text() for _ in range(self.random.choice([1, 1, 2, 3]))]
+        pieces = [self.call(depth) if self.random.random() < 0.6 else self.text()
+                  for _ in range(self.random.choice([1, 1, 2, 3]))]
         return "".join(pieces)
 
     def program(self):
@@ -58,19 +55,3 @@ class Author:
             texts.extend(self.body(1) + ";" for _ in range(2))
         end = self.random.choice(["'\n", "'", "'\r\n"])
         return (end.join(texts) + self.random.choice([end, end, ""])).encode()
-
-
-def main():
-    count, seed, steps, folder = int(sys.argv[1]), int(sys.argv[2]), int(sys.argv[3]), pathlib.Path(sys.argv[4])
-    author = Author(seed)
-    more = (author.program() + b"'" + author.program()) if count else b""
-    (folder / "input").write_bytes(more)
-    for number in range(count):
-        program, file = author.program(), folder / "{}.trac".format(number)
-        read = more if number % 2 else b""
-        file.write_bytes(program)
-        lines = model.spots(file.name, program, "input", read, steps)
-        (folder / "{}.out".format(number)).write_bytes(b"".join(lines))
-
-
-main()

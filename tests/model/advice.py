@@ -76,7 +76,7 @@ def advice(text):
             closed = closed or (ended and (SURPLUS_CLOSING, end - 1))
         if text[at : at + 1] == b"(" and text[at - 1 : at] == b"(":
             opened = opened or (SURPLUS_OPENING, at)
-        elif text[at : at + 1] == b"(" and at and text[at - 1 : at] not in (b"#", b",", b")", b" ", b"\t", b"\r", b"\n"):
+        elif text[at : at + 1] == b"(" and at and text[at - 1] not in b"#,) \t\r\n":
             weakly = weakly or (SURPLUS_OPENING, at)
         if text[at : at + 1] == b"#" and text[at + 1 : at + 2] not in (b"#", b"("):
             closed = closed or (MISSING_OPENING, at + 1)

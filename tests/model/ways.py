@@ -1,0 +1,102 @@
+"""What trac-walk replies to `y`: the model with each byte carrying the way by which it came. It was written before
+the program was tried, and not from it.
+
+A way is a tuple of events, the latest first: the number of a step, what the step does, and what it did with the
+byte."""
+from model.machine import IDLE, Machine, plain
+
+LOADED = "nothing is left: the idle program is loaded"
+
+
+def written(argument):
+    """An argument as it would be written: in parentheses, if what a line of 80 columns shows of it has one or a
+    comma."""
+    text = plain(argument)
+    return b"(" + text + b")" if any(mark in text[:81] for mark in b",()") else text
+
+
+def text_of(call):
+    """A call as it would be written."""
+    return (call.kind + b"(" + b",".join(map(written, call.arguments)) + b")").decode("latin-1")
+
+
+class Follower(Machine):
+    """The model, whose input may go on."""
+
+    def __init__(self, tape, bits=128):
+        super().__init__(tape, bits, may_go_on=True)
+
+    def event(self, call, what):
+        """That a call does this with a byte."""
+        return self.steps, text_of(call), what
+
+    def idle(self):
+        way = ((self.steps, LOADED, "makes it"),) if self.steps else ()
+        return [(byte, way) for byte in IDLE]
+
+    def of_tape(self, place, call):
+        return (self.event(call, place),)
+
+    def made(self, values, call):
+        way = (self.event(call, "makes it"),)
+        return [(value, way) for value in values]
+
+    def moved(self, text, call, what):
+        event = self.event(call, what)
+        return [(value, (event,) + way) for value, way in text]
+
+
+# ---- what is shown
+
+def cut(text, columns):
+    return text if len(text) <= columns else text[:columns - 2] + ".."
+
+
+def seen(text):
+    """Bytes 32 to 126 but for these three are shown as themselves."""
+    return "".join(char if " " <= char <= "~" and char not in "\\[]" else f"\\x{ord(char):02x}" for char in text)
+
+
+def place_in(tape, place):
+    before = tape[:place]
+    return f"line {before.count(10) + 1}, column {place - before.rfind(10)}"
+
+
+def piece_in(tape, place):
+    """The line of a tape that has the byte at this place, cut around it, and `^` under it."""
+    start, end = tape.rfind(b"\n", 0, place) + 1, (tape + b"\n").find(b"\n", place)
+    before, rest = (seen(text.decode("latin-1")) for text in (tape[start:place], tape[place:end]))
+    after = max(1, len(rest))  # (the mark takes a column)
+    room = 72 if len(before) + after <= 72 else max(36, 70 - after)
+    if len(before) > room:
+        before = ".." + before[-room:]
+    return [cut("FILE    " + before + rest, 80), " " * (8 + len(before)) + "^"]
+
+
+def lines_of(tape, step, call, what):
+    """What is said of a call on a way; what it read is shown too."""
+    head = (cut(f"{step}  {seen(call)}", 48) + "  ").ljust(34)
+    if isinstance(what, int):
+        return [cut(head + "reads it: " + place_in(tape, what), 80)] + piece_in(tape, what)
+    return [cut(head + what, 80)]
+
+
+def way_of(machine, asked):
+    """The way of the byte that `y` is asked to follow."""
+    if asked.startswith("#"):
+        return machine.output[int(asked[1:]) - 1][1]
+    if asked.startswith("."):
+        argument, place = map(int, asked[1:].split())
+        return machine.frames[-1][1][argument][place - 1][1]
+    name, place = asked.split()
+    return machine.forms[name.encode()].items[int(place) - 1][1]
+
+
+def reply(machine, asked):
+    """The lines that `y` replies, of a way at most 30."""
+    way = way_of(machine, asked)
+    told = [lines_of(machine.tape, *event) for event in way]
+    if len(told) > 30:
+        told = told[:28] + [[f".. {len(told) - 29} more .."]] + told[-1:]
+    step, call, _ = way[-1]
+    return sum(told, []) + ["here: " + cut(f"{step}  {seen(call)}", 80)]

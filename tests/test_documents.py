@@ -1,0 +1,91 @@
+"""What README.md and docs/ show: each command that says what it prints, `printf ".." | ./trac run    # prints ..`,
+prints that; so too the doubts of trac-lint that stand below such a command, `# 1:7: ..`, and on the page of silent
+mistakes there are no others.
+
+The example of docs/embedding.md is its crate, which the gate runs; the counts of definitions in docs/proof.md are
+those of tools/believed."""
+import re
+
+from support.cases import TOP, Case, Place, each, lined, ran, scratch, tests
+
+COMMAND = re.compile(r'^ +(printf ".*") \| \./trac run')
+PRINTS = re.compile(r'^ +(printf ".*" \| \./trac run)  +# prints (.*)$')
+DOUBT = re.compile(r"^ +# ([0-9]+:[0-9]+: .*)$")
+PAGES = {file.name: file for file in [TOP / "README.md", *sorted((TOP / "docs").glob("*.md"))]}
+# The page on which a command without doubts below it has none.
+SILENT = "nothing-printed.md"
+# tools/believed counts so many lines more or less.
+ABOUT = 100
+
+
+def shell(command):
+    """What a command prints, both streams together, and its status."""
+    run = ran(["bash", "-c", "exec 2>&1; " + command])
+    return run._replace(command=command)
+
+
+def lines_of(file):
+    """The lines of a page, each with its number."""
+    return enumerate(file.read_text(encoding="utf-8").split("\n"), 1)
+
+
+@tests
+class Documents(Case):
+    """The commands of each page."""
+
+    @each(name for name, file in PAGES.items() if any(COMMAND.match(line) for _, line in lines_of(file)))
+    def test(self, name):
+        file = PAGES[name]
+        command, doubts = None, []
+        for number, line in lines_of(file):
+            if COMMAND.match(line):
+                self.check_doubts(name, command, doubts)
+                command, doubts = (number, COMMAND.match(line)[1]), []
+            elif DOUBT.match(line):
+                doubts.append((number, DOUBT.match(line)[1]))
+            if PRINTS.match(line):
+                self.check_output(file, number, *PRINTS.match(line).groups())
+        self.check_doubts(name, command, doubts)
+
+    def check_output(self, file, number, command, wanted):
+        """A command prints what its line says."""
+        wanted, run = "" if wanted == "nothing" else wanted, shell(command)
+        place = Place(file.relative_to(TOP), number)
+        what = "{}:{}: {}".format(place.file, number, command)
+        self.same(what, run.output.decode("utf-8", "replace"), wanted, place, "printed")
+        self.status(what, run, 0)
+
+    def check_doubts(self, name, command, doubts):
+        """Of what the last command prints trac-lint says what stands below it."""
+        if command is None or not doubts and name != SILENT:
+            return
+        number, command = command
+        file = scratch(self) / "it"
+        file.write_bytes(shell(command).output)
+        said = ran([TOP / "trac-lint", file]).output.decode("utf-8", "replace").replace("{}:".format(file), "")
+        said = re.sub(r" +$", "", re.sub(r" \(step [0-9]+\)$", "", said, flags=re.M), flags=re.M)
+        place = Place(PAGES[name].relative_to(TOP), [number for number, _ in doubts] or number)
+        what = "{}:{}: what trac-lint says of {}".format(place.file, number, command)
+        self.same(what, said, lined(text for _, text in doubts).decode(), place, "said by trac-lint")
+
+    def test_embedding(self):
+        """The program of the page is that of the example, and what it prints is what the gate compares."""
+        page = (TOP / "docs" / "embedding.md").read_text(encoding="utf-8")
+        example = TOP / "crates" / "trac_embedding_example"
+        for kind, file in ("rust", example / "src" / "main.rt"), ("text", example / "stdout"):
+            blocks = "".join(re.findall("^```{}\n(.*?)^```$".format(kind), page, re.M | re.S))
+            place = Place(file.relative_to(TOP))
+            self.same("docs/embedding.md shows " + place.file, blocks, file.read_text(encoding="utf-8"), place, "shown")
+
+    def test_counts_of_definitions(self):
+        """tools/believed counts as many files, and about as many lines, as docs/proof.md says."""
+        rows = re.findall(r"^\| .* \| `([^`]+)` \| ([0-9]+) files, ([0-9,]+) lines \|$",
+                          (TOP / "docs" / "proof.md").read_text(encoding="utf-8"), re.M)
+        self.holds("docs/proof.md counts the definitions of contracts", len(rows) >= 6)
+        for contract, files, lines in rows:
+            said = ran([TOP / "tools" / "believed", contract]).output.decode()
+            found = re.findall(r": ([0-9]+) files, ([0-9,]+) lines$", said, re.M)
+            counts = [(int(many), int(long.replace(",", ""))) for many, long in found]
+            wanted = int(files), int(lines.replace(",", ""))
+            self.holds("docs/proof.md: of {} {} files and about {} lines, and not {}".format(contract, *wanted, counts),
+                       any(many == wanted[0] and abs(long - wanted[1]) <= ABOUT for many, long in counts))

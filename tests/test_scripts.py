@@ -1,0 +1,82 @@
+"""The tests that are scripts of their own, each with its counts: those of the launcher, in Bash, and what is not a
+suite yet.
+
+Each ends with a line `N passed, M failed`, with `K skipped, ` before it where some were, and says on other lines what
+failed (`FAILED: ..`) and why something was skipped (`skipped: ..`)."""
+import os
+import re
+import signal
+import subprocess
+
+from support.cases import TESTS, Case, each, tests
+
+# Each script, and about how many seconds it takes: the longest begin first.
+SCRIPTS = {"building": 60, "releasing": 30, "installing": 20, "endings": 20, "hostile": 60, "streams": 40,
+           "playing": 20, "editors": 30, "web/run": 60, "webpage/run": 240}
+COUNTS = re.compile(r"(?:([0-9]+) skipped, )?([0-9]+) passed, ([0-9]+) failed")
+# How much is shown of what a script says that failed.
+SHOWN = 40
+
+
+def said_by(script):
+    """The lines that a script says, and its status. What it has begun ends with this process."""
+    done = subprocess.Popen([TESTS / script], stdin=subprocess.DEVNULL, stdout=subprocess.PIPE,
+                            stderr=subprocess.STDOUT, start_new_session=True)
+
+    def end(*_):
+        os.killpg(done.pid, signal.SIGTERM)
+        os._exit(1)
+
+    before = signal.signal(signal.SIGTERM, end)
+    try:
+        output, _ = done.communicate()
+    except BaseException:
+        os.killpg(done.pid, signal.SIGTERM)
+        raise
+    finally:
+        signal.signal(signal.SIGTERM, before)
+    return output.decode("utf-8", "replace").splitlines() or [""], done.returncode
+
+
+class Script(Case):
+    """A script, which counts its checks by itself."""
+
+    suite = "scripts"
+
+    def __init__(self, method="runTest"):
+        super().__init__(method)
+        self.skips = []
+        name = method.replace("test_", "", 1)
+        # (building looks at how far a build is while time passes)
+        self.is_alone = name == "building"
+        self.seconds = next((seconds for script, seconds in SCRIPTS.items() if name_of(script) == name), 0)
+
+    def run_script(self, script):
+        """Runs it, and takes its counts."""
+        lines, status = said_by(script)
+        counts = COUNTS.fullmatch(lines[-1])
+        if not counts:
+            self.bad("tests/{} did not end with its counts".format(script), lines[-SHOWN:])
+            return
+        skipped, self.held, self.failed = (int(count or 0) for count in counts.groups())
+        why = [line[9:] for line in lines if line.startswith("skipped: ")]
+        self.skips = (why + ["it does not say why"] * skipped)[:skipped]
+        if self.failed or status:
+            failed = max(self.failed, 1)
+            what = "tests/{} failed {}, and ended with status {}".format(script, self.failed, status)
+            self.bad(what, lines[:-1][-SHOWN:])
+            self.failed = failed
+
+
+def name_of(script):
+    """The name of a script: its own, or its folder's."""
+    return script.replace("/run", "")
+
+
+@tests
+class Scripts(Script):
+    """All of them."""
+
+    @each(map(name_of, SCRIPTS))
+    def test(self, name):
+        self.run_script(next(script for script in SCRIPTS if name_of(script) == name))

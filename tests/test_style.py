@@ -1,0 +1,83 @@
+"""How scripts are written: what shellcheck says of those in Bash, and flake8 of those in Python, where they are
+installed in the versions that are known here; and that no line of a script has more than 120 columns, but for those of
+support/long-lines, which are still to be mended."""
+import re
+import shutil
+import subprocess
+
+from support.cases import TOP, Case, near, ran
+
+WIDTH, SOME = 120, 12
+# The tools, and the versions of them whose findings are mended: others find other things.
+KNOWN = {"shellcheck": r"version: 0\.9\.0$", "flake8": r"^5\.0\."}
+# The folders whose files are not looked at: Rattle, what is made, and the pages, which have their own measures.
+ELSEWHERE = re.compile("^(?:crates|release|web|tests/web|tests/webpage)/")
+# What is no script: texts, programs, what is wanted of them, and manual pages.
+TEXTS = re.compile(r"\.(?:md|png|trac|out|in|err|64|words|txt|json|1|edit|vim|input)$|/edits-tried$|/LICENSE$")
+# What shellcheck finds that is meant: files that are sourced, and set what others use; words that are to be split.
+MEANT = "SC1090,SC1091,SC2034,SC2064,SC2086,SC2128,SC2154,SC2164,SC2166,SC2178,SC2209,SC2217,SC2261"
+
+
+def listed():
+    """The files of the repository, as git lists them; none where it does not."""
+    try:
+        found = subprocess.run(["git", "ls-files", "-z"], cwd=TOP, stdout=subprocess.PIPE, stderr=subprocess.DEVNULL,
+                               check=False)
+    except OSError:
+        return []
+    return [name for name in found.stdout.decode().split("\0") if name]
+
+
+def scripts():
+    """The scripts of the repository, with their first lines and their texts."""
+    files = [TOP / name for name in listed() if not ELSEWHERE.match(name) and not TEXTS.search(name)]
+    for file in files:
+        if file.is_file() and not file.is_symlink():
+            text = file.read_text(encoding="utf-8", errors="replace")
+            yield file, text.split("\n", 1)[0], text
+
+
+class Style(Case):
+    """The style of scripts."""
+
+    suite = "style"
+    takes_programs = False
+
+    def setUp(self):
+        if not listed():
+            self.skipTest("git does not list the files")
+
+    def tool(self, name):
+        """A tool, if it is there in a version that is known."""
+        if not shutil.which(name):
+            self.skipTest("there is no " + name)
+        if not re.search(KNOWN[name], ran([name, "--version"]).output.decode(), re.M):
+            self.skipTest("{} is of another version than {}".format(name, KNOWN[name]))
+        return name
+
+    def finds_nothing(self, words, files):
+        """A check that a tool finds nothing in files. It is given some at a time, and says nothing meanwhile."""
+        for at in range(0, len(files), SOME):
+            run = ran([*words, *map(near, files[at:at + SOME])])
+            self.same(words[0], run.output, b"", None, "found")
+            self.status(words[0], run, 0)
+        self.holds("there are files to look at", len(files) > 10)
+
+    def test_shell(self):
+        tool = self.tool("shellcheck")
+        files = [file for file, first, _ in scripts() if re.match("#!.*[ /]bash$", first)]
+        self.finds_nothing([tool, "-S", "warning", "-f", "gcc", "-e", MEANT], files)
+
+    def test_python(self):
+        tool = self.tool("flake8")
+        files = [file for file, first, _ in scripts() if file.suffix == ".py" or re.match("#!.*python", first)]
+        self.finds_nothing([tool], files)
+
+    def test_lines(self):
+        later = set((TOP / "tests" / "support" / "long-lines").read_text(encoding="utf-8").split())
+        gone = sorted(name for name in later if not (TOP / name).exists())
+        self.holds("long-lines names files that are there, and not {}".format(gone), not gone)
+        for file, _, text in scripts():
+            long = [number for number, line in enumerate(text.split("\n"), 1) if len(line) > WIDTH]
+            if near(file) not in later:
+                self.holds("{}: lines of at most {} columns, and not {}".format(near(file), WIDTH, long), not long)

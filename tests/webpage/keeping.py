@@ -1,0 +1,74 @@
+"""What is kept: the program over a reload, in the middle of typing too, its name and the looks; and over the opening of another."""
+from pages import check, opened, ready
+from waiting import Gone
+from window import pick
+
+VALUE = "document.getElementById('source').value"
+NAME = "document.getElementById('program-name').textContent"
+
+
+def again(page, file):
+    """Loads the page again, as a person does."""
+    page.script("(document.documentElement.dataset.old = 'yes', setTimeout(() => location.reload()))")
+    while True:
+        try:
+            page.until("document.documentElement.dataset.old === undefined", "it is loaded again")
+            break
+        except Gone:
+            raise
+        except OSError:
+            # (a browser that leaves a page answers nothing of it)
+            continue
+    ready(page)
+
+
+def check_draft(page, file):
+    """A reload keeps what was typed, with its name, and the looks."""
+    pick(page, "hello.trac")
+    page.script("(document.getElementById('source').focus(), document.getElementById('source').setSelectionRange(0, 0))")
+    page.insert("mine ")
+    page.script("document.getElementById('theme').click()")
+    looks = page.script("document.documentElement.dataset.theme")
+    text = page.script(VALUE)
+    again(page, file)
+    check(text.startswith("mine ") and page.script(VALUE) == text, "what was typed: " + page.script(VALUE)[:40])
+    check(page.script(NAME) == "hello.trac", "its name: " + page.script(NAME))
+    check(page.script("document.documentElement.dataset.theme") == looks, "the looks: {}".format(looks))
+    page.script("document.getElementById('theme').click()")
+
+
+def check_undo(page):
+    """Another program is opened without a question, and Ctrl+Z brings back what was there; so does a button; and forth again."""
+    page.type("#(ps,mine)'")
+    for way in ("keys", "button"):
+        pick(page, "hello.trac")
+        check(not page.script("document.getElementById('question').open"), "nothing is asked")
+        hello = page.script(VALUE)
+        if way == "keys":
+            page.script("document.getElementById('source').focus()")
+            page.press("z", control=True)
+        else:
+            page.click("document.getElementById('undo')")
+        check(page.script(VALUE) == "#(ps,mine)'", "the {} bring back: {}".format(way, page.script(VALUE)[:40]))
+    page.script("document.getElementById('source').focus()")
+    page.press("y", control=True)
+    check(page.script(VALUE) == hello, "and forth again: " + page.script(VALUE)[:40])
+    page.press("z", control=True)
+    page.run()
+    check(page.text("output") == "mine", "what was brought back runs: " + page.text("output"))
+
+
+def check_question(page):
+    """A question has No first, so that Enter loses nothing."""
+    page.script("document.getElementById('question').showModal()")
+    check(page.script("document.activeElement.id") == "question-no", "No has the focus: " + page.script("document.activeElement.id"))
+    page.script("document.getElementById('question').close()")
+
+
+def check_keeping(kind, file):
+    """All that."""
+    with opened(kind, file) as page:
+        check_draft(page, file)
+        check_undo(page)
+        check_question(page)
+        page.well("keeping")
