@@ -38,11 +38,11 @@ pub struct DebugReport {
 /// at most 4,096 bytes at a time.
 ///
 /// The session ends with `Ended` at the end of the commands, and when it is asked to. It ends with `NotUnderstood` at a
-/// line that says no command, and with `Budget` if there is a line after the first 1,048,576. It ends with `Limit`, and
-/// nothing is written, if the tape has more than 33,554,432 bytes. It ends with `Read` if the reader fails, and with
-/// `Write` if the writer fails. It ends with `Memory` if there is no memory for the session, for a line that is still
-/// being read, or for the reply to `p` or `c`, of which nothing is written then. A walk for which memory was refused is
-/// replied to as any other: so no walk that was read whole is left without its reply.
+/// line that says no command, and with `Budget` if there is a line after the first 1,048,576. It ends with `Limit` if
+/// the tape has more than 33,554,432 bytes: no command is read then, and nothing is written. It ends with `Read` if the
+/// reader fails, and with `Write` if the writer fails. It ends with `Memory` if there is no memory for the session, for
+/// a line that is still being read, or for the reply to `p` or `c`, of which nothing is written then. A walk for which
+/// memory was refused is replied to as any other: so no walk that was read whole is left without its reply.
 pub fn debug<R: Read, W: Write, A: Allocator + Copy>(
     alloc: A,
     tape: &[u8],
@@ -56,6 +56,7 @@ pub fn debug<R: Read, W: Write, A: Allocator + Copy>(
         (W.contents output.old) (W.contents output.new) (MayShow tape.now options.journal options.decimals)
         (RepliesToFirst tape.now options.journal options.decimals) result }
     ensures too_long { TAPE_LIMIT < length tape.now → result ≡ Ending.Limit }
+    ensures unread { TAPE_LIMIT < length tape.now → R.remaining commands.new ≡ R.remaining commands.old }
 {
     let mut session = match session_over(alloc, tape, options.journal, options.decimals) {
         Ok(session) => session,

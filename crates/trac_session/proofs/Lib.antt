@@ -8,6 +8,7 @@ pub mod Performed
 pub mod Windowed
 pub mod Told
 pub mod Trailed
+pub mod Known
 pub mod Heavy
 pub mod Returned
 pub mod Looked

@@ -1,6 +1,7 @@
 -- What a session keeps.
 pub mod Replies
 pub mod Commands
+pub mod Knowing
 pub mod Journal
 pub mod Goals
 pub mod Returns

@@ -4,7 +4,7 @@ ghost use Rattle.trac_rules.specs.Session.{Step, Back, repeated};
 ghost use Rattle.trac_rules.specs.Weights.{weights_from};
 ghost use Rattle.trac_session.specs.Runs.{HasMovedBack, HasNoPlain, HasNotMovedLast};
 
-use crate::session::Session;
+use crate::session::{Session, forget_names};
 use std::alloc::Allocator;
 
 impl<A: Allocator + Copy> Session<A> {
@@ -36,6 +36,7 @@ impl<A: Allocator + Copy> Session<A> {
         let records = self.journal.len();
         let count = self.journal.pop_moved(most.min(records as u64) as usize);
         self.machine.move_back(count);
+        forget_names(&mut self.machine, &self.journal);
         count as u64
     }
 }

@@ -1,16 +1,16 @@
 //! A session: a processor that goes forwards and backwards over an input that is fed to it.
-ghost use Rattle.std.specs.Prelude.{◌≡◌, ◌==◌, ◌≤◌, ◌∷◌, drop, length, take, IfOk, IsOkUnless};
-ghost use Rattle.std.specs.FinSet as set;
+ghost use Rattle.std.specs.Prelude.{◌≡◌, ◌==◌, ◌≤◌, ◌∷◌, [], drop, length, take, IfOk, IsOkUnless};
 ghost use Rattle.std.specs.List.{All};
 ghost use Rattle.trac_rules.specs.declared.reply.Reply.TheVariants.{Done};
 ghost use Rattle.trac_rules.specs.Fronts.{IsFrontOf};
-ghost use Rattle.trac_rules.specs.Listing.{names_of};
 ghost use Rattle.trac_rules.specs.Reading.{unread};
 ghost use Rattle.trac_rules.specs.Session.{new_session, Feed, End, Step, Back, Commit, answer, Answers, first_kept};
 ghost use Rattle.trac_rules.specs.Session.{settled};
 ghost use Rattle.trac_rules.specs.Trails.{IsTrail};
 ghost use Rattle.trac_rules.specs.Weights.{losses_from, weights_from};
 ghost use Rattle.trac_step.specs.Room.{HasRoom};
+ghost use Rattle.trac_session.specs.Journal.{IsAtStart};
+ghost use Rattle.trac_session.specs.Knowing.{HasForgotten, KnowsItsOwn, names_in};
 ghost use Rattle.trac_session.specs.Replies.{reply_of};
 
 use std::alloc::{Allocator, Global};
@@ -62,11 +62,14 @@ impl<A: Allocator + Copy> Session<A> {
         ensures made { IfOk result (λ s. s ≡ new_session limit width) }
         ensures err { IsOkUnless result Refusal.Memory }
     {
+        let mut machine = Machine::new(alloc, width)?;
+        let journal = Journal::new(alloc);
+        forget_names(&mut machine, &journal);
         Ok(Session {
             tape: SlidingBuf::new(alloc),
             ended: false,
-            machine: Machine::new(alloc, width)?,
-            journal: Journal::new(alloc),
+            machine,
+            journal,
             made: Made::new(alloc),
             limit,
             width,
@@ -113,8 +116,14 @@ impl<A: Allocator + Copy> Session<A> {
             bytes: self.tape.as_slice(),
             ended: self.ended,
         };
-        self.machine
+        if let Err(refusal) = self
+            .machine
             .step_into(&mut self.journal, tape, &mut self.made)
+        {
+            forget_names(&mut self.machine, &self.journal);
+            return Err(refusal);
+        }
+        Ok(())
     }
 
     /// Goes back over the last step, which takes no memory.
@@ -127,6 +136,7 @@ impl<A: Allocator + Copy> Session<A> {
         if !self.machine.step_back(&mut self.journal) {
             return Err(Refusal::AtStart);
         }
+        forget_names(&mut self.machine, &self.journal);
         Ok(())
     }
 
@@ -165,10 +175,11 @@ impl<A: Allocator + Copy> Session<A> {
     pub fn commit(&mut self, keep: usize)
         ensures { answer (Commit keep) self.old ≡ record { reply = Done; session = self.new } }
     {
-        // The last state stays alone. Only going back needs the names of deleted forms: `settle` forgets them.
+        // The last state stays alone. Only going back needs the names of deleted forms.
         if keep == 0 {
-            settle(&mut self.machine, &mut self.tape);
+            release_all(&mut self.machine, &mut self.tape);
             self.journal.clear();
+            forget_names(&mut self.machine, &self.journal);
             return;
         }
         // The contract of `len` says that the output's length fits a word. The sums of what was printed are no greater.
@@ -215,13 +226,15 @@ impl<A: Allocator + Copy> Session<A> {
     }
 
     /// The machine, which shows the last state. It has room for that state and each before it, and knows the names of
-    /// all their forms: so going back takes no memory. Each of these states but the first is the step from the one
-    /// before it, over the tape as it is now, whatever the session was told before. It takes no memory.
+    /// all their forms: so going back takes no memory. Without a state before the last, as after `commit(0)`, it knows
+    /// no other names. Each of these states but the first is the step from the one before it, over the tape as it is
+    /// now, whatever the session was told before. It takes no memory.
     pub fn machine(&self) -> &Machine<A>
         ensures last { result.now.state ≡ self.now.last }
         ensures width { result.now.width ≡ self.now.width }
         ensures on_tape { self.now.last.position ≤ length self.now.tape.bytes }
         ensures room { All (λ s. HasRoom result.now s) (self.now.last ∷ self.now.earlier) }
+        ensures names { self.now.earlier ≡ [] → result.now.known ≡ names_in self.now.last }
         ensures trail { IsTrail self.now }
     {
         // For its clause that a machine has room for the state that it shows.
@@ -230,19 +243,32 @@ impl<A: Allocator + Copy> Session<A> {
     }
 }
 
-// Releases what is printed, takes what is read off the front of the tape, and forgets the names of deleted forms: the
-// machine knows just the names of its forms then. The machine may be of any representation: a proof for a certain one
-// shows anew, at each call, what its lists are.
-fn settle<E: TwoEnds<u8, A>, M: TwoEnds<Mark, A>, A: Allocator + Copy>(
+// Releases what is printed, and takes what is read off the front of the tape. Here and below the machine may be of any
+// representation: a proof for a certain one shows anew, at each call, what its lists are.
+fn release_all<E: TwoEnds<u8, A>, M: TwoEnds<Mark, A>, A: Allocator + Copy>(
     machine: &mut Core<E, M, A>,
     tape: &mut SlidingBuf<u8, A>,
 )
     requires { machine.old.state.position ≤ length tape.old.items }
-    ensures state { machine.new.state ≡ settled machine.old.state }
-    ensures width { machine.new.width ≡ machine.old.width }
-    ensures names { machine.new.known ≡ set.from_list (names_of machine.old.state.forms) }
+    ensures machine { machine.new ≡ record machine.old { state = settled machine.old.state } }
     ensures tape { tape.new.items ≡ drop machine.old.state.position tape.old.items }
 {
     tape.drop_front(machine.position());
-    machine.settle();
+    let printed = machine.output().len();
+    let read = machine.position();
+    machine.release(printed, read);
+}
+
+// Forgets the names of deleted forms if there is no step to go back over: only going back needs them.
+pub(crate) fn forget_names<E: TwoEnds<u8, A>, M: TwoEnds<Mark, A>, A: Allocator + Copy>(
+    machine: &mut Core<E, M, A>,
+    journal: &Journal<A>,
+)
+    requires { journal.now.records ≡ [] → IsAtStart machine.old.state }
+    ensures forgotten { HasForgotten journal.now.records machine.old machine.new }
+    ensures own { KnowsItsOwn journal.now.records machine.new }
+{
+    if journal.len() == 0 {
+        machine.settle();
+    }
 }

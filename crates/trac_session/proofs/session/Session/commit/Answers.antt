@@ -1,23 +1,35 @@
-use Rattle.std.proofs.Common.{ℕ, length, refl, ap, arith}
+use Rattle.std.proofs.Common.{ℕ, length, refl, sym, ap, ◌∙◌, arith}
 use Rattle.trac_rules.specs.declared.reply.Reply.TheVariants.{Done}
-use Rattle.trac_rules.specs.Session.{Commit}
+use Rattle.trac_rules.specs.Session.{Commit, done}
 use Rattle.trac_gap.specs.Window.{Window}
 use Rattle.trac_step.specs.Layout.{Shown}
+use Rattle.trac_session.proofs.Known.{answered_forgotten, at_start, own_kept, plain_forgotten}
 use Rattle.trac_session.proofs.Trailed.{answered}
 use Rattle.trac_session.proofs.Windowed.{Commit_alone, Commit_of_fields, IsSound-alone, IsSound-kept, newest_kept, released_there}
 use Rattle.trac_session.proofs.session.Session.commit.Goals as goal
 
 -- ---- the last state alone stays
 
+pub forget_names-requires : goal.forget_names-requires
+forget_names-requires g c =
+    at_start (IsSound-alone _ _ _ c.self.inside.journal.records c.clear.new.self.records c.self.inside.machine c.release_all.new.machine c.release_all.ensures.tape c.clear.ensures
+    (ap (λ (m : Shown). m.state) c.release_all.ensures.machine) c.self.invariant.sound)
+
 pub invariant_of-self : goal.invariant_of-self
 invariant_of-self g c =
-    answered (Commit 0) Done c.self.invariant c.settle.ensures.width
-    (IsSound-alone _ _ _ c.self.inside.journal.records c.clear.new.self.records _ _ c.settle.ensures.tape c.clear.ensures c.settle.ensures.state c.self.invariant.sound)
-    (Commit_alone _ _ _ _ c.self.inside.journal.records c.clear.new.self.records _ _ _ refl c.settle.ensures.tape c.clear.ensures c.settle.ensures.state c.settle.ensures.width)
+    let at = ap (λ (m : Shown). m.state) c.release_all.ensures.machine in
+    let still = ap (λ (m : Shown). m.width) c.release_all.ensures.machine in
+    answered_forgotten (Commit 0) Done c.self.invariant still
+    (IsSound-alone _ _ _ c.self.inside.journal.records c.clear.new.self.records c.self.inside.machine c.release_all.new.machine c.release_all.ensures.tape c.clear.ensures at c.self.invariant.sound)
+    (Commit_alone _ _ _ _ c.self.inside.journal.records c.clear.new.self.records _ _ _ refl c.release_all.ensures.tape c.clear.ensures at still)
+    c.forget_names.ensures.forgotten
 
 pub returns-then-keep-eq0 : goal.returns-then-keep-eq0
 returns-then-keep-eq0 g c =
-    rw c.if-keep-eq0.true (Commit_alone _ _ _ _ c.self.inside.journal.records c.clear.new.self.records _ _ _ c.self.view_is c.settle.ensures.tape c.clear.ensures c.settle.ensures.state c.settle.ensures.width)
+    rw c.if-keep-eq0.true
+    (Commit_alone _ _ _ _ c.self.inside.journal.records c.clear.new.self.records _ _ _ c.self.view_is c.release_all.ensures.tape c.clear.ensures
+    (ap (λ (m : Shown). m.state) c.release_all.ensures.machine) (ap (λ (m : Shown). m.width) c.release_all.ensures.machine)
+    ∙ ap done (sym (plain_forgotten c.clear.new.self.records c.release_all.new.machine c.forget_names.new.machine c.forget_names.ensures.forgotten)))
 
 -- ---- others stay before it
 
@@ -47,6 +59,7 @@ invariant_of-self-2 g c =
     let cut = ap (λ (w : Window ℕ). w.items) c.drop_front.ensures in
     answered (Commit c.args.keep) Done c.self.invariant (ap (λ (m : Shown). m.width) c.release.ensures)
     (IsSound-kept c.self.invariant.sound kept cut c.release.ensures) (Commit_of_fields kept cut c.release.ensures refl)
+    (own_kept c.args.keep _ _ c.self.inside.journal.records _ c.self.inside.machine _ c.if-keep-eq0.false kept.rest c.release.ensures c.self.invariant.names)
 
 pub returns : goal.returns
 returns g c =

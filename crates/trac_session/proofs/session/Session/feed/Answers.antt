@@ -36,3 +36,4 @@ invariant_of-self-2 g c =
     answered (Feed c.args.bytes.now) Done c.self.invariant refl
     (IsSound-feed _ _ _ c.args.bytes.now c.self.inside.journal.records _ c.in-Ok.ensures.ok (omega (arith, c.self.invariant.sound.tape_limit)) c.self.invariant.sound)
     (Feed_room_of_fields _ _ _ _ c.self.inside.journal.records _ _ _ refl c.if-self.false (omega (arith, c.self.invariant.sound.tape_limit)) c.in-Ok.ensures.ok)
+    c.self.invariant.names

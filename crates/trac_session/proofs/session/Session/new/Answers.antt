@@ -1,4 +1,4 @@
-use Rattle.std.proofs.Common.{◌≡◌, ℕ, ◌≤◌, false, List, [], length, sym, ap, subst, arith}
+use Rattle.std.proofs.Common.{◌≡◌, ℕ, ◌≤◌, false, List, [], length, sym, ap, subst, ◌∙◌, arith}
 use Rattle.trac_rules.specs.declared.width.Width.{Width}
 use Rattle.trac_rules.specs.declared.limit.TheConstants.{JOURNAL_LIMIT}
 use Rattle.trac_rules.specs.Records.{Record}
@@ -9,6 +9,8 @@ use Rattle.trac_rules.proofs.TakenAgain.{new_trail}
 use Rattle.trac_gap.specs.Window.{Window}
 use Rattle.trac_step.specs.Layout.{Shown}
 use Rattle.trac_session.specs.Journal.{AreRecords, IsSession, IsSound, IsWithinReach, plain_of}
+use Rattle.trac_session.specs.Knowing.{HasForgotten}
+use Rattle.trac_session.proofs.Known.{IsSound-forgotten, own_names, plain_forgotten, shows_as_before}
 use Rattle.trac_session.proofs.session.Session.new.Goals as goal
 
 -- fields without a record and without input
@@ -28,19 +30,27 @@ plain_at_first : (limit : ℕ) (width made : Width) (bytes : List ℕ) (journal 
     plain_of limit made bytes false journal last ≡ new_session limit width
 plain_at_first limit width made bytes journal last same none first at i = plain_of limit (same i) (none i) false (first i) (at i)
 
-session_at_first : (limit : ℕ) (width : Width) (bytes : List ℕ) (journal : List Record) (m : Shown) → 1 ≤ limit → limit ≤ JOURNAL_LIMIT → bytes ≡ [] → journal ≡ [] → m.state ≡ initial → m.width ≡ width →
-    IsSession limit width bytes false journal m
-session_at_first limit width bytes journal m some most none first at same = record {
-  sound = sound_at_first limit bytes journal m some most none first at;
-  wide = same;
-  trail = subst IsTrail (sym (plain_at_first limit width m.width bytes journal m.state same none first at)) (new_trail limit width);
+session_at_first : (limit : ℕ) (width : Width) (bytes : List ℕ) (journal : List Record) (m n : Shown) → 1 ≤ limit → limit ≤ JOURNAL_LIMIT → bytes ≡ [] → journal ≡ [] → m.state ≡ initial → m.width ≡ width →
+    HasForgotten journal m n → IsSession limit width bytes false journal n
+session_at_first limit width bytes journal m n some most none first at same forgotten = record {
+  sound = IsSound-forgotten journal m n forgotten (sound_at_first limit bytes journal m some most none first at);
+  wide = shows_as_before (λ s w. w) journal m n forgotten ∙ same;
+  trail = subst IsTrail (sym (plain_forgotten journal m n forgotten ∙ plain_at_first limit width m.width bytes journal m.state same none first at)) (new_trail limit width);
+  names = own_names journal m n forgotten;
+}
+
+pub forget_names-requires : goal.forget_names-requires
+forget_names-requires g c = λ none. record {
+  nothing_pending = ap (λ (s : State). s.output) c.in_ok-machine.ensures.made;
+  nothing_read = ap (λ (s : State). s.position) c.in_ok-machine.ensures.made;
 }
 
 pub invariant_of-result : goal.invariant_of-result
 invariant_of-result g c =
-    session_at_first c.args.limit c.args.width c.new.result.items c.new-3.result.records c.in_ok-new.field-0 c.requires.some c.requires.most (ap (λ (w : Window ℕ). w.items) c.new.ensures) c.new-3.ensures
-    c.in_ok-new.ensures.made c.in_ok-new.ensures.width
+    session_at_first c.args.limit c.args.width c.new-2.result.items c.new-journal.result.records c.in_ok-machine.machine c.forget_names.new.machine c.requires.some c.requires.most (ap (λ (w : Window ℕ). w.items) c.new-2.ensures) c.new-journal.ensures
+    c.in_ok-machine.ensures.made c.in_ok-machine.ensures.width c.forget_names.ensures.forgotten
 
 pub returns-clause-made : goal.returns-clause-made
 returns-clause-made g c =
-    plain_at_first c.args.limit c.args.width c.in_ok-new.field-0.width c.new.result.items c.new-3.result.records c.in_ok-new.field-0.state c.in_ok-new.ensures.width (ap (λ (w : Window ℕ). w.items) c.new.ensures) c.new-3.ensures c.in_ok-new.ensures.made
+    plain_forgotten c.new-journal.result.records c.in_ok-machine.machine c.forget_names.new.machine c.forget_names.ensures.forgotten
+    ∙ plain_at_first c.args.limit c.args.width c.in_ok-machine.machine.width c.new-2.result.items c.new-journal.result.records c.in_ok-machine.machine.state c.in_ok-machine.ensures.width (ap (λ (w : Window ℕ). w.items) c.new-2.ensures) c.new-journal.ensures c.in_ok-machine.ensures.made

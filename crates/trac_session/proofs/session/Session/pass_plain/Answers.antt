@@ -2,6 +2,7 @@ use Rattle.std.proofs.Common.{◌≡◌, length, refl, ap, sym, ◌∙◌, arith
 use Rattle.trac_journal.specs.Journaled.{Journaled}
 use Rattle.trac_rules.specs.Session.{Step}
 use Rattle.trac_step.specs.Layout.{Shown}
+use Rattle.trac_session.proofs.Known.{own_passed}
 use Rattle.trac_session.proofs.Passed.{HasPassed, IsSound-passed, Step_moved, Step_passed, moved_weigh_nothing, no_plain_ahead}
 use Rattle.trac_session.proofs.Summed.{journal_weighs}
 use Rattle.trac_session.proofs.Trailed.{walked}
@@ -28,6 +29,7 @@ invariant_of-self g c =
     let run = passed g (goal.at.invariant_of-self g c).After-push_moved in
     let sound = c.self.invariant.sound in
     walked Step c.move_plain-count.result c.self.invariant (ap (λ (u : Shown). u.width) c.move_plain-count.ensures.moved) (IsSound-passed run sound) (Step_passed run sound refl)
+    (own_passed c.move_plain-count.result c.self.inside.journal.records c.push_moved.new.self.records c.self.inside.machine c.move_plain-count.new.self run.kept run.moved c.self.invariant.names)
 
 pub returns-clause-passed : goal.returns-clause-passed
 returns-clause-passed g c = Step_passed (passed g (goal.at.returns-clause-passed g c).After-push_moved) c.self.invariant.sound c.self.view_is

@@ -1,9 +1,10 @@
-use Rattle.std.proofs.Common.{length, refl, ap}
+use Rattle.std.proofs.Common.{length, refl, sym, ap, ◌∙◌}
 use Rattle.trac_rules.specs.declared.refusal.Refusal.TheVariants.{AtStart}
 use Rattle.trac_rules.specs.declared.reply.Reply.TheVariants.{Done, Refused}
-use Rattle.trac_rules.specs.Session.{Back}
+use Rattle.trac_rules.specs.Session.{Back, done}
 use Rattle.trac_step.specs.Layout.{Shown}
 use Rattle.trac_session.proofs.Journaled.{Back_start_of_fields, Back_of_fields, IsSound-back, IsSound-same, can_go_back}
+use Rattle.trac_session.proofs.Known.{answered_forgotten, at_start, own_same, plain_forgotten}
 use Rattle.trac_session.proofs.Trailed.{answered}
 use Rattle.trac_session.proofs.session.Session.step_back.Goals as goal
 
@@ -24,16 +25,27 @@ invariant_of-self g c =
     answered Back (Refused AtStart) c.self.invariant (ap (λ (m : Shown). m.width) none.1.1)
     (IsSound-same _ _ inside.journal.records c.step_back.new.journal.records inside.machine c.step_back.new.self none.0 none.1.0 none.1.1 c.self.invariant.sound)
     (Back_start_of_fields _ _ _ inside.journal.records c.step_back.new.journal.records inside.machine c.step_back.new.self _ refl none.0 none.1.0 none.1.1)
+    (own_same inside.journal.records c.step_back.new.journal.records inside.machine c.step_back.new.self (none.1.0 ∙ sym none.0) none.1.1 c.self.invariant.names)
+
+-- ---- back
+
+pub forget_names-requires : goal.forget_names-requires
+forget_names-requires g c =
+    let back = c.step_back.ensures.back c.if-not-step_back.false in
+    at_start
+    (IsSound-back _ _ c.self.inside.journal.records c.step_back.new.journal.records back.newest _ _ back.taken back.leads_back c.step_back.ensures.room c.self.invariant.sound)
 
 pub invariant_of-self-2 : goal.invariant_of-self-2
 invariant_of-self-2 g c =
     let back = c.step_back.ensures.back c.if-not-step_back.false in
     let inside = c.self.inside in
-    answered Back Done c.self.invariant c.step_back.ensures.room.width
+    answered_forgotten Back Done c.self.invariant c.step_back.ensures.room.width
     (IsSound-back _ _ inside.journal.records c.step_back.new.journal.records back.newest _ _ back.taken back.leads_back c.step_back.ensures.room c.self.invariant.sound)
     (Back_of_fields _ _ _ inside.journal.records c.step_back.new.journal.records back.newest _ _ _ refl back.taken back.leads_back c.step_back.ensures.room.width)
+    c.forget_names.ensures.forgotten
 
 pub returns : goal.returns
 returns g c =
     let back = c.step_back.ensures.back c.if-not-step_back.false in
     Back_of_fields _ _ _ c.self.inside.journal.records c.step_back.new.journal.records back.newest _ _ _ c.self.view_is back.taken back.leads_back c.step_back.ensures.room.width
+    ∙ ap done (sym (plain_forgotten c.step_back.new.journal.records c.step_back.new.self c.forget_names.new.machine c.forget_names.ensures.forgotten))

@@ -1,0 +1,126 @@
+-- The names that the machine of a session knows, as the fields show it.
+use Rattle.std.proofs.Common.{◌≡◌, ◌≢◌, ℕ, zero, suc, ◌<◌, ◌≤◌, Bool, List, [], ◌∷◌, ◌++◌, length, take, refl, sym, ap, subst, ◌∙◌, arith}
+use Rattle.std.specs.Prelude.{Some, replicate}
+use Rattle.trac_rules.specs.declared.reply.Reply.{Reply}
+use Rattle.trac_rules.specs.declared.width.Width.{Width}
+use Rattle.trac_rules.specs.PlainRuns.{moved_on}
+use Rattle.trac_rules.specs.Records.{Record, Moved}
+use Rattle.trac_rules.specs.Session.{PlainSession, Command, Answers, released, repeated, settled}
+use Rattle.trac_rules.specs.State.{State}
+use Rattle.trac_rules.proofs.GoingOn.{settled_is}
+use Rattle.trac_rules.proofs.MovedOn.{moved_on-zero}
+use Rattle.trac_step.specs.Layout.{Shown}
+use Rattle.trac_session.specs.Journal.{AreRecords, IsAtStart, IsSession, IsSound, IsWithinReach, earlier_of, plain_of}
+use Rattle.trac_session.specs.Knowing.{HasForgotten, KnowsItsOwn, names_in}
+use Rattle.trac_session.proofs.Journaled.{length-earlier}
+use Rattle.trac_session.proofs.Trailed.{answered, walked}
+
+-- ---- names are forgotten
+
+-- a state at its start is settled
+settled_at_start : (s : State) → IsAtStart s → settled s ≡ s
+settled_at_start s start = settled_is s ∙ (λ i. record s { output = sym start.nothing_pending i; position = sym start.nothing_read i })
+
+-- without a step to go back over a machine is settled
+pub forgotten_if_none : (records : List Record) (m n : Shown) → records ≡ [] → IsAtStart m.state →
+    n ≡ record m { state = settled m.state; known = names_in m.state } → HasForgotten records m n
+forgotten_if_none records m n none start at =
+    subst (λ (rs : List Record). HasForgotten rs m n) (sym none)
+    (at ∙ (λ i. record m { state = settled_at_start m.state start i; known = names_in m.state }))
+
+-- else it stays
+pub forgotten_if_some : (records : List Record) (m : Shown) → 0 < length records → HasForgotten records m m
+forgotten_if_some [] m some = absurd (omega (arith, some))
+forgotten_if_some (r ∷ records) m some = refl
+
+-- so it knows no names but its own
+pub own_names : (records : List Record) (m n : Shown) → HasForgotten records m n → KnowsItsOwn records n
+own_names [] m n h = ap (λ (u : Shown). u.known) h ∙ sym (ap (λ (u : Shown). names_in u.state) h)
+own_names (r ∷ records) m n h = tt
+
+-- it shows what it showed
+pub shows_as_before : {T : Type 0} → (show : State → Width → T) (records : List Record) (m n : Shown) → HasForgotten records m n → show n.state n.width ≡ show m.state m.width
+shows_as_before show [] m n h = ap (λ (u : Shown). show u.state u.width) h
+shows_as_before show (r ∷ records) m n h = ap (λ (u : Shown). show u.state u.width) h
+
+pub plain_forgotten : {limit : ℕ} {bytes : List ℕ} {ended : Bool} (records : List Record) (m n : Shown) → HasForgotten records m n →
+    plain_of limit n.width bytes ended records n.state ≡ plain_of limit m.width bytes ended records m.state
+plain_forgotten {limit} {bytes} {ended} records m n h = shows_as_before (λ s width. plain_of limit width bytes ended records s) records m n h
+
+-- a first state has no output, and has read nothing
+pub at_start : {limit : ℕ} {bytes : List ℕ} {records : List Record} {m : Shown} → IsSound limit bytes records m → records ≡ [] → IsAtStart m.state
+at_start {bytes = bytes} {m = m} sound none = subst (λ (rs : List Record). AreRecords (IsWithinReach m (length bytes)) rs m.state) none sound.records
+
+-- the fields stay sound
+pub IsSound-forgotten : {limit : ℕ} {bytes : List ℕ} (records : List Record) (m n : Shown) → HasForgotten records m n → IsSound limit bytes records m → IsSound limit bytes records n
+IsSound-forgotten [] m n h sound =
+    let same : n.state ≡ m.state = ap (λ (u : Shown). u.state) h in
+    record {
+      some_records = sound.some_records;
+      not_too_many = sound.not_too_many;
+      within_limit = sound.within_limit;
+      tape_limit = sound.tape_limit;
+      on_tape = omega (arith, sound.on_tape, ap (λ (s : State). s.position) same);
+      records = subst (λ (s : State). IsAtStart s) (sym same) sound.records;
+    }
+IsSound-forgotten {limit} {bytes} (r ∷ records) m n h sound = subst (λ (u : Shown). IsSound limit bytes (r ∷ records) u) (sym h) sound
+
+-- ---- sessions
+
+-- after a command, of a machine that forgets names then
+pub answered_forgotten : (command : Command) (reply : Reply) {limit : ℕ} {width : Width} {bytes after : List ℕ} {ended over : Bool} {old new : List Record} {m k n : Shown} →
+    IsSession limit width bytes ended old m → k.width ≡ m.width → IsSound limit after new k →
+    Answers command (plain_of limit m.width bytes ended old m.state) reply (plain_of limit k.width after over new k.state) → HasForgotten new k n → IsSession limit width after over new n
+answered_forgotten command reply {limit} {bytes = bytes} {ended = ended} {old = old} {new = new} {m = m} {k = k} {n = n} session still sound h forgotten =
+    answered command reply session (shows_as_before (λ s width. width) new k n forgotten ∙ still) (IsSound-forgotten new k n forgotten sound)
+    (subst (λ (p : PlainSession). Answers command (plain_of limit m.width bytes ended old m.state) reply p) (sym (plain_forgotten new k n forgotten)) h)
+    (own_names new k n forgotten)
+
+-- and after one that was accepted so many times
+pub walked_forgotten : (command : Command) (steps : ℕ) {limit : ℕ} {width : Width} {bytes : List ℕ} {ended : Bool} {old new : List Record} {m k n : Shown} →
+    IsSession limit width bytes ended old m → k.width ≡ m.width → IsSound limit bytes new k →
+    repeated command steps (plain_of limit m.width bytes ended old m.state) ≡ Some (plain_of limit k.width bytes ended new k.state) → HasForgotten new k n →
+    IsSession limit width bytes ended new n
+walked_forgotten command steps {new = new} {k = k} {n = n} session still sound h forgotten =
+    walked command steps session (shows_as_before (λ s width. width) new k n forgotten ∙ still) (IsSound-forgotten new k n forgotten sound)
+    (h ∙ ap (λ (p : PlainSession). Some p) (sym (plain_forgotten new k n forgotten))) (own_names new k n forgotten)
+
+-- with a step more there is one to go back over
+pub own_after_step : (old new : List Record) (r : Record) (n : Shown) → new ≡ r ∷ old → KnowsItsOwn new n
+own_after_step old new r n e = subst (λ (rs : List Record). KnowsItsOwn rs n) (sym e) tt
+
+-- a machine that shows the same forms, and knows the same names, knows its own if it did so
+own_still : (m n : Shown) → n.known ≡ m.known → names_in n.state ≡ names_in m.state → (records : List Record) → KnowsItsOwn records m → KnowsItsOwn records n
+own_still m n known names [] own = known ∙ own ∙ sym names
+own_still m n known names (r ∷ records) own = tt
+
+-- nothing is changed
+pub own_same : (old new : List Record) (m n : Shown) → new ≡ old → n ≡ m → KnowsItsOwn old m → KnowsItsOwn new n
+own_same old new m n same still own =
+    subst (λ (u : Shown). KnowsItsOwn new u) (sym still) (subst (λ (rs : List Record). KnowsItsOwn rs m) (sym same) own)
+
+-- over bytes that were moved
+pub own_passed : (n : ℕ) (old new : List Record) (m k : Shown) → new ≡ replicate n Moved ++ old → k ≡ record m { state = moved_on n m.state } → KnowsItsOwn old m → KnowsItsOwn new k
+own_passed zero old new m k kept moved own =
+    subst (λ (rs : List Record). KnowsItsOwn rs k) (sym kept)
+    (own_still m k (ap (λ (u : Shown). u.known) moved) (ap (λ (u : Shown). names_in u.state) moved ∙ ap names_in (moved_on-zero m.state)) old own)
+own_passed (suc n) old new m k kept moved own = own_after_step (replicate n Moved ++ old) new Moved k kept
+
+-- after a commit that keeps some steps
+pub own_kept : (keep o p : ℕ) (old new : List Record) (m n : Shown) → keep ≢ 0 → new ≡ take keep old → n ≡ record m { state = released o p m.state } → KnowsItsOwn old m → KnowsItsOwn new n
+own_kept zero o p old new m n some kept at own = absurd (some refl)
+own_kept (suc keep) o p [] new m n some kept at own =
+    subst (λ (rs : List Record). KnowsItsOwn rs n) (sym kept)
+    (own_still m n (ap (λ (u : Shown). u.known) at) (ap (λ (u : Shown). names_in u.state) at) [] own)
+own_kept (suc keep) o p (r ∷ old) new m n some kept at own = own_after_step (take keep old) new r n kept
+
+-- the machine that a session shows
+pub names_shown : {limit : ℕ} {width : Width} {bytes : List ℕ} {ended : Bool} (records : List Record) (machine : Shown) (p : PlainSession) → IsSession limit width bytes ended records machine →
+    plain_of limit machine.width bytes ended records machine.state ≡ p → p.earlier ≡ [] → machine.known ≡ names_in p.last
+names_shown [] machine p session view none = session.names ∙ ap (λ (q : PlainSession). names_in q.last) view
+names_shown {limit} {bytes = bytes} {ended = ended} (r ∷ records) machine p session view none =
+    absurd (omega (
+      arith,
+      length-earlier (IsWithinReach machine (length bytes)) limit bytes ended (r ∷ records) machine.state p view session.sound.records,
+      ap (λ (states : List State). length states) none,
+    ))
