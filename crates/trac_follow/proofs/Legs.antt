@@ -15,7 +15,7 @@ use Rattle.trac_follow.specs.declared.tracing.Onward as onwards
 use Rattle.trac_follow.specs.Following.{IsFollowed, IsOrigin, IsSource, quiet_steps}
 use Rattle.trac_follow.specs.Kept.{IsLong}
 use Rattle.trac_follow.specs.Passing.{IsUnpassed, Passing, UnpassedBy, passed_by, passings}
-use Rattle.trac_follow.specs.Places.{IsPassed, is_in_storage, is_passed, place_of}
+use Rattle.trac_follow_step.specs.Places.{IsPassed, is_in_storage, is_passed, place_of}
 use Rattle.trac_follow.specs.Tracing.{EndsAs, LeadsTo, LeadsToLong, ToldAll, WasPassed, source_of, told_steps}
 use Rattle.trac_follow.proofs.StepsBack.{followed_on, last_of_all, went_so}
 

@@ -1,17 +1,4 @@
-pub mod Found
-pub mod PutTold
-pub mod Renewed
-pub mod Offsets
-pub mod Scanned
-pub mod CallsTold
-pub mod ValuesTold
 pub mod StepsBack
-pub mod Spans
-pub mod Giving
-pub mod FormsTold
-pub mod UntilTold
-pub mod Staying
 pub mod RunsBack
 pub mod Legs
 pub mod Traces
-pub mod FetchedTold

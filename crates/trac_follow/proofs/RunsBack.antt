@@ -17,11 +17,11 @@ use Rattle.trac_origins.proofs.Accounted.{accounted}
 use Rattle.trac_origins.proofs.Moved.{one_before, plain, run_told}
 use Rattle.trac_session.specs.Runs.{HasMovedBack}
 use Rattle.trac_session.proofs.Walked.{repeated-from}
-use Rattle.trac_follow.specs.Offsets.{IsPlaced}
-use Rattle.trac_follow.proofs.Staying.{placed_before, stays_moving}
+use Rattle.trac_follow_step.specs.Offsets.{IsPlaced}
+use Rattle.trac_follow_step.proofs.Staying.{placed_before, stays_moving}
 use Rattle.trac_follow.specs.Passing.{IsUnpassed, UnpassedBy}
 use Rattle.trac_follow.specs.Following.{IsKnown}
-use Rattle.trac_follow.specs.Places.{IsPassed}
+use Rattle.trac_follow_step.specs.Places.{IsPassed}
 use Rattle.trac_follow.proofs.StepsBack.{GoesBack, followed_on, longer, unpassed_on, went_so}
 
 -- of steps one after another, the last and the first

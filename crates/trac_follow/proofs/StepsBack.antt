@@ -23,15 +23,15 @@ use Rattle.trac_session.proofs.Walked.{repeated-from}
 use Rattle.trac_follow.specs.declared.history.Followed.{Followed as Found}
 use Rattle.trac_follow.specs.declared.history.Source as code
 use Rattle.trac_follow.specs.declared.history.Turn as turning
-use Rattle.trac_follow.specs.declared.place.After.{After}
-use Rattle.trac_follow.specs.declared.place.Origin as code_origin
-use Rattle.trac_follow.specs.declared.place.Place as code_place
+use Rattle.trac_follow_step.specs.declared.place.After.{After}
+use Rattle.trac_follow_step.specs.declared.place.Origin as code_origin
+use Rattle.trac_follow_step.specs.declared.place.Place as code_place
 use Rattle.trac_follow.specs.Following.{IsFollowed, IsKnown, IsOrigin, IsSource, quiet_steps}
-use Rattle.trac_follow.specs.Items.{IsMeasured}
-use Rattle.trac_follow.specs.Offsets.{IsPlaced}
+use Rattle.trac_follow_step.specs.Items.{IsMeasured}
+use Rattle.trac_follow_step.specs.Offsets.{IsPlaced}
 use Rattle.trac_follow.specs.Passing.{IsUnpassed, UnpassedBy}
-use Rattle.trac_follow.specs.Running.{IsTurn}
-use Rattle.trac_follow.specs.Places.{AreLengths, IsListing, IsPassed, Stands, Tells, TellsOf, is_in_form, is_in_storage, place_of}
+use Rattle.trac_follow.specs.Turns.{IsTurn}
+use Rattle.trac_follow_step.specs.Places.{AreLengths, IsListing, IsPassed, Stands, Tells, TellsOf, is_in_form, is_in_storage, place_of}
 
 -- ---- over some states, and then over more
 

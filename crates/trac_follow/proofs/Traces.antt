@@ -17,7 +17,7 @@ use Rattle.trac_follow.specs.declared.tracing.Onward as onwards
 use Rattle.trac_follow.specs.declared.tracing.Traced.{Traced}
 use Rattle.trac_follow.specs.Following.{IsFollowed, IsKnown, IsOrigin, IsSource}
 use Rattle.trac_follow.specs.Passing.{Passing, passings}
-use Rattle.trac_follow.specs.Places.{place_of}
+use Rattle.trac_follow_step.specs.Places.{place_of}
 use Rattle.trac_follow.specs.Tracing.{AllCarried, EndsAs, IsEnd, IsTold, IsTraced, LeadsTo, LeadsToLong, ToldAll, source_of, told_steps, way_of}
 use Rattle.trac_follow.proofs.Legs.{HadFrom, call_of_leg, had_from, had_somewhere, no_call_of_leg, told_further, told_more}
 use Rattle.trac_follow.proofs.RunsBack.{last_steps}

@@ -10,7 +10,7 @@ use Rattle.trac_origins.specs.Places.{Place, InForm, Origin, Carried, Read, Made
 use Rattle.trac_follow.specs.declared.history.Followed.{Followed as Found}
 use Rattle.trac_follow.specs.declared.history.Source as code
 use Rattle.trac_follow.specs.Passing.{IsUnpassed}
-use Rattle.trac_follow.specs.Places.{IsBare, IsListing, IsPassed, Stands, is_in_form, is_in_storage, place_of}
+use Rattle.trac_follow_step.specs.Places.{IsBare, IsListing, IsPassed, Stands, is_in_form, is_in_storage, place_of}
 
 -- a session of numbers of this width, whose states are steps of one another, and something stands at a place
 abbrev pub IsKnown : Width → PlainSession → Place → Type 0

@@ -3,7 +3,7 @@ use Rattle.std.specs.Prelude.{ℕ, ◌+◌, List, [], ◌∷◌, if◌then◌els
 use Rattle.trac_rules.specs.State.{Environment, State}
 use Rattle.trac_origins.specs.Places.{Place, Origin, Carried}
 use Rattle.trac_origins.specs.Stepping.{origin}
-use Rattle.trac_follow.specs.Places.{IsPassed, is_passed}
+use Rattle.trac_follow_step.specs.Places.{IsPassed, is_passed}
 
 -- the step from a state, by which what stands at a place has this origin, does not pass it on; if it
 -- carried it, more holds of where from

@@ -12,7 +12,7 @@ use Rattle.trac_follow.specs.declared.tracing.Traced.{Traced}
 use Rattle.trac_follow.specs.Following.{IsOrigin, IsSource}
 use Rattle.trac_follow.specs.Kept.{IsLong}
 use Rattle.trac_follow.specs.Passing.{Passing, passings}
-use Rattle.trac_follow.specs.Places.{IsBare, IsPassed, is_in_storage, place_of}
+use Rattle.trac_follow_step.specs.Places.{IsBare, IsPassed, is_in_storage, place_of}
 
 -- all of the last so many steps carried a byte
 abbrev pub AllCarried : PlainSession → Place → ℕ → Type 0

@@ -1,20 +1,18 @@
 //! Following a byte back over many steps.
 ghost use Rattle.std.specs.Prelude.{◌≡◌, ◌+◌, ◌^◌, ◌<◌, ◌≤◌, length, Some};
 ghost use Rattle.trac_follow.specs.Following.{IsFollowed, IsKnown};
-ghost use Rattle.trac_follow.specs.Items.{IsMeasured};
-ghost use Rattle.trac_follow.specs.Offsets.{IsPlaced};
-ghost use Rattle.trac_follow.specs.Places.{IsTakenOut, Stands, is_in_form, is_passed, place_of};
-ghost use Rattle.trac_follow.specs.Running.{IsTurn};
+ghost use Rattle.trac_follow_step.specs.Items.{IsMeasured};
+ghost use Rattle.trac_follow_step.specs.Offsets.{IsPlaced};
+ghost use Rattle.trac_follow_step.specs.Places.{IsTakenOut, Stands, is_in_form, is_passed, place_of};
+ghost use Rattle.trac_follow.specs.Turns.{IsTurn};
 ghost use Rattle.trac_origins.specs.Places.{InForm};
 ghost use Rattle.trac_rules.specs.Session.{Back, repeated};
 
-use crate::items::extent_before;
-use crate::offset::{argument_offset, is_innermost};
-use crate::origin::origin_of;
-use crate::place::{After, Origin, Place};
-use crate::running::{before_in_active, before_run, stays};
-use crate::standing::stands;
 use std::alloc::Allocator;
+use trac_follow_step::{
+    After, Origin, Place, argument_offset, before_in_active, before_run, extent_before,
+    is_innermost, origin_of, stands, stays,
+};
 use trac_gap::TwoEnds;
 use trac_rules::item::Item;
 use trac_rules::width::Width;

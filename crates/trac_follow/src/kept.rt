@@ -2,13 +2,13 @@
 ghost use Rattle.std.specs.Prelude.{◌≡◌, ◌<◌, [], length, true, IfNone, IfSome, MatchOption};
 ghost use Rattle.trac_follow.specs.declared.kept.TheConstants.{SHORT_NAME};
 ghost use Rattle.trac_follow.specs.Kept.{IsFormless, IsLong, name_in, named};
-ghost use Rattle.trac_follow.specs.Places.{is_in_storage, place_of};
+ghost use Rattle.trac_follow_step.specs.Places.{is_in_storage, place_of};
 
-use crate::place::Place;
 use arrayvec::ArrayVec;
 use std::alloc::Allocator;
 use std::marker::Model;
 use std::sync::ArcSlice;
+use trac_follow_step::Place;
 use trac_forms::Store;
 
 /// A name of up to so many bytes is copied when it is kept, and a longer one is shared. It is no less than 256, since

@@ -5,7 +5,7 @@ ghost use Rattle.std.specs.Prelude.{◌≡◌, ◌≤◌, [], ⊤, IfErr, IfNone
 ghost use Rattle.trac_follow.specs.Following.{IsFollowed, IsKnown};
 ghost use Rattle.trac_follow.specs.Kept.{IsFormless, named};
 ghost use Rattle.trac_follow.specs.Passing.{Passing};
-ghost use Rattle.trac_follow.specs.Places.{place_of};
+ghost use Rattle.trac_follow_step.specs.Places.{place_of};
 ghost use Rattle.trac_follow.specs.Tracing.{EndsAs, IsOfStorage, IsTold, IsTraced, LeadsTo, LeadsToLong, source_of};
 ghost use Rattle.trac_follow.specs.Tracing.{told_steps, way_of};
 ghost use Rattle.trac_rules.specs.Session.{Back, repeated};
@@ -13,9 +13,8 @@ ghost use Rattle.trac_rules.specs.State.{State};
 
 use crate::history::{Followed, Source, follow_from};
 use crate::kept::{KeptPlace, Nameless, formless};
-use crate::place::Place;
-use crate::standing::stands;
 use std::alloc::{AllocError, Allocator};
+use trac_follow_step::{Place, stands};
 use trac_rules::width::Width;
 use trac_session::{Machine, Session};
 

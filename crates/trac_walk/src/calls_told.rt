@@ -1,6 +1,6 @@
 //! The calls that passed a byte on, of which a reply is made.
 ghost use Rattle.std.specs.Prelude.{◌≡◌, length};
-ghost use Rattle.trac_follow.specs.Places.{place_of};
+ghost use Rattle.trac_follow_step.specs.Places.{place_of};
 ghost use Rattle.trac_follow.specs.Tracing.{told_steps, way_of};
 ghost use Rattle.trac_walk.specs.Ways.{AreTold, Tells, deed_at, number_of_step};
 

@@ -1,7 +1,7 @@
 //! A walker: a session whose way back never stops a walk, and where it stands.
 ghost use Rattle.std.specs.Prelude.{◌≡◌, ◌≤◌, length, not, true, IfErr, None, OnOk};
 ghost use Rattle.trac_follow.specs.Following.{IsFollowed};
-ghost use Rattle.trac_follow.specs.Places.{place_of};
+ghost use Rattle.trac_follow_step.specs.Places.{place_of};
 ghost use Rattle.trac_follow.specs.Tracing.{IsTold, IsTraced, told_steps, way_of};
 ghost use Rattle.trac_streams.specs.Tape.{MayRefuseTape};
 ghost use Rattle.trac_walk.specs.Aims.{MeetsAim, goal_of_aim};

@@ -1,6 +1,3 @@
--- What a host is told: the number of an outcome, what is left in its buffer, and what of each request is stated.
-pub mod Outcomes
-pub mod Replies
+-- What of a dialogue and of a search for doubts is stated. The other requests, and what a host is told, are in
+-- `trac_web_requests`.
 pub mod Requests
-pub mod Rows
-pub mod Ways

@@ -1,15 +1,14 @@
 //! The doubts of a text.
 ghost use Rattle.std.specs.Prelude.{◌≡◌, ◌≤◌};
 ghost use Rattle.trac_findings.specs.declared.report.TheConstants.{PLACE_LIMIT};
-ghost use Rattle.trac_web.specs.Replies.{Gives};
 ghost use Rattle.trac_web.specs.Requests.{WritesDoubts, search_ending};
+ghost use Rattle.trac_web_requests.specs.Replies.{Gives};
 
-use crate::outcome::Outcome;
-use crate::reply::{Reply, deliver};
 use std::alloc::Allocator;
 use trac_lint::{Halt, Settings, Sources, lint};
 use trac_rules::width::Width;
 use trac_streams::Ending;
+use trac_web_requests::{Outcome, Reply, deliver};
 
 // How many bytes the records may take of the steps that can be gone back over, as of `trac-lint` if nothing else is
 // said.

@@ -1,21 +1,18 @@
 //! What a host calls: each over slices alone, with any numbers.
 ghost use Rattle.std.specs.Prelude.{◌≤◌};
 ghost use Rattle.trac_findings.specs.declared.report.TheConstants.{PLACE_LIMIT};
-ghost use Rattle.trac_web.specs.declared.outcome.Outcome.TheVariants.{WrongBudget, WrongJournal};
-ghost use Rattle.trac_web.specs.Replies.{Answers};
-ghost use Rattle.trac_web.specs.Requests.{IsBudget, IsJournal, Tells};
-ghost use Rattle.trac_web.specs.Requests.{WritesDoubts, WritesReplies, WritesRun, WritesTalk};
-ghost use Rattle.trac_web.specs.Ways.{AnswersWay};
+ghost use Rattle.trac_web.specs.Requests.{WritesDoubts, WritesTalk};
+ghost use Rattle.trac_web_requests.specs.declared.outcome.Outcome.TheVariants.{WrongBudget, WrongJournal};
+ghost use Rattle.trac_web_requests.specs.Replies.{Answers};
+ghost use Rattle.trac_web_requests.specs.Requests.{IsBudget, IsJournal, Tells, WritesReplies, WritesRun};
+ghost use Rattle.trac_web_requests.specs.Ways.{AnswersWay};
 
 use crate::doubting::doubts_text;
-use crate::judging::{width_for_run, width_for_walk};
-use crate::reply::{Reply, deliver};
-use crate::running::run_text;
-use crate::ways::{Spot, way_text};
 use std::alloc::Global;
 use trac_debug::debug;
 use trac_streams::{Ending, Options};
 use trac_walk::{Settings, walk};
+use trac_web_requests::{Reply, Spot, deliver, run_text, way_text, width_for_run, width_for_walk};
 
 /// Runs a program with all of its input by so many steps at most, with numbers of 64 or 128 bits. What it prints
 /// goes into `output`, how many bytes that are into `written`, and how many steps were accepted into `steps`.

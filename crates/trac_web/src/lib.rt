@@ -3,12 +3,5 @@
 
 mod doubting;
 mod exports;
-mod judging;
-mod outcome;
-mod reply;
-mod rows;
-mod running;
-mod ways;
 
 pub use exports::{trac_web_debug, trac_web_doubts, trac_web_run, trac_web_walk, trac_web_way};
-pub use outcome::Outcome;

@@ -2,7 +2,7 @@
 use Rattle.std.proofs.Common.{length, refl, sym, ◌∙◌, inl, inr, ap, subst, arith}
 use Rattle.trac_rules.specs.Session.{PlainSession}
 use Rattle.trac_rules.specs.State.{State}
-use Rattle.trac_follow.specs.Places.{place_of}
+use Rattle.trac_follow_step.specs.Places.{place_of}
 use Rattle.trac_follow.proofs.RunsBack.{run_on, same_session}
 use Rattle.trac_follow.proofs.StepsBack.{GoesBack, HasTold, WentBack, has_told, no_way_back, none_by_test, refused_end, some_by_test, step_to, stops, turned_end, turned_on, went_back}
 use Rattle.trac_follow.proofs.history.follow_from.Given.{Over}

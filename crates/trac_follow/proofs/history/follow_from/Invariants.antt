@@ -1,5 +1,5 @@
 use Rattle.std.proofs.Common.{◌≤◌, ◌-◌}
-use Rattle.trac_follow.specs.Places.{place_of}
+use Rattle.trac_follow_step.specs.Places.{place_of}
 use Rattle.trac_follow.proofs.StepsBack.{GoesBack}
 use Rattle.trac_follow.proofs.history.follow_from.Given as goal
 

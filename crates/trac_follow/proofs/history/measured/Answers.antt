@@ -1,8 +1,8 @@
 use Rattle.std.proofs.Common.{refl, sym, subst}
-use Rattle.trac_follow.specs.Offsets.{IsPlaced}
-use Rattle.trac_follow.specs.Places.{place_of}
-use Rattle.trac_follow.specs.declared.place.Place as code_place
-use Rattle.trac_follow.proofs.Staying.{aside}
+use Rattle.trac_follow_step.specs.Offsets.{IsPlaced}
+use Rattle.trac_follow_step.specs.Places.{place_of}
+use Rattle.trac_follow_step.specs.declared.place.Place as code_place
+use Rattle.trac_follow_step.proofs.Staying.{aside}
 use Rattle.trac_follow.proofs.history.measured.Goals as goal
 
 pub returns-in-Form : goal.returns-in-Form

@@ -3,7 +3,7 @@ use Rattle.trac_rules.specs.Session.{Back, repeated}
 use Rattle.trac_rules.specs.State.{State}
 use Rattle.trac_follow.specs.declared.tracing.End as ends
 use Rattle.trac_follow.specs.Following.{IsKnown}
-use Rattle.trac_follow.specs.Places.{Stands, place_of}
+use Rattle.trac_follow_step.specs.Places.{Stands, place_of}
 use Rattle.trac_follow.specs.Tracing.{LeadsTo}
 use Rattle.trac_follow.proofs.Traces.{Way, ends_untold, ends_unkept, told_before_call, told_of_call, told_so, told_to_the_end, traced_so, way_ends, way_goes_on, way_is_long, way_walked}
 use Rattle.trac_follow.proofs.tracing.trace.Given.{Over}

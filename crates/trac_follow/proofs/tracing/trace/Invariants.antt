@@ -1,6 +1,6 @@
 use Rattle.std.proofs.Common.{◌≤◌}
 use Rattle.trac_follow.specs.Following.{IsKnown}
-use Rattle.trac_follow.specs.Places.{place_of}
+use Rattle.trac_follow_step.specs.Places.{place_of}
 use Rattle.trac_follow.specs.Tracing.{ToldAll, way_of}
 use Rattle.trac_follow.proofs.Traces.{Way}
 use Rattle.trac_follow.proofs.tracing.trace.Given as goal

@@ -1,5 +1,5 @@
 use Rattle.std.proofs.Common.{refl, subst}
-use Rattle.trac_follow.specs.Places.{place_of}
+use Rattle.trac_follow_step.specs.Places.{place_of}
 use Rattle.trac_follow.specs.Tracing.{told_steps, way_of}
 use Rattle.trac_walk.specs.Ways.{AreTold}
 use Rattle.trac_walk.proofs.SaidOfWays.{are_told, nothing_told}

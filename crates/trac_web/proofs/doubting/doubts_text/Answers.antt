@@ -1,6 +1,7 @@
 use Rattle.std.proofs.Common.{sym, subst}
+use Rattle.trac_web_requests.proofs.Whole.{gives_all}
 use Rattle.trac_web.specs.Requests.{WritesDoubts}
-use Rattle.trac_web.proofs.Whole.{gives_all, whole_doubts}
+use Rattle.trac_web.proofs.Whole.{whole_doubts}
 use Rattle.trac_web.proofs.doubting.doubts_text.Goals as goal
 
 pub returns-clause-gives : goal.returns-clause-gives

@@ -1,4 +1,4 @@
-use Rattle.trac_web.proofs.Told.{told_refused, told_taken}
+use Rattle.trac_web_requests.proofs.Told.{told_refused, told_taken}
 use Rattle.trac_web.proofs.exports.trac_web_doubts.Goals as goal
 
 pub returns-in-Ok-clause-told : goal.returns-in-Ok-clause-told

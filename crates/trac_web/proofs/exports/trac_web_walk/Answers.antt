@@ -1,5 +1,6 @@
-use Rattle.trac_web.proofs.Told.{told_refused, told_taken}
-use Rattle.trac_web.proofs.Whole.{gives_all, whole_talk}
+use Rattle.trac_web_requests.proofs.Told.{told_refused, told_taken}
+use Rattle.trac_web_requests.proofs.Whole.{gives_all}
+use Rattle.trac_web.proofs.Whole.{whole_talk}
 use Rattle.trac_web.proofs.exports.trac_web_walk.Goals as goal
 
 pub returns-in-Ok : goal.returns-in-Ok

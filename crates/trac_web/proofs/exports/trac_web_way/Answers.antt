@@ -1,6 +1,6 @@
 use Rattle.std.proofs.Common.{inl, inr, refl}
-use Rattle.trac_web.proofs.Told.{told_refused, told_taken}
-use Rattle.trac_web.proofs.Whole.{gives_all}
+use Rattle.trac_web_requests.proofs.Told.{told_refused, told_taken}
+use Rattle.trac_web_requests.proofs.Whole.{gives_all}
 use Rattle.trac_web.proofs.exports.trac_web_way.Goals as goal
 
 pub returns-in-Ok-way_text : goal.returns-in-Ok-way_text

@@ -1,0 +1,13 @@
+pub mod Found
+pub mod PutTold
+pub mod Renewed
+pub mod Offsets
+pub mod Scanned
+pub mod CallsTold
+pub mod ValuesTold
+pub mod Spans
+pub mod Giving
+pub mod FormsTold
+pub mod UntilTold
+pub mod Staying
+pub mod FetchedTold

@@ -1,0 +1,16 @@
+//! Requests of a host that is no process, as a page of a browser, over slices alone: which numbers are taken, a run,
+//! the way of a byte, and how a reply comes into the buffer of the host.
+#![tactic(auto)]
+
+mod judging;
+mod outcome;
+mod reply;
+mod rows;
+mod running;
+mod ways;
+
+pub use judging::{width_for_run, width_for_walk};
+pub use outcome::Outcome;
+pub use reply::{Reply, deliver};
+pub use running::run_text;
+pub use ways::{Spot, way_text};
