@@ -1,16 +1,15 @@
 """The course: each command of a lesson prints what the lesson says, each solution solves its exercise and each wrong
-one is refused, lessons and exercises keep to their words, and trac-course says what it should."""
+one is refused, lessons and exercises keep to their words, and `trac course` says what it should."""
 import os
 import re
 import shlex
-import sys
 
-from support.cases import TOP, Case, Place, each, ran, scratch, tests
+from support.cases import TOP, WALK, Case, Place, each, ran, scratch, tests
 
-COURSE, SCRIPT, LINT = TOP / "course", TOP / "trac-course", TOP / "trac-lint"
+COURSE, LAUNCHER = TOP / "course", TOP / "trac"
 # How many words a lesson may have, with its programs, and an exercise or a hint.
 LESSON_WORDS, EXERCISE_WORDS = 400, 60
-# The programs that trac-lint doubts, on purpose, and the solutions that it doubts for some input: a line of one word,
+# The programs that trac lint doubts, on purpose, and the solutions that it doubts for some input: a line of one word,
 # a word that is not in a table.
 DOUBTED = {"01/silent", "02/comma", "02/unmatched", "03/list", "04/word", "10/wrong", "09/3/solution", "10/2/solution"}
 BLOCK = re.compile(r"^```(\w+) ?(\S*)\n(.*?)^```$", re.M | re.S)
@@ -24,7 +23,7 @@ def exercises_of(lesson):
 
 # The folders of all exercises, by their numbers.
 EXERCISES = {"{}.{}".format(*map(int, name.split("/"))): name for lesson in LESSONS for name in exercises_of(lesson)}
-# Words of trac-course, a part of what it says, and its status.
+# Words of trac course, a part of what it says, and its status.
 SAYS = (
     ([], "3. Forms\n    3.1 An address\n", 0),
     (["3"], "\n3. Forms\n\n`ds` keeps a text under a name.", 0),
@@ -65,8 +64,8 @@ def called(words, given="", **more):
 
 
 def courses(*words, **more):
-    """What trac-course says, and its status. (Python looks for its packages longer than the rest takes.)"""
-    return called([sys.executable, "-S", SCRIPT, *words], **more)
+    """What trac course says, and its status."""
+    return called([LAUNCHER, "course", *words], **more)
 
 
 def commands(block, first):
@@ -120,14 +119,14 @@ class Course(Case):
             self.same(command, said.rstrip("\n"), wanted.rstrip("\n"), place, "printed")
 
     def check_lint(self, folder, files):
-        """What trac-lint says of the programs of a lesson, or of a solution on its inputs."""
+        """What trac lint says of the programs of a lesson, or of a solution on its inputs."""
         inputs = sorted(file for file in (COURSE / folder).iterdir() if file.suffix == ".in")
         words = [["--input", file] for file in inputs] or [[]]
         for file in files:
             file = os.path.join(folder, file)
-            said = [called([LINT, "--steps", "100000", *words_of_input, COURSE / file]) for words_of_input in words]
+            said = [called([WALK, "--lint", "--steps", "100000", *given, COURSE / file]) for given in words]
             is_doubted = any(status for _, status in said)
-            self.holds("trac-lint says of {}: {}".format(file, said), is_doubted == (file[:-5] in DOUBTED))
+            self.holds("trac lint says of {}: {}".format(file, said), is_doubted == (file[:-5] in DOUBTED))
 
     def check_exercises_of(self, name):
         """A lesson has two or three exercises, and README.md lists it."""
@@ -173,10 +172,9 @@ class Course(Case):
         self.holds("the forms to copy have at most 500 words, and not {}".format(count), count <= 500)
 
     def test_what_the_command_says(self):
-        self.holds("trac-course is a program", called([SCRIPT])[1] == 0)
         for words, part, status in SAYS:
             said, ended = courses(*words)
-            what = "trac-course {}: {!r}, status {}".format(" ".join(words), said[:200], ended)
+            what = "trac course {}: {!r}, status {}".format(" ".join(words), said[:200], ended)
             self.holds(what, part in said and ended == status)
 
     def test_what_a_check_says(self):
@@ -195,7 +193,7 @@ class Course(Case):
     def test_widths(self):
         for width in 50, 200:
             said, _ = courses("6", env={**os.environ, "COLUMNS": str(width)})
-            lines = [line for line in said.splitlines() if not line.startswith("    ") and str(SCRIPT) not in line]
+            lines = [line for line in said.splitlines() if not line.startswith("    ") and str(LAUNCHER) not in line]
             self.holds("a lesson fits {} columns".format(width), max(map(len, lines)) <= min(width, 100))
 
     def test_from_elsewhere(self):
@@ -207,24 +205,27 @@ class Course(Case):
         self.holds("of {} all are there, and not only those that are not {}".format(words, left), words and not left)
 
     def test_who_reads_no_more(self):
-        said, status = called(["bash", "-o", "pipefail", "-c", shlex.quote(str(SCRIPT)) + " 1 | head -c 1"])
+        said, status = called(["bash", "-o", "pipefail", "-c", shlex.quote(str(LAUNCHER)) + " course 1 | head -c 1"])
         self.holds("gets no message: {!r}".format(said), said == "\n")
 
     def test_doubts_in_a_check(self):
-        """A check shows the first doubt of trac-lint, if that is there."""
-        room = scratch(self)
-        for name in "trac", "share", "course":
-            os.symlink(TOP / name, room / name)
-        script, lint, wrong = room / "trac-course", room / "trac-lint", COURSE / "10" / "1" / "wrong.trac"
-        script.write_bytes(SCRIPT.read_bytes())
-        script.chmod(0o755)
-        said, status = called([script, "check", "10.1", wrong], env={**os.environ, "PATH": "/usr/bin:/bin"})
-        self.holds("without trac-lint, nothing is said of it: " + said, status == 1 and "trac-lint" not in said)
-        lint.write_text('#!/bin/sh\ntest "$1" = --input && echo "$2:1:9: $(cat "$2") $3" && echo second\nexit 1\n')
-        lint.chmod(0o755)
-        said, status = called([script, "check", "10.1", wrong])
-        part = "  trac-lint says\n    the input:1:9: {} {}\n".format(read("10/1/1.in").rstrip("\n"), wrong)
-        self.holds("a check says the first doubt: {!r}".format(said),
-                   status == 1 and part in said and "second" not in said)
-        said, status = called([script, "check", "10.1", COURSE / "10" / "1" / "solution.trac"])
-        self.holds("a right solution is not doubted: " + said, status == 0 and "trac-lint" not in said)
+        """A check shows the first doubt of trac lint."""
+        wrong, room = COURSE / "10" / "1" / "wrong.trac", scratch(self)
+        said, status = courses("check", "10.1", wrong)
+        doubt = ran([WALK, "--lint", "--input", COURSE / "10" / "1" / "1.in", wrong]).output.decode().split("\n")[0]
+        part = "  trac lint says\n    {}\n".format(doubt)
+        self.holds("a check says the first doubt: {!r}".format(said), status == 1 and doubt and part in said)
+        twice = room / "twice.trac"
+        twice.write_text("#(pr,a)#(pr,b)'#(cl,c)'", encoding="utf-8")
+        said, status = courses("check", "10.1", twice)
+        self.holds("and no other: {!r}".format(said), said.count("no primitive is named pr") == 1)
+        said, status = courses("check", "10.1", COURSE / "10" / "1" / "solution.trac")
+        self.holds("a right solution is not doubted: " + said, status == 0 and "trac lint" not in said)
+
+    def test_own_name(self):
+        """It says how to go on by the name that it was called by; on PATH that is the word alone."""
+        beside = ran(["./trac", "course"]).output.decode().splitlines()[-1]
+        self.same("beside", beside, "./trac course 1 shows the first lesson, ./trac course 1.1 its first exercise")
+        path = {**os.environ, "PATH": "{}:{}".format(TOP, os.environ["PATH"])}
+        on_path = called(["trac", "course"], env=path)[0].splitlines()[-1]
+        self.same("on PATH", on_path, "trac course 1 shows the first lesson, trac course 1.1 its first exercise")

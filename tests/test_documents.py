@@ -1,5 +1,5 @@
 """What README.md and docs/ show: each command that says what it prints, `printf ".." | ./trac run    # prints ..`,
-prints that; so too the doubts of trac-lint that stand below such a command, `# 1:7: ..`, and on the page of silent
+prints that; so too the doubts of trac lint that stand below such a command, `# 1:7: ..`, and on the page of silent
 mistakes there are no others.
 
 The example of docs/embedding.md is its crate, which the gate runs; the counts of definitions in docs/proof.md are
@@ -56,17 +56,17 @@ class Documents(Case):
         self.status(what, run, 0)
 
     def check_doubts(self, name, command, doubts):
-        """Of what the last command prints trac-lint says what stands below it."""
+        """Of what the last command prints trac lint says what stands below it."""
         if command is None or not doubts and name != SILENT:
             return
         number, command = command
         file = scratch(self) / "it"
         file.write_bytes(shell(command).output)
-        said = ran([TOP / "trac-lint", file]).output.decode("utf-8", "replace").replace("{}:".format(file), "")
+        said = ran([TOP / "trac", "lint", file]).output.decode("utf-8", "replace").replace("{}:".format(file), "")
         said = re.sub(r" +$", "", re.sub(r" \(step [0-9]+\)$", "", said, flags=re.M), flags=re.M)
         place = Place(PAGES[name].relative_to(TOP), [number for number, _ in doubts] or number)
-        what = "{}:{}: what trac-lint says of {}".format(place.file, number, command)
-        self.same(what, said, lined(text for _, text in doubts).decode(), place, "said by trac-lint")
+        what = "{}:{}: what trac lint says of {}".format(place.file, number, command)
+        self.same(what, said, lined(text for _, text in doubts).decode(), place, "said by trac lint")
 
     def test_embedding(self):
         """The program of the page is that of the example, and what it prints is what the gate compares."""

@@ -36,12 +36,12 @@ class Library(Case):
         self.holds("README.md names it", "({}.md)".format(name) in (HERE / "README.md").read_text(encoding="utf-8"))
 
     def check_doubts(self, file):
-        """What trac-lint says of it."""
+        """What trac lint says of it."""
         given = file.with_suffix(".in")
         words = ["--input", given.name] if given.exists() else []
-        run = ran([TOP / "trac-lint", *words, file.name], folder=HERE)
+        run = ran([TOP / "trac", "lint", *words, file.name], folder=HERE)
         self.same("its doubts", STEP.sub(b"", run.output + run.error), bytes_in(file.with_suffix(".lint")),
-                  Place(near(file.with_suffix(".lint"))), "said by trac-lint")
+                  Place(near(file.with_suffix(".lint"))), "said by trac lint")
 
     def check_walk(self, file, walk):
         """A walk through it."""

@@ -5,8 +5,8 @@ of steps; NAME.options has further words of the command line. known.out has the 
 tests/programs, each judged true by hand. Of 500 random programs the model says what must be said. mistakes/ has ten
 programs with one silent mistake each, which stands at the line and column in NAME.place: of nine the line must be
 named. parentheses/ has programs with one parenthesis missing, or one too many, whose place must be named. unseen/ has
-mistakes of each kind of which share/trac-lint.1 says that they are not seen. Then hostile programs, endless ones, and
-statuses."""
+mistakes of each kind of which share/man/trac-lint.1 says that they are not seen. Then hostile programs, endless ones,
+and statuses."""
 import os
 import re
 

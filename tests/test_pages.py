@@ -1,5 +1,5 @@
-"""The pages that ./trac-page makes: each program of tests/programs opens at the step that was asked for, or else where
-`trac-walk` comes to an end, in the state that `trac debug` prints there. The page's own scripts say so, in Node
+"""The pages that ./trac page makes: each program of tests/programs opens at the step that was asked for, or else where
+`trac walk` comes to an end, in the state that `trac debug` prints there. The page's own scripts say so, in Node
 (tests/support/pages.mjs), from version 18 on; without that, these tests are skipped. And command lines."""
 import base64
 import json
@@ -10,11 +10,11 @@ import shutil
 import sys
 
 from support.cases import TESTS, TOP, TRAC, WALK, Case, near, ran, scratch, stems
-from support.paging import GIVEN, PAGE, made, opened
+from support.paging import GIVEN, MAKER, PAGE, a_checkout, made, opened
 from support.strange import ASKING, ENDLESS, HOSTILE, HOSTILE_NAME, VARIOUS
 
-sys.path.insert(0, str(TOP / "share"))
-from debugger import bytes_of  # noqa: E402
+sys.path.insert(0, str(TOP / "python"))
+from trac_tools.dialogue import bytes_of  # noqa: E402
 
 # The most that a page may have beside its program, in bytes.
 MOST_BYTES = 700_000
@@ -33,7 +33,7 @@ def states_at(file, steps, words):
 
 
 def end_of(file, words):
-    """The step where trac-walk comes to an end."""
+    """The step where trac walk comes to an end."""
     return int(re.findall(rb"^(?:here: )?([0-9]+)  ", ran([WALK, *words, file], b"s end\n").output, re.M)[-1])
 
 
@@ -122,7 +122,7 @@ class Pages(Case):
 
 
 class Lines(Case):
-    """Command lines of trac-page."""
+    """Command lines of trac page."""
 
     suite = "pages"
 
@@ -134,7 +134,7 @@ class Lines(Case):
                 ([none], 6), ([TESTS], 6), ([], 2)]
         rows += [([name, "5", file], 2) for name in GONE]
         for words, status in rows:
-            run = ran([TOP / "trac-page", *words])
+            run = ran([*MAKER, *words])
             self.status(run.command, run, status)
             self.holds("{}: it says why, and prints nothing".format(run.command), run.error and not run.output)
             if words and words[0] in GONE:
@@ -144,20 +144,18 @@ class Lines(Case):
     def test_version(self):
         """The version of trac is shown, whatever else the line has; so it is by the other scripts in Python."""
         said = ran([TRAC, "--version"]).output
-        for words in (["trac-page", "none", "-V"], ["trac-page", "--step", "5", "--version"],
-                      ["trac-play", "--version", "none"], ["trac-course", "none", "--version"]):
-            run = ran([TOP / words[0], *words[1:]])
+        for words in (["page", "none", "-V"], ["page", "--step", "5", "--version"],
+                      ["play", "--version", "none"], ["course", "none", "--version"]):
+            run = ran([TOP / "trac", *words])
             self.ends(run.command, run, said)
 
     def test_damaged(self):
         """No page is made of a trac.html that is not there, not whole, or has a program."""
         room, whole = scratch(self), PAGE.read_bytes()
-        (room / "release").mkdir()
-        (room / "share").symlink_to(TOP / "share")
-        copy, file = shutil.copy(TOP / "trac-page", room), TOP / "examples" / "first.trac"
+        copy, file = a_checkout(room), TOP / "examples" / "first.trac"
         place = room / "release" / "trac.html"
-        missing, wrong = b"trac-page: trac.html is missing: ", b" takes no program: it is not whole, or not of this "
-        for what, damaged, said in (("that is missing", None, missing), ("that is a folder", 0, missing),
+        missing, wrong = b"trac page: trac.html is missing: ", b" takes no program: it is not whole, or not of this "
+        for what, damaged, said in (("that is missing", None, missing), ("that is a folder", 0, b"html is no file\n"),
                                     ("that is empty", b"", wrong), ("that is cut", whole[:-1], wrong),
                                     ("that has a program", made(self, [file]), wrong)):
             if place.is_dir():
@@ -166,7 +164,7 @@ class Lines(Case):
                 place.mkdir()
             elif damaged is not None:
                 place.write_bytes(damaged)
-            run = ran([copy, file])
+            run = ran([copy, "page", file])
             self.status("of a page " + what, run, 70)
             self.holds("of a page {}: {}".format(what, run.error), said in run.error and not run.output)
 
@@ -175,7 +173,7 @@ class Lines(Case):
         file = TOP / "examples" / "wrong-factorial.trac"
         page = made(self, [file])
         self.holds("a second page is the same", made(self, [file]) == page)
-        piped = ran([TOP / "trac-page", "/dev/stdin"], file.read_bytes(), 100).output
+        piped = ran([*MAKER, "/dev/stdin"], file.read_bytes(), 100).output
         renamed = piped.replace(b'"name":"stdin"', b'"name":"wrong-factorial.trac"')
         self.holds("a program from a pipe", renamed == page)
 
@@ -184,9 +182,9 @@ class Lines(Case):
         room = scratch(self)
         (room / "few").write_bytes(bytes(600_000))
         (room / "many").write_bytes(random.Random(79).randbytes(33_000_000))
-        run = ran([TOP / "trac-page", "--input", room / "many", room / "few"])
-        said = b"trac-page: FILE and TEXTFILE: more than 33,554,432 bytes together\n"
+        run = ran([*MAKER, "--input", room / "many", room / "few"])
+        said = b"trac page: FILE and TEXTFILE: more than 33,554,432 bytes together\n"
         self.ends("more than there may be", run, b"", 4, said)
         bound = ["bash", "-c", 'ulimit -v "$1"; shift; exec "$@"', "-", "60000"]
-        run = ran([*bound, TOP / "trac-page", room / "many"])
-        self.ends("little memory", run, b"", 5, b"trac-page: there is no memory\n")
+        run = ran([*bound, *MAKER, room / "many"])
+        self.ends("little memory", run, b"", 5, b"trac page: there is no memory\n")

@@ -1,6 +1,8 @@
-"""How scripts are written: what shellcheck says of those in Bash, and flake8 of those in Python, where they are
-installed in the versions that are known here; and that no line of a script has more than 120 columns, but for those of
-support/long-lines, which are still to be mended."""
+"""How scripts are written: what shellcheck says of those in Bash, flake8 of those in Python, and tsc of the page's,
+where they are installed in the versions that are known here; that no line of a script has more than 120 columns, but
+for those of support/long-lines, which are still to be mended; and that four commands stand at the top, of which the
+launcher is short."""
+import os
 import re
 import shutil
 import subprocess
@@ -9,7 +11,7 @@ from support.cases import TOP, Case, near, ran
 
 WIDTH, SOME = 120, 12
 # The tools, and the versions of them whose findings are mended: others find other things.
-KNOWN = {"shellcheck": r"version: 0\.9\.0$", "flake8": r"^5\.0\."}
+KNOWN = {"shellcheck": r"version: 0\.9\.0$", "flake8": r"^5\.0\.", "tsc": r"^Version 4\.8\."}
 # The folders whose files are not looked at: Rattle, what is made, and the pages, which have their own measures.
 ELSEWHERE = re.compile("^(?:crates|release|web|tests/web|tests/webpage)/")
 # What is no script: texts, programs, what is wanted of them, and manual pages.
@@ -72,6 +74,18 @@ class Style(Case):
         tool = self.tool("flake8")
         files = [file for file, first, _ in scripts() if file.suffix == ".py" or re.match("#!.*python", first)]
         self.finds_nothing([tool], files)
+
+    def test_top(self):
+        there = sorted(it.name for it in TOP.iterdir() if it.is_file() and os.access(it, os.X_OK))
+        self.same("the commands at the top", "\n".join(there), "build\ncheck\ninstall\ntrac")
+        count = len((TOP / "trac").read_text(encoding="utf-8").splitlines())
+        self.holds("trac has at most 60 lines, and not {}".format(count), count <= 60)
+
+    def test_types(self):
+        """The modules of the page, by the types that they say themselves (web/tsconfig.json)."""
+        run = ran([self.tool("tsc"), "--project", TOP / "web"])
+        self.same("tsc", run.output, b"", None, "found")
+        self.status("tsc", run, 0)
 
     def test_lines(self):
         later = set((TOP / "tests" / "support" / "long-lines").read_text(encoding="utf-8").split())

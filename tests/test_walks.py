@@ -1,4 +1,4 @@
-"""Walks through programs with trac-walk, and what they print.
+"""Walks through programs with `trac walk`, and what they print.
 
 Each NAME.trac of tests/walks is a program, NAME.in what is typed, and NAME.options, where it is there, has further
 words of the command line. Standard output must be NAME.out, the exit status 0, and standard error empty. Each is run
@@ -159,7 +159,7 @@ class Walks(Walker):
 def pages_with_walks():
     """The pages whose walks are tried, and each of these."""
     for page in "README.md", "docs/walking.md":
-        for number, walk in enumerate(walks_of(page, "./trac-walk "), 1):
+        for number, walk in enumerate(walks_of(page, "./trac walk "), 1):
             yield "{}-{}".format(page.rsplit("/", 1)[-1], number), (page, number, walk)
 
 
@@ -181,9 +181,9 @@ class Pages(Walker):
         """Both pages have walks. The session of docs/debugger.md and the third walk of docs/walking.md go through the
         same program. The walk takes at most half as many lines."""
         for page in "README.md", "docs/walking.md":
-            self.holds(page + " has walks", walks_of(page, "./trac-walk "))
+            self.holds(page + " has walks", walks_of(page, "./trac walk "))
         typed = re.findall("^    > ", (TOP / "docs" / "debugger.md").read_text(encoding="utf-8"), re.M)
-        walk = walks_of("docs/walking.md", "./trac-walk ")[2]
+        walk = walks_of("docs/walking.md", "./trac walk ")[2]
         self.holds("a walk takes at most half as many lines as the session of docs/debugger.md",
                    2 * len(walk.typed) <= len(typed))
 
@@ -304,12 +304,12 @@ class Terminal(Walker):
         """A tab is a key of the line editor."""
         file = HERE / (name + ".trac")
         lines, wanted = (file.with_suffix(it) for it in (".in", ".out"))
-        run = ran([HERE / "at-a-terminal", TOP / "trac-walk", file], lines.read_bytes().replace(b"\t", b" "))
+        run = ran([HERE / "at-a-terminal", TOP / "trac", "walk", file], lines.read_bytes().replace(b"\t", b" "))
         self.ends(name + ", at a terminal", run, wanted.read_bytes(), place=Place(near(wanted)))
 
     @each(("at-the-prompt", "during-a-long-move"))
     def test_interrupted(self, when):
         """Ctrl-C ends all that the launcher has begun."""
         line = ["--line", "s 999999999999"] if when == "during-a-long-move" else []
-        run = ran([HERE / "interrupted", *line, TOP / "trac-walk", TOP / "examples" / "endless.trac"])
+        run = ran([HERE / "interrupted", *line, TOP / "trac", "walk", TOP / "examples" / "endless.trac"])
         self.status("Ctrl-C {}".format(when), run, 0)

@@ -164,7 +164,7 @@ def main():
         del words_given[at : at + 2]
     given = [word for word in words_given if word != "--count"]
     if not program.exists():
-        sys.exit("the program is not built: run ./trac --version first")
+        sys.exit("the program is not built: run ./build first")
     measure, unit = (instructions, "M") if counts else (timed, "ms")
     rounds = 1 if counts else int(given[0]) if given else 5
     yardstick = given[1] if len(given) > 1 else None

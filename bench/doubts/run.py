@@ -1,5 +1,5 @@
 #!/usr/bin/env python3
-"""Times `d` of trac-walk, the way to the first doubtful step, beside `s` over the same steps, and prints a table.
+"""Times `d` of trac walk, the way to the first doubtful step, beside `s` over the same steps, and prints a table.
 
 In each program the first doubt comes after about 1,000,000 steps. Each number is the least processor time of all
 rounds, less that of a session that stays at the start: other work on the machine can only add to it.

@@ -1,5 +1,5 @@
 #!/usr/bin/env python3
-"""Times `y` of trac-walk beside going back over the same steps, and prints a table.
+"""Times `y` of trac walk beside going back over the same steps, and prints a table.
 
 Each program defines a form and prints a byte first, and then calls much, for up to 1,000,000 steps. The way back of
 that byte of the output, and of the form's byte, goes over all of them. In a second table a call prints a byte that

@@ -102,7 +102,7 @@ def walks(rounds):
 
 def main():
     if not TRAC.exists():
-        sys.exit("the program is not built: run ./trac --version first")
+        sys.exit("the program is not built: run ./build first")
     rounds = int(sys.argv[1]) if len(sys.argv) > 1 else 5
     yardstick = sys.argv[2] if len(sys.argv) > 2 else None
     scanning(rounds, yardstick)

@@ -1,7 +1,7 @@
 #!/usr/bin/env python3
 """Times commits that keep a window of the last steps, small journals, and long runs; prints a table of each.
 
-The program is $TRAC, or out/trac, which the launcher ./trac keeps up to date. What is compared is timed in turn, in
+The program is $TRAC, or out/trac, which ./build keeps up to date. What is compared is timed in turn, in
 one run. Each time is the least processor time of all rounds: other work on the machine can only add to it. MB are
 1,000,000 bytes. What takes longer than 120 seconds is stopped, and has no figure.
 
@@ -229,7 +229,7 @@ def main():
     given = [word for word in sys.argv[1:] if word != "--sessions"]
     rounds = int(given[0]) if given else 5
     if not pathlib.Path(TRAC).exists():
-        sys.exit("the program is not built: run ./trac --version first")
+        sys.exit("the program is not built: run ./build first")
     windows(rounds)
     definitions(rounds)
     runs(rounds)

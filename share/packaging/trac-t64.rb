@@ -17,7 +17,7 @@ class TracT64 < Formula
         #!/bin/sh
         exec node "#{libexec}/trac.mjs" "$@"
       SH
-      man1.install "share/trac.1"
+      man1.install "share/man/trac.1"
       doc.install "LICENSE", "README.md", "docs", "library", "examples"
     else
       ENV["DESTDIR"] = "/"

@@ -1,4 +1,4 @@
-"""Where a parenthesis of a text is probably missing, or one too many, by the rule of share/trac-lint.1.
+"""Where a parenthesis of a text is probably missing, or one too many, by the rule of share/man/trac-lint.1.
 
 It shares nothing with trac."""
 import re

@@ -1,9 +1,9 @@
-// Pages that ./trac-page made, opened by the page's own scripts in Node, over as much of a document as they need:
+// Pages that ./trac page made, opened by the page's own scripts in Node, over as much of a document as they need:
 //
 //     node pages.mjs TRAC.HTML states < LINES      where each page opens, with the states there and at other steps
 //     node pages.mjs TRAC.HTML sentences < LINES   what the first page says of each step
 //
-// Each line is a page, as JSON: `given`, what trac-page put into trac.html, and the other `steps`. All of one call have
+// Each line is a page, as JSON: `given`, what trac page put into trac.html, and the other `steps`. All of one call have
 // numbers of the same width.
 import fs from 'node:fs'
 import vm from 'node:vm'
@@ -63,51 +63,55 @@ for (const id of ['module', 'worker', 'given-data', 'last', 'next']) {
 }
 const pages = fs.readFileSync(0, 'utf8').trimEnd().split('\n').map((line) => JSON.parse(line))
 elements['given-data'].textContent = pages[0].given
-const web = (name) => fs.readFileSync(new URL(`../../${name}`, import.meta.url), 'utf8')
-// (the last script begins the page)
-const scripts = web('web/scripts.txt').trim().split('\n').filter((name) => name !== 'web/main.js').map(web).join('\n')
-const document = { getElementById: (id) => elements[id], createElement: () => new Element() }
+globalThis.document = { getElementById: (id) => elements[id], createElement: () => new Element() }
+globalThis.Worker = Worker
+const of = async (name) => import(new URL(`../../web/${name}.js`, import.meta.url))
+const { Runs } = await of('runs')
+const { engineOfPage } = await of('engine')
+const { measure } = await of('measure')
+const { tapeOf } = await of('input')
+const { DECIMALS, givenToPage } = await of('given')
+const { openGiven } = await of('programs')
+const { lastOf, nextOf } = await of('stretch')
+const { showSentences } = await of('sentences')
+const { endingOf } = await of('endings')
 const opened = []
-const openProgram = (_, name, bytes) => opened.push({ name, bytes })
-const {
-    Page, engineOfPage, measure, tapeOf, givenToPage, openGiven, lastOf, nextOf, showSentences, endingOf,
-} = vm.runInNewContext(
-    `"use strict"; ${scripts}
-    ({ Page, engineOfPage, measure, tapeOf, givenToPage, openGiven, lastOf, nextOf, showSentences, endingOf })`,
-    { document, openProgram, Worker, TextDecoder, TextEncoder, Blob, Response, DecompressionStream, URL, atob,
-        queueMicrotask, performance })
 
 // A page that shows nothing: it runs a program and goes to steps as the page does.
-class Shown extends Page {
-    static over(engine) {
-        const parts = { engine, ahead: engine, passed: null, view: {}, notes: [], editor: { fixed: null } }
-        return Object.assign(Object.create(Shown.prototype), parts)
+class Shown {
+    constructor(engine) {
+        Object.assign(this, { engine, ahead: engine, run: null, isStale: false, editor: { fixed: null }, notes: [] })
+        this.view = { note: (words) => this.notes.push(words) }
+        this.cursor = { step: 0, passed: null, visit: async (step) => this.visit(step) }
+        this.runs = new Runs(this)
+        this.runs.perform = (wanted) => this.perform(wanted)
+    }
+
+    open(name, bytes) {
+        opened.push({ name, bytes })
     }
 
     async perform(wanted) {
-        const tape = tapeOf(wanted)
-        const run = await measure(this.engine, tape, wanted.isClosed, wanted.budget)
-        Object.assign(this, wanted, { tape, run, story: this.storyOf(tape, run), step: run.end })
+        wanted.tape = tapeOf(wanted)
+        const came = await measure(this.engine, wanted.tape, wanted.isClosed, wanted.budget)
+        this.run = this.runs.runOf(wanted, came)
+        this.visit(this.run.end)
     }
 
-    async visit(step) {
-        this.step = Math.min(step, this.run.end)
-    }
-
-    note(words) {
-        this.notes.push(words)
+    visit(step) {
+        this.cursor.step = Math.min(step, this.run.end)
     }
 
     states() {
-        return this.story.around(this.step, this.run.end)
+        return this.run.story.around(this.cursor.step, this.run.end)
     }
 }
 
-const engine = await engineOfPage()
+const engine = await engineOfPage(DECIMALS)
 
 async function openedPage(given) {
     elements['given-data'].textContent = given
-    const shown = Shown.over(engine)
+    const shown = new Shown(engine)
     await openGiven(shown, givenToPage())
     return shown
 }
@@ -119,12 +123,13 @@ const rest = (id) => elements[id].textContent.replace(/^(Just done|Next|Start)[^
 // said at the end.
 async function sentences(shown) {
     let before = ''
-    for (shown.step = 0; shown.step <= shown.run.end; shown.step++) {
+    for (let step = 0; step <= shown.run.end; step++) {
+        shown.visit(step)
         const states = await shown.states()
-        showSentences(shown.step, lastOf(shown, states), nextOf(shown, states), endingOf(shown).next, states)
+        showSentences(step, lastOf(shown, states), nextOf(shown, states), endingOf(shown).next, states)
         const bare = rest('last').replace(/^the idle program reads on: /, '')
-        if (shown.step > 0) console.log(`${shown.step - 1}: ${rest('last')}`)
-        if (shown.step > 0 && bare !== before) console.log(`${shown.step - 1} before it: ${before}`)
+        if (step > 0) console.log(`${step - 1}: ${rest('last')}`)
+        if (step > 0 && bare !== before) console.log(`${step - 1} before it: ${before}`)
         before = rest('next')
     }
     console.log(`end: ${before}`)
@@ -143,9 +148,12 @@ async function stateOf(shown) {
 async function shownBy({ given, steps }) {
     const shown = await openedPage(given)
     const { name, bytes } = opened.pop()
-    const { step, notes, run: { end } } = shown
+    const { notes, cursor: { step }, run: { end } } = shown
     const states = [await stateOf(shown)]
-    for (shown.step of steps) states.push(await stateOf(shown))
+    for (const other of steps) {
+        shown.visit(other)
+        states.push(await stateOf(shown))
+    }
     return { name, program: inSigns(bytes), step, end, notes, states }
 }
 

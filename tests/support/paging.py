@@ -1,20 +1,30 @@
-"""Pages of ./trac-page: how tests make them, and open them by the page's own scripts in Node."""
+"""Pages of ./trac page: how tests make them, and open them by the page's own scripts in Node."""
 import json
+import os
 import re
 import shutil
 
 from support.cases import TESTS, TOP, lined, ran
 
 PAGE = TOP / "release" / "trac.html"
-# What trac-page puts into it.
+# What makes pages, and what that puts into one.
+MAKER = [TOP / "trac", "page"]
 GIVEN = re.compile(rb'<script type="application/json" id="given-data">(.*?)</script>', re.S)
 
 
 def made(test, words):
     """The page that these words make."""
-    run = ran([TOP / "trac-page", *words])
-    test.status("trac-page", run, 0)
+    run = ran([*MAKER, *words])
+    test.status("trac page", run, 0)
     return run.output
+
+
+def a_checkout(room):
+    """Makes a folder a checkout, but for the page in its release/: returns its launcher."""
+    os.mkdir(os.path.join(room, "release"))
+    for name in "crates", "crates.txt", "out", "python", "tools":
+        os.symlink(TOP / name, os.path.join(room, name))
+    return shutil.copy(TOP / "trac", room)
 
 
 def has_node():

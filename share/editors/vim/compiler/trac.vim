@@ -1,4 +1,4 @@
-" Vim compiler file: `:compiler trac`, and `:make` lists the doubts of trac-lint on the program.
+" Vim compiler file: `:compiler trac`, and `:make` lists the doubts of trac lint on the program.
 if exists("current_compiler")
   finish
 endif
@@ -8,7 +8,7 @@ if exists(":CompilerSet") != 2
 endif
 let s:cpo = &cpo
 set cpo&vim
-CompilerSet makeprg=trac-lint\ %:S
+CompilerSet makeprg=trac\ lint\ %:S
 CompilerSet errorformat=%f:%l:%c:\ %m,%-G%.%#
 let &cpo = s:cpo
 unlet s:cpo

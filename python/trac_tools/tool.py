@@ -1,4 +1,5 @@
-"""What the tools in Python have in common: how they begin and end, what they write, and how they show a name."""
+"""What the tools have in common: how they begin and end, where programs stand, what they read and write, and how they
+show a name."""
 import argparse
 import contextlib
 import errno
@@ -8,12 +9,42 @@ import signal
 import subprocess
 import sys
 
+# The most bytes of FILE that the programs take.
+TAPE = 33_554_432
 # What the system says where there is too little of something for now.
 SCARCE = (errno.ENOMEM, errno.EAGAIN, errno.EMFILE, errno.ENFILE)
 # How the debugger shows each byte of a text.
-SIGNS = [chr(byte) if 32 <= byte <= 126 and chr(byte) not in "\\[]" else "\\x{:02x}".format(byte) for byte in range(256)]
+SIGNS = [chr(byte) if 32 <= byte <= 126 and chr(byte) not in "\\[]" else "\\x{:02x}".format(byte)
+         for byte in range(256)]
 # The processes that were begun, of which none goes on when the tool ends.
 begun = []
+
+
+class Place:
+    """Where this is: how the launcher was called, its file and folder, and the folder of the programs."""
+
+    called = launcher = folder = programs = ""
+
+
+def start(words):
+    """Takes what the launcher says of itself."""
+    Place.called, Place.launcher, Place.programs = words
+    Place.launcher = os.path.realpath(Place.launcher)
+    Place.folder = os.path.dirname(Place.launcher)
+
+
+def program(name):
+    """Where a program stands."""
+    return os.path.join(Place.programs, name)
+
+
+def found(name, checkout, installed):
+    """A file or folder: of a checkout, or as it is installed."""
+    is_checkout = os.path.exists(os.path.join(Place.folder, "crates.txt"))
+    place = os.path.join(Place.folder, *((checkout,) if is_checkout else ("..", installed)))
+    if not os.access(place, os.R_OK):
+        raise Fault("{} is missing: looked for {}".format(name, shown(place)), 70)
+    return place
 
 
 class Fault(Exception):
@@ -49,8 +80,8 @@ def legible(words):
 
 
 def write(text, to=1):
-    """Writes a whole text or bytes, also where a stream takes a part at a time. Where it takes no more, that is a fault of
-    status 7: in no words, if only the reader is gone."""
+    """Writes a whole text or bytes, also where a stream takes a part at a time. Where it takes no more, that is a fault
+    of status 7: in no words, if only the reader is gone."""
     left = memoryview(text.encode("utf-8", "surrogateescape") if isinstance(text, str) else text)
     while left:
         try:
@@ -140,7 +171,7 @@ def status_of(name, main):
 
 
 def end(status):
-    """Ends the tool, and what it has begun, with an exit status or by a signal, of which this is the negative number."""
+    """Ends the tool, and what it has begun, with an exit status, or by the signal of which this is the negative."""
     for process in begun:
         if process.poll() is None:
             process.kill()
@@ -164,3 +195,31 @@ def run(name, main):
             end(status)
         except Stopped as stopped:
             status = -stopped.number
+
+
+def read_file(name):
+    """The bytes of FILE, which may be no file but a pipe."""
+    try:
+        with open(name, "rb") as file:
+            tape = file.read(TAPE + 1)
+    except OSError as fault:
+        raise Fault("{}: {}".format(shown(name), fault.strerror), 6)
+    except ValueError:
+        raise Fault("{}: no name of a file".format(shown(name)), 6)
+    if len(tape) > TAPE:
+        raise Fault("{}: more than {:,} bytes".format(shown(name), TAPE), 4)
+    return tape
+
+
+class ShowVersion(argparse.Action):
+    """An option that shows the version of the processor and ends the tool, whatever else the command line has."""
+
+    def __init__(self, **more):
+        super().__init__(nargs=0, **more)
+
+    def __call__(self, parser, *_):
+        said = subprocess.run([program("trac"), "--version"], stdin=subprocess.DEVNULL, stdout=subprocess.PIPE)
+        if said.returncode != 0:
+            raise Fault("{} --version ended with status {}".format(shown(program("trac")), said.returncode), 70)
+        write(said.stdout.decode("utf-8", "replace"))
+        parser.exit()

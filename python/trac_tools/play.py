@@ -1,42 +1,28 @@
-#!/bin/sh
-''':'
-# (Python does not begin where standard input is a folder)
-[ ! -d /dev/fd/0 ] || exec <&-
-exec python3 "$0" "$@"
-'''
 """Plays a program that asks: the program comes from FILE, and the answers from the terminal.
 
-    ./trac-play [--budget N] [--journal N] [--decimals BITS] [--memory SIZE] FILE
+    trac play [--budget N] [--journal N] [--decimals BITS] [--memory SIZE] FILE
 
-`trac run` runs it. What it is given is FILE, and then of each answer what the program reads. That is what `trac-walk` says, which
-goes through the program beside it and is fed each answer once: that the program waits, and for what; or that it has ended,
-where the processor would read a text that FILE does not have, by itself and not by a call of the program.
+`trac run` runs it. What it is given is FILE, and then of each answer what the program reads. That is what `trac walk`
+says, which goes through the program beside it and is fed each answer once: that the program waits, and for what; or
+that it has ended, where the processor would read a text that FILE does not have, by itself and not by a call of the
+program.
 """
-import signal
+import os
+import re
+import select
+import threading
+from subprocess import PIPE
 
-# (so long as Python loads what it needs, Ctrl-C is to say nothing)
-if signal.getsignal(signal.SIGINT) != signal.SIG_IGN:
-    signal.signal(signal.SIGINT, signal.SIG_DFL)
-
-import os  # noqa: E402
-import re  # noqa: E402
-import select  # noqa: E402
-import sys  # noqa: E402
-import threading  # noqa: E402
-from subprocess import PIPE  # noqa: E402
-
-HERE = os.path.dirname(os.path.realpath(__file__))
-sys.dont_write_bytecode = True
-sys.path[:0] = [os.path.join(HERE, "share"), os.path.join(HERE, "..", "share", "trac")]
-from debugger import Debugger, NoMemory, ShowVersion, bytes_of, find, read_file, version_of  # noqa: E402
-from tool import Fault, Words, begin, run, shown, tell, write  # noqa: E402
+from trac_tools import lines
+from trac_tools.dialogue import Debugger, NoMemory, bytes_of
+from trac_tools.tool import Fault, ShowVersion, Words, begin, program, read_file, shown, tell, write
 
 # The most memory that the walk may take.
 MEMORY = 1_073_741_824
 # How many steps the idle program has before its read, from where nothing is to be done.
 IDLE = 8
-# How many steps the walk keeps: it forgets half of them at a time. So far it goes at once where it may pass the end of FILE, and
-# so far elsewhere.
+# How many steps the walk keeps: it forgets half of them at a time. So far it goes at once where it may pass the end of
+# FILE, and so far elsewhere.
 JOURNAL = 16_384
 NEAR, FAR = JOURNAL // 2, 10_000_000
 # The longest line that it takes.
@@ -44,8 +30,8 @@ COMMAND = 4_096
 # What may stand after the last text of FILE, and is no text.
 BLANKS = b" \t\r\n"
 PROMPT, GOES_ON = "> ", ".. "
-# What the walk says: where it stands; and of the state on one screen that the idle program waits, which is the meta character,
-# and how much is not read. What stands after that is cut where there is much to count.
+# What the walk says: where it stands; and of the state on one screen that the idle program waits, which is the meta
+# character, and how much is not read. What stands after that is cut where there is much to count.
 STANDS = re.compile("([0-9]+)  (.*)")
 IDLE_LINES = ["begun   #(ps,", "begun   #(rs", "text    #(ps,#(rs[|]))"]
 META = re.compile("forms .*, meta (.*), trace (?:on|off)")
@@ -66,16 +52,16 @@ class Place:
 
 
 class Walk:
-    """A walk through the program with all input so far: where it stands, what comes next there, and what is said of it."""
+    """A walk through the program with all input so far: where it stands, what comes next there, and what is said."""
 
-    def __init__(self, program, words, tape):
-        self.command = [program, "--journal", str(JOURNAL), *words]
+    def __init__(self, words, tape):
+        self.command = [program("trac-walk"), "--journal", str(JOURNAL), *words]
         self.fed = bytearray(tape)
         self.at, self.next, self.read, self.meta, self.screen = 0, "", 0, b"'", []
         self.debugger = Debugger(self.command, MEMORY, self.fed)
 
     def move(self, command):
-        """Carries out a command; returns what is said beside where the walk stands then, or none where it is refused."""
+        """Carries out a command; returns what is said beside where the walk stands then; none where it is refused."""
         self.debugger.give(command + "\np\n")
         lines, counts = [], None
         while counts is None:
@@ -91,8 +77,8 @@ class Walk:
         return "\n".join(line for line in lines[:place] if not line.startswith(FORGOTTEN))
 
     def feed(self, text):
-        """Feeds more input; whether it is taken. What is no line, or too long for a command, begins another walk, which goes as
-        far."""
+        """Feeds more input; whether it is taken. What is no line, or too long for a command, begins another walk, which
+        goes as far."""
         self.fed += text
         command = 'i "{}"'.format("".join(map(quoted, text[:-1])))
         if text.endswith(b"\n") and len(command) <= COMMAND:
@@ -102,9 +88,9 @@ class Walk:
         return not self.move("g {}".format(self.at))
 
     def is_idle(self):
-        """Whether the read that comes next is that of the idle program itself. The same state may be one before a call in
-        tail position; but so few steps before it nothing was to be done. (Or the walk does not go back so far: from where it
-        began, or where it keeps fewer steps.)"""
+        """Whether the read that comes next is that of the idle program itself. The same state may be one before a call
+        in tail position; but so few steps before it nothing was to be done. (Or the walk does not go back so far: from
+        where it began, or where it keeps fewer steps.)"""
         if self.next != "#(rs)" or self.screen[:3] != IDLE_LINES:
             return False
         at = self.at
@@ -130,8 +116,8 @@ def quoted(byte):
 class Look:
     """Looks where an input leads to, beside what runs. It goes on from where the input before has led to."""
 
-    def __init__(self, program, words, tape):
-        self.size, self.walk = len(tape), Walk(program, words, tape)
+    def __init__(self, words, tape):
+        self.size, self.walk = len(tape), Walk(words, tape)
         self.place, self.stopped, self.thread = None, False, None
         self.told, self.tells = os.pipe()
 
@@ -189,8 +175,8 @@ class Look:
         return not self.walk.fed[self.walk.read:self.size].strip(BLANKS)
 
     def has_passed(self, first):
-        """Whether the idle program has read since this step, or is to read, when all texts of FILE were read; if so, goes back to
-        the first time."""
+        """Whether the idle program has read since this step, or is to read, when all texts of FILE were read; if so,
+        goes back to the first time."""
         walk, end, passed = self.walk, self.walk.at, None
         while "not met" not in walk.move("r rs") and walk.at >= first:
             if walk.is_idle() and self.is_over():
@@ -205,11 +191,6 @@ class Screen:
     def __init__(self):
         self.printed, self.line = 0, b""
         self.is_told = False
-        sys.stdin.reconfigure(errors="surrogateescape")
-        try:
-            import readline  # noqa: F401
-        except ImportError:
-            pass
 
     def show(self, data):
         """Prints what the program has printed."""
@@ -218,8 +199,8 @@ class Screen:
         write(data)
 
     def prompt(self, goes_on):
-        """What stands before an answer: the line that the program has begun, so that the line editor knows where it stands,
-        and a sign that the program waits."""
+        """What stands before an answer: the line that the program has begun, so that the line editor knows where it
+        stands, and a sign that the program waits."""
         try:
             line = self.line.decode()
         except UnicodeDecodeError:
@@ -230,40 +211,34 @@ class Screen:
 
     def ask(self, goes_on):
         """A line that is typed, or none where the lines have ended."""
-        if not os.isatty(1):
-            tell(GOES_ON if goes_on else PROMPT, "")
-            line = sys.stdin.buffer.readline()
-        else:
-            try:
-                prompt = self.prompt(goes_on)
-                if prompt[0] == "\r":
-                    write("\r")
-                line = input(prompt.lstrip("\r")).encode(sys.stdin.encoding, "surrogateescape") + b"\n"
-            except EOFError:
-                write("\n")
-                line = b""
+        prompt = GOES_ON if goes_on else PROMPT
+        if os.isatty(1):
+            prompt = self.prompt(goes_on)
+            if prompt[0] == "\r":
+                write("\r")
+        line = lines.ask(prompt.lstrip("\r"))
         self.line = b""
         return line
 
     def tell_end(self, meta):
         """Says once that a text goes on."""
         if not self.is_told:
-            tell("trac-play: this text goes on until {} is typed".format(shown(meta)))
+            tell("trac play: this text goes on until {} is typed".format(shown(meta)))
         self.is_told = True
 
 
 class Play:
     """A program that runs, and is given what is typed."""
 
-    def __init__(self, program, walker, words, tape):
+    def __init__(self, words, tape):
         self.tape = tape
         widths = words[words.index("--decimals"):][:2] if "--decimals" in words else []
-        self.run = begin([program, "run", *words], stdin=PIPE, stdout=PIPE, stderr=PIPE)
+        self.run = begin([program("trac"), "run", *words], stdin=PIPE, stdout=PIPE, stderr=PIPE)
         self.to, self.out = self.run.stdin.fileno(), self.run.stdout.fileno()
         os.set_blocking(self.to, False)
         # how much of the input it is given, and what of that is on its way
         self.given, self.sending = 0, memoryview(b"")
-        self.screen, self.look = Screen(), Look(walker, widths, tape)
+        self.screen, self.look = Screen(), Look(widths, tape)
 
     def give(self, end):
         """Gives it the input up to here."""
@@ -279,8 +254,8 @@ class Play:
         self.to = None
 
     def copy(self, told=None):
-        """Shows some more of what it prints, and gives it some more of what is to be given, or waits until a look has found
-        its place. Returns whether it has not ended."""
+        """Shows some more of what it prints, and gives it some more of what is to be given, or waits until a look has
+        found its place. Returns whether it has not ended."""
         sends = [self.to] if self.sending and self.to is not None else []
         ready, free, _ = select.select([self.out] + ([told] if told is not None else []), sends, [])
         if self.out in ready:
@@ -295,8 +270,8 @@ class Play:
         return True
 
     def follow(self, text=b""):
-        """Goes on, with more input if there is any, until it waits for input or has ended; returns the place where the input
-        leads to, or none where it has ended."""
+        """Goes on, with more input if there is any, until it waits for input or has ended; returns the place where the
+        input leads to, or none where it has ended."""
         self.look.start(text)
         while self.look.place is None:
             if not self.copy(self.look.told):
@@ -313,7 +288,8 @@ class Play:
 
     def is_behind(self):
         """Whether it has not printed all that it prints up to the place that was found."""
-        return bool(self.sending or select.select([self.out], [], [], 0)[0] or self.look.walk.has_printed(self.screen.printed))
+        return bool(self.sending or select.select([self.out], [], [], 0)[0]
+                    or self.look.walk.has_printed(self.screen.printed))
 
     def play(self):
         """Plays it to its end; returns its exit status."""
@@ -358,9 +334,9 @@ def tell_ending(runs):
     return runs.wait()
 
 
-def pass_on(program, words, tape):
+def pass_on(words, tape):
     """Runs it on FILE and then standard input; returns its exit status."""
-    runs = begin([program, "run", *words], stdin=PIPE, stdout=PIPE, stderr=PIPE)
+    runs = begin([program("trac"), "run", *words], stdin=PIPE, stdout=PIPE, stderr=PIPE)
 
     def feed():
         data = tape
@@ -381,12 +357,13 @@ def pass_on(program, words, tape):
     return tell_ending(runs)
 
 
-def options():
+def options(given):
     """The command line."""
     words = Words(
-        prog="trac-play",
+        prog="trac play",
         description="Plays a program that asks: the program comes from FILE, and the answers from the terminal.",
-        epilog="An answer ends with ' (or what cm chose) and Enter. Where standard input is no terminal, it is read after FILE.",
+        epilog="An answer ends with ' (or what cm chose) and Enter. Where standard input is no terminal, it is read "
+        "after FILE.",
         allow_abbrev=False,
     )
     words.add_argument("file", metavar="FILE", help="the program")
@@ -394,28 +371,21 @@ def options():
     words.add_argument("--journal", metavar="N", help="write output after N steps at the latest, as of trac run")
     words.add_argument("--decimals", metavar="BITS", help="how wide numbers are: 64 or 128 bits, as of trac run")
     words.add_argument("--memory", metavar="SIZE", help="the most memory that the run may take, as of trac run")
-    words.add_argument("-V", "--version", action=ShowVersion, script=__file__, help="show the version of the processor")
-    return words.parse_args()
+    words.add_argument("-V", "--version", action=ShowVersion, help="show the version of the processor")
+    return words.parse_args(given)
 
 
-def main():
+def main(given):
     """Plays, and returns the exit status."""
-    chosen = options()
+    chosen = options(given)
     words = [word for name in ("budget", "journal", "decimals", "memory") if getattr(chosen, name) is not None
              for word in ("--" + name, getattr(chosen, name))]
-    program = find("trac", __file__)
     tape = read_file(chosen.file)
-    version_of(program)
     if not os.isatty(0):
-        return pass_on(program, words, tape)
-    walker = find("trac-walk", __file__)
-    version_of(walker)
-    play = Play(program, walker, words, tape)
-    try:
-        return play.play()
-    finally:
-        play.end()
-
-
-if __name__ == "__main__":
-    run("trac-play", main)
+        return pass_on(words, tape)
+    with lines.History("play"):
+        play = Play(words, tape)
+        try:
+            return play.play()
+        finally:
+            play.end()

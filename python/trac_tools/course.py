@@ -1,42 +1,26 @@
-#!/bin/sh
-''':'
-# (Python does not begin where standard input is a folder)
-[ ! -d /dev/fd/0 ] || exec <&-
-exec python3 "$0" "$@"
-'''
 """Shows a course in TRAC at the terminal, and checks its exercises.
 
-    ./trac-course                    lists the lessons and their exercises
-    ./trac-course N                  shows lesson N
-    ./trac-course N.K                shows exercise N.K; so `hint N.K` and `solution N.K`
-    ./trac-course check N.K FILE     runs FILE on each given input, and says what differs
+    trac course                    lists the lessons and their exercises
+    trac course N                  shows lesson N
+    trac course N.K                shows exercise N.K; so `hint N.K` and `solution N.K`
+    trac course check N.K FILE     runs FILE on each given input, and says what differs
 
 The lessons and exercises are the files of course/, whose README.md says how they are kept.
 """
-import signal
+import argparse
+import os
+import re
+import resource
+import select
+import shutil
+import subprocess
+import textwrap
+import time
 
-# (so long as Python loads what it needs, Ctrl-C is to say nothing)
-if signal.getsignal(signal.SIGINT) != signal.SIG_IGN:
-    signal.signal(signal.SIGINT, signal.SIG_DFL)
+from trac_tools.dialogue import passed_on
+from trac_tools.tool import (Fault, Place, ShowVersion, Words, begin, found, legible, printable, program, read_file,
+                             shown, write)
 
-import argparse  # noqa: E402
-import os  # noqa: E402
-import re  # noqa: E402
-import resource  # noqa: E402
-import select  # noqa: E402
-import shutil  # noqa: E402
-import subprocess  # noqa: E402
-import sys  # noqa: E402
-import textwrap  # noqa: E402
-import time  # noqa: E402
-
-HERE = os.path.dirname(os.path.realpath(__file__))
-sys.dont_write_bytecode = True
-sys.path[:0] = [os.path.join(HERE, "share"), os.path.join(HERE, "..", "share", "trac")]
-from debugger import ShowVersion, find, passed_on, read_file, version_of  # noqa: E402
-from tool import Fault, Words, begin, legible, printable, run, shown, write  # noqa: E402
-
-PLACES = (os.path.join(HERE, "course"), os.path.join(HERE, "..", "share", "doc", "trac", "course"))
 # What a checked program may take: steps, bytes that it prints, bytes of memory, and seconds.
 STEPS = 10_000_000
 PRINTED = 65_536
@@ -56,8 +40,6 @@ FENCE = re.compile(r"```(\w*) ?(\S*)")
 ITEM = re.compile(r"(?:[0-9]+\.|-) +")
 # A piece of code, bold, slanted, or a link.
 MARKUP = re.compile(r"(`[^`]+`)|\*\*([^*]+)\*\*|\*([^*]+)\*|\[([^]]+)\]\([^)]*\)")
-# This program as it was called.
-SELF = "trac-course" if os.path.realpath(shutil.which("trac-course") or "") == os.path.realpath(__file__) else shown(sys.argv[0])
 WORDS = """\
 N                 show lesson N
 N.K               show exercise N.K
@@ -65,6 +47,13 @@ hint N.K          show a hint for it
 solution N.K      show a solution
 check N.K FILE    run FILE on each given input, and say what differs
 """
+
+
+def own_name():
+    """This command as it was called."""
+    called = os.path.basename(Place.called)
+    on_path = os.path.realpath(shutil.which(called) or "") == Place.launcher
+    return (called if on_path else shown(Place.called)) + (" course" if called != "trac-course" else "")
 
 
 def say(text=""):
@@ -76,10 +65,7 @@ class Course:
     """The lessons in a folder."""
 
     def __init__(self):
-        self.folder = next((place for place in PLACES if os.path.isdir(place)), None)
-        if self.folder is None:
-            raise Fault("the course is missing: looked for " + ", and for ".join(map(shown, PLACES)), 70)
-        self.folder = os.path.normpath(self.folder)
+        self.folder = os.path.normpath(found("the course", "course", "share/trac/course"))
         self.lessons = sorted(int(name) for name in os.listdir(self.folder) if re.fullmatch("[0-9]{2}", name))
 
     def file(self, *parts):
@@ -166,13 +152,9 @@ class Page:
             return line
         folder = os.path.relpath(self.course.folder)
         folder = folder if len(folder) < len(self.course.folder) else self.course.folder
-
-        def program(match):
-            name, beside = match[1], os.path.join(HERE, match[1])
-            on_path = shutil.which(name)
-            return name if on_path and os.path.realpath(on_path) == beside else legible(beside)
-
-        return re.sub(r"(?<![\w/.])course/", lambda _: legible(folder) + "/", re.sub(r"(?<![^\s`])\./(trac[a-z-]*)", program, line))
+        on_path = os.path.realpath(shutil.which("trac") or "") == Place.launcher
+        line = re.sub(r"(?<![^\s`])\./trac\b", lambda _: "trac" if on_path else legible(Place.launcher), line)
+        return re.sub(r"(?<![\w/.])course/", lambda _: legible(folder) + "/", line)
 
     def inline(self, text):
         """A text without its marks, and with no place to break within a piece of code."""
@@ -226,7 +208,8 @@ class Page:
 
 def line_of(line):
     """A line of a check: signs in place of what shows nothing, and no longer than a line may be."""
-    line = "".join(sign if sign.isprintable() else sign.encode("unicode_escape").decode() for sign in line[:LONGEST + 1])
+    line = "".join(sign if sign.isprintable() else sign.encode("unicode_escape").decode()
+                   for sign in line[:LONGEST + 1])
     return "    " + (line if len(line) <= LONGEST else line[:LONGEST - 2] + "..")
 
 
@@ -244,7 +227,7 @@ def show_list(course):
         say(course.title(lesson, "lesson.md"))
         for exercise in course.exercises(lesson):
             say("    " + course.title(exercise, "exercise.md"))
-    say("\n{0} 1 shows the first lesson, {0} 1.1 its first exercise".format(SELF))
+    say("\n{0} 1 shows the first lesson, {0} 1.1 its first exercise".format(own_name()))
 
 
 def show_lesson(course, lesson):
@@ -254,7 +237,7 @@ def show_lesson(course, lesson):
     exercises = course.exercises(lesson)
     for exercise in exercises:
         say("exercise " + course.title(exercise, "exercise.md"))
-    say("{} {} shows the first of them".format(SELF, number_of(exercises[0])))
+    say("{} {} shows the first of them".format(own_name(), number_of(exercises[0])))
 
 
 def show_exercise(course, exercise):
@@ -267,7 +250,7 @@ def show_exercise(course, exercise):
     for at, (given, wanted) in enumerate(course.runs(exercise), 1):
         say("run {}".format(at))
         show_run(given, wanted)
-    say("\n{0} check {1} FILE checks your program, {0} hint {1} gives a hint".format(SELF, number))
+    say("\n{0} check {1} FILE checks your program, {0} hint {1} gives a hint".format(own_name(), number))
 
 
 def show_run(given, wanted):
@@ -278,8 +261,8 @@ def show_run(given, wanted):
 
 
 def exchange(process, tape, most, seconds):
-    """Gives a process its input, and takes what it prints, so many bytes at most and for so long; returns that, and whether it
-    has ended by itself."""
+    """Gives a process its input, and takes what it prints, so many bytes at most and for so long; returns that, and
+    whether it has ended by itself."""
     to, out = process.stdin.fileno(), process.stdout.fileno()
     os.set_blocking(to, False)
     left, printed, end = memoryview(tape), b"", time.monotonic() + seconds
@@ -303,7 +286,8 @@ def exchange(process, tape, most, seconds):
 
 
 def tried(command, tape, most, **how):
-    """What a command prints that is given a tape, and its status, which is none where it has printed too much or took too long."""
+    """What a command prints that is given a tape, and its status, which is none where it has printed too much or took
+    too long."""
     process = begin(command, stdin=subprocess.PIPE, stdout=subprocess.PIPE, stderr=subprocess.DEVNULL, **how)
     printed, has_ended = exchange(process, tape, most, SECONDS)
     if not has_ended:
@@ -313,12 +297,12 @@ def tried(command, tape, most, **how):
     return printed, status if has_ended else None
 
 
-def run_program(program, tape):
+def run_program(tape):
     """What a program prints, and what is wrong with its end, if that is."""
     def bound():
         resource.setrlimit(resource.RLIMIT_AS, (MEMORY, MEMORY))
 
-    printed, status = tried([program, "run", "--budget", str(STEPS)], tape, PRINTED, preexec_fn=bound)
+    printed, status = tried([program("trac"), "run", "--budget", str(STEPS)], tape, PRINTED, preexec_fn=bound)
     if len(printed) > PRINTED:
         return printed, "it prints more than {:,} bytes".format(PRINTED)
     if status is None:
@@ -329,15 +313,12 @@ def run_program(program, tape):
 
 
 def first_doubt(name, tape, given):
-    """What trac-lint says first of a program with this input, if it is there and has a doubt."""
-    try:
-        lint = find("trac-lint", __file__)
-    except Fault:
-        return None
+    """What trac lint says first of a program with this input, if it has a doubt."""
     with passed_on(given) as (after, give):
         # (the input is so short that it is given before any of it is read)
         give()
-        said, status = tried([lint, "--input", after.name, OWN_INPUT], tape, PRINTED, pass_fds=[after.number])
+        said, status = tried([program("trac-walk"), "--lint", "--input", after.name, OWN_INPUT], tape, PRINTED,
+                             pass_fds=[after.number])
     lines = said.decode("utf-8", "backslashreplace").splitlines()
     if status != 1 or not lines:
         return None
@@ -357,11 +338,9 @@ def check(course, exercise, name):
     tape = read_file(name)
     # (as editors leave a file: else the input would go on in its last line)
     front = tape + (b"" if tape.endswith(b"\n") else b"\n")
-    program = find("trac", __file__)
-    version_of(program)
     runs = course.runs(exercise)
     for at, (given, wanted) in enumerate(runs, 1):
-        printed, fault = run_program(program, front + given)
+        printed, fault = run_program(front + given)
         what = "{}, run {} of {}: ".format(number, at, len(runs))
         if not fault and printed.rstrip(b"\n") == wanted.rstrip(b"\n"):
             say(what + "right")
@@ -373,32 +352,32 @@ def check(course, exercise, name):
             say("  " + difference(printed, wanted))
         doubt = first_doubt(name, tape, given)
         if doubt:
-            say("  trac-lint says\n    " + doubt)
-        say("{} hint {} gives a hint".format(SELF, number))
+            say("  trac lint says\n    " + doubt)
+        say("{} hint {} gives a hint".format(own_name(), number))
         return 1
     after = course.next_of(exercise)
-    say("{} is solved{}".format(number, "; {} {} goes on".format(SELF, after) if after else ""))
+    say("{} is solved{}".format(number, "; {} {} goes on".format(own_name(), after) if after else ""))
     return 0
 
 
-def options():
+def options(given):
     """The command line."""
     words = Words(
-        prog="trac-course",
-        usage="trac-course [--help] [--version] [N | N.K | hint N.K | solution N.K | check N.K FILE]",
+        prog="trac course",
+        usage="trac course [--help] [--version] [N | N.K | hint N.K | solution N.K | check N.K FILE]",
         description="Shows a course in TRAC T-64, and checks its exercises. With no word it lists the lessons.",
         epilog="words:\n" + textwrap.indent(WORDS, "  "),
         formatter_class=argparse.RawDescriptionHelpFormatter,
         allow_abbrev=False,
     )
     words.add_argument("words", metavar="WORD", nargs="*", help=argparse.SUPPRESS)
-    words.add_argument("-V", "--version", action=ShowVersion, script=__file__, help="show the version of the processor")
-    return words, words.parse_args()
+    words.add_argument("-V", "--version", action=ShowVersion, help="show the version of the processor")
+    return words, words.parse_args(given)
 
 
-def main():
+def main(given):
     """Does what the command line says; returns the exit status."""
-    parser, chosen = options()
+    parser, chosen = options(given)
     words = chosen.words
     course = Course()
     if not words:
@@ -416,7 +395,3 @@ def main():
     else:
         parser.error("not understood: " + " ".join(map(shown, words)))
     return 0
-
-
-if __name__ == "__main__":
-    run("trac-course", main)

@@ -1,16 +1,11 @@
-"""A session of `trac-walk` over a file, for trac-play: its replies, with a bound on memory. And what the tools do with
-files and programs."""
-import argparse
+"""A session of `trac walk` over a program: its replies, with a bound on memory. And how a process is given a file that
+has no place on a disk."""
 import contextlib
 import os
 import resource
-import shutil
 import subprocess
 
-from tool import Fault, begin, shown, write
-
-# The most bytes of FILE that the debugger takes.
-TAPE = 33_554_432
+from trac_tools.tool import Fault, begin, write
 
 
 class NoMemory(Exception):
@@ -23,8 +18,8 @@ class Debugger:
     def __init__(self, command, memory, tape):
         self.memory = memory
         with passed_on(tape) as (file, give):
-            self.process = begin(command + [file.name], stdin=subprocess.PIPE, stdout=subprocess.PIPE, preexec_fn=self.bound,
-                                 pass_fds=[file.number])
+            self.process = begin(command + [file.name], stdin=subprocess.PIPE, stdout=subprocess.PIPE,
+                                 preexec_fn=self.bound, pass_fds=[file.number])
             file.close()
             give()
         # replies that are read and not taken
@@ -109,50 +104,3 @@ def bytes_of(text):
     """The bytes of a text as the debugger shows it."""
     front, *rest = text.split("\\x")
     return front.encode() + b"".join(bytes((int(part[:2], 16),)) + part[2:].encode() for part in rest)
-
-
-def find(name, script):
-    """Where a program stands: beside this script, or on PATH."""
-    beside = os.path.join(os.path.dirname(os.path.realpath(script)), name)
-    place = beside if os.access(beside, os.X_OK) else shutil.which(name)
-    if place is None:
-        raise Fault("the program {} is missing: looked for {}, and on PATH".format(name, shown(beside)), 70)
-    return place
-
-
-def read_file(name):
-    """The bytes of FILE, which may be no file but a pipe."""
-    try:
-        with open(name, "rb") as file:
-            tape = file.read(TAPE + 1)
-    except OSError as fault:
-        raise Fault("{}: {}".format(shown(name), fault.strerror), 6)
-    except ValueError:
-        raise Fault("{}: no name of a file".format(shown(name)), 6)
-    if len(tape) > TAPE:
-        raise Fault("{}: more than {:,} bytes".format(shown(name), TAPE), 4)
-    return tape
-
-
-def version_of(program):
-    """What the program says of its version. This also has a launcher make it ready."""
-    try:
-        said = subprocess.run([program, "--version"], stdin=subprocess.DEVNULL, stdout=subprocess.PIPE)
-    except (OSError, ValueError) as fault:
-        raise Fault("{}: {}".format(shown(program), getattr(fault, "strerror", fault)), 70)
-    if said.returncode != 0:
-        raise Fault("{} --version ended with status {}".format(shown(program), said.returncode),
-                    said.returncode if said.returncode > 0 else 70)
-    return said.stdout.decode("utf-8", "replace").strip()
-
-
-class ShowVersion(argparse.Action):
-    """An option of a script that shows the version of the processor and ends it, whatever else the command line has."""
-
-    def __init__(self, script, **more):
-        super().__init__(nargs=0, **more)
-        self.script = script
-
-    def __call__(self, parser, *_):
-        write(version_of(find("trac", self.script)) + "\n")
-        parser.exit()

@@ -1,35 +1,18 @@
-#!/bin/sh
-''':'
-# (Python does not begin where standard input is a folder)
-[ ! -d /dev/fd/0 ] || exec <&-
-exec python3 "$0" "$@"
-'''
 """Puts a TRAC program into a page, which runs it and shows each of its steps, forward and back.
 
-    ./trac-page [--input TEXTFILE] [--step N] [--budget N] [--decimals BITS] FILE > run.html
+    trac page [--input TEXTFILE] [--step N] [--budget N] [--decimals BITS] FILE > run.html
 
 The page is trac.html, with the program in it, what the program reads, and the step where the page opens: web/given.js
 takes these. It needs no other file and no network. Nothing is run here.
 """
-import signal
+import argparse
+import base64
+import json
+import os
+import re
+import zlib
 
-# (so long as Python loads what it needs, Ctrl-C is to say nothing)
-if signal.getsignal(signal.SIGINT) != signal.SIG_IGN:
-    signal.signal(signal.SIGINT, signal.SIG_DFL)
-
-import argparse  # noqa: E402
-import base64  # noqa: E402
-import json  # noqa: E402
-import os  # noqa: E402
-import re  # noqa: E402
-import sys  # noqa: E402
-import zlib  # noqa: E402
-
-HERE = os.path.dirname(os.path.realpath(__file__))
-sys.dont_write_bytecode = True
-sys.path[:0] = [os.path.join(HERE, "share"), os.path.join(HERE, "..", "share", "trac")]
-from debugger import TAPE, ShowVersion, read_file  # noqa: E402
-from tool import Fault, Words, legible, run, shown, write  # noqa: E402
+from trac_tools.tool import TAPE, Fault, ShowVersion, Words, found, legible, read_file, shown, write
 
 # The last step where a page may open, and the most steps after which it may stop.
 MOST_STEPS = 100_000_000
@@ -69,12 +52,12 @@ def width(word):
     return int(word)
 
 
-def options():
+def options(given):
     """The command line."""
     words = Words(
-        prog="trac-page",
+        prog="trac page",
         description="Prints a page for a browser that runs a TRAC program and shows each step of it, forward and back.",
-        epilog="Example: trac-page FILE > run.html",
+        epilog="Example: trac page FILE > run.html",
         allow_abbrev=False,
     )
     words.add_argument("file", metavar="FILE", help="the program")
@@ -86,18 +69,17 @@ def options():
                        "--step says so]".format(MOST_STEPS))
     words.add_argument("--decimals", metavar="BITS", type=width, default=128,
                        help="how many bits numbers have in the page: 64 or 128 [default: 128]")
-    words.add_argument("-V", "--version", action=ShowVersion, script=__file__, help="show the version of the processor")
+    words.add_argument("-V", "--version", action=ShowVersion, help="show the version of the processor")
     for name in GONE:
         words.add_argument(name, action=Gone, nargs="?", help=argparse.SUPPRESS)
-    return words.parse_args()
+    return words.parse_args(given)
 
 
 def halves_of_page():
-    """The page before and after what is put there: that beside this script, in release/, or that of an install."""
-    places = [os.path.join(HERE, "release", "trac.html"), os.path.join(HERE, "..", "share", "trac", "trac.html")]
-    place = next((place for place in places if os.path.isfile(place) and os.access(place, os.R_OK)), None)
-    if place is None:
-        raise Fault("trac.html is missing: looked for {}".format(" and ".join(map(shown, places))), 70)
+    """The page before and after what is put there."""
+    place = found("trac.html", "release/trac.html", "share/trac/trac.html")
+    if not os.path.isfile(place):
+        raise Fault("{} is no file".format(shown(place)), 70)
     with open(place, "rb") as file:
         before, mark, after = file.read().partition(BEFORE + NOTHING)
     if not mark or not after.endswith(END):
@@ -132,16 +114,12 @@ def given(chosen):
     }
 
 
-def main():
+def main(words):
     """Makes the page, and prints it whole."""
-    chosen = options()
+    chosen = options(words)
     if os.isatty(1):
-        raise Fault("the page goes to standard output, so name a file for it: trac-page FILE > run.html", 2)
+        raise Fault("the page goes to standard output, so name a file for it: trac page FILE > run.html", 2)
     before, after = halves_of_page()
     data = as_json(given(chosen))
     for part in (before, data, after):
         write(part)
-
-
-if __name__ == "__main__":
-    run("trac-page", main)

@@ -1,0 +1,17 @@
+"""Where the launcher begins these commands, with: whether it has had Ctrl-C passed over while Python began, how it was
+called, the file that it is, the folder of the programs, the command, and the words for that."""
+import signal
+import sys
+
+if sys.argv[1] == "taken":
+    # (so long as Python loads what it needs, Ctrl-C ends it and says nothing)
+    signal.signal(signal.SIGINT, signal.SIG_DFL)
+
+import importlib  # noqa: E402
+
+sys.path[0] = sys.path[0].rpartition("/")[0]
+tool = importlib.import_module("trac_tools.tool")
+tool.start(sys.argv[2:5])
+name, words = sys.argv[5], sys.argv[6:]
+main = importlib.import_module("trac_tools." + name).main
+tool.run("trac " + name, lambda: main(words))

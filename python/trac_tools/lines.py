@@ -1,0 +1,83 @@
+"""Lines that are typed at the terminal, by the line editor of Python where that is there; what was typed is kept for
+the next time, and Tab completes what a tool says. No key runs a command, or lists files."""
+import contextlib
+import os
+import sys
+
+from trac_tools.tool import tell, write
+
+try:
+    import readline
+except ImportError:
+    readline = None
+
+# How many lines are kept.
+KEPT = 1000
+
+
+def folder():
+    """The folder for what is kept: one of the user, who may have none."""
+    place = os.environ.get("XDG_STATE_HOME", "")
+    if not os.path.isabs(place):
+        place = os.path.join(os.path.expanduser("~"), ".local", "state")
+    if not os.path.isabs(place):
+        raise OSError("there is no home")
+    return os.path.join(place, "trac")
+
+
+class History:
+    """Has what is typed meanwhile kept under a name, and what was typed before brought back by the arrow keys. What
+    cannot be read or written is passed over. `complete` gives the words that may stand after a beginning of a line."""
+
+    def __init__(self, name, complete=lambda front: []):
+        self.name, self.complete, self.before, self.found = name, complete, 0, []
+
+    def __enter__(self):
+        sys.stdin.reconfigure(errors="surrogateescape")
+        if readline:
+            readline.set_completer(self.completion)
+            readline.set_completer_delims(" ")
+            readline.parse_and_bind("tab: complete")
+            readline.set_history_length(KEPT)
+            with contextlib.suppress(OSError):
+                readline.read_history_file(self.place())
+            self.before = readline.get_current_history_length()
+        return self
+
+    def place(self):
+        """The file."""
+        return os.path.join(folder(), self.name)
+
+    def completion(self, word, number):
+        """A word that begins so, by its number, as the line editor asks for it."""
+        if number == 0:
+            front = readline.get_line_buffer()[:readline.get_begidx()]
+            self.found = [it for it in self.complete(front) if it.startswith(word)]
+        return self.found[number] if number < len(self.found) else None
+
+    def __exit__(self, *_):
+        if not readline:
+            return
+        typed = readline.get_current_history_length() - self.before
+        with contextlib.suppress(OSError):
+            os.makedirs(folder(), 0o700, exist_ok=True)
+            # (answers are for nobody else)
+            os.close(os.open(self.place(), os.O_CREAT | os.O_WRONLY, 0o600))
+            # (of two sessions at once neither takes away what the other has kept)
+            if hasattr(readline, "append_history_file"):
+                readline.append_history_file(max(typed, 0), self.place())
+            else:
+                readline.write_history_file(self.place())
+
+
+def ask(prompt):
+    """A line that is typed after a prompt, with its end; none where the lines have ended. Where standard output is no
+    terminal, the prompt is told on standard error."""
+    if not os.isatty(1):
+        tell(prompt, "")
+        return sys.stdin.buffer.readline()
+    try:
+        return input(prompt).encode(sys.stdin.encoding, "surrogateescape") + b"\n"
+    except EOFError:
+        write("\n")
+        return b""

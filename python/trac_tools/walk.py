@@ -1,0 +1,127 @@
+"""Walks through a program at the terminal: `trac walk`, with lines that can be edited, brought back and completed.
+
+The proved program trac-walk does all else. It is begun with --prompt: its prompts become those of the line editor.
+"""
+import itertools
+import os
+import re
+import select
+from subprocess import PIPE
+
+from trac_tools import lines
+from trac_tools.tool import begin, program, tell, write
+
+# A prompt of the program, and what may become one.
+PROMPT, MAY_BE = re.compile(rb"([0-9]+)> "), re.compile(rb"[0-9]*>? ?")
+# What a line of the walk may begin with, and the primitives.
+COMMANDS = "s b n N o O u r d D m w y l g i e p f t h q help quit exit".split()
+PRIMITIVES = (
+    "ad bc bi br bs bu cc cl cm cn cr cs da dd ds dv eb eq fb gr hl in ln ml pf ps rc rs sb ss su tf tn"
+).split()
+# What may stand after a command: names of forms, calls, or these words.
+AFTER = {"s": ["end"], "b": ["start"], "p": ["all"]}
+OF_FORMS, OF_CALLS = ("w", "y", "f"), ("u", "r")
+# Where a program names a form that is to be, by a name that can be typed as it is.
+NAMED = re.compile(rb'#\(ds,([^\x00-\x20\x7f-\xff,()#"\\]+),', re.I)
+# The options that take a word.
+VALUED = ("--journal", "--keep", "--decimals", "--memory")
+# So much of FILE is looked through for names.
+LOOKED = 1 << 20
+
+
+def file_of(words):
+    """FILE of a command line; none if that names none."""
+    words = iter(words)
+    for word in words:
+        if word == "--":
+            return next(words, None)
+        if word in VALUED:
+            next(words, None)
+        elif not word.startswith("-"):
+            return word
+    return None
+
+
+def forms_of(name):
+    """The names of the forms that FILE defines. (Only a file is looked at: a pipe gives its bytes once.)"""
+    if name is None or not os.path.isfile(name):
+        return []
+    try:
+        with open(name, "rb") as file:
+            return sorted({name.decode() for name in NAMED.findall(file.read(LOOKED))})
+    except OSError:
+        return []
+
+
+def completed(front, forms):
+    """The words that may stand after this beginning of a line."""
+    words = front.split()
+    if not words:
+        return COMMANDS
+    if words[0] in OF_FORMS and len(words) == 1:
+        return forms
+    if words[0] in OF_CALLS:
+        return PRIMITIVES if len(words) == 1 else forms if words[1].lower() == "cl" and len(words) == 2 else []
+    return AFTER.get(words[0], []) if len(words) == 1 else []
+
+
+class Session:
+    """The program, by its streams."""
+
+    def __init__(self, words):
+        # (a file that the shell has opened is for the program too)
+        self.process = begin([program("trac-walk"), *words], stdin=PIPE, stdout=PIPE, close_fds=False)
+        self.said = b""
+
+    def prompt(self):
+        """Shows what it says up to its next prompt, and returns that; none where it has ended."""
+        out = self.process.stdout.fileno()
+        while True:
+            part = os.read(out, 65536)
+            self.said += part
+            front, _, last = self.said.rpartition(b"\n")
+            is_prompt = PROMPT.fullmatch(last) and not select.select([out], [], [], 0)[0]
+            shown = len(self.said) - (len(last) if part and (is_prompt or MAY_BE.fullmatch(last)) else 0)
+            write(self.said[:shown])
+            self.said = self.said[shown:]
+            if not part:
+                return None
+            if is_prompt:
+                self.said = b""
+                return last.decode()
+
+    def give(self, line):
+        """Gives it a line; whether it is taken."""
+        try:
+            self.process.stdin.write(line)
+            self.process.stdin.flush()
+        except BrokenPipeError:
+            return False
+        return True
+
+    def end(self):
+        """Ends its lines, and shows the rest; returns its status."""
+        try:
+            self.process.stdin.close()
+        except BrokenPipeError:
+            pass
+        while self.prompt():
+            pass
+        return self.process.wait()
+
+
+def main(words):
+    """Walks; returns the exit status."""
+    forms = forms_of(file_of(words))
+    with lines.History("walk", lambda front: completed(front, forms)):
+        session = Session(words)
+        for number in itertools.count():
+            prompt = session.prompt()
+            if prompt is None:
+                break
+            if number == 0:
+                tell("h lists the commands, q ends")
+            line = lines.ask(prompt)
+            if not line or not session.give(line):
+                break
+        return session.end()
