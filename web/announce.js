@@ -1,4 +1,7 @@
 // What is said to those who do not see the page: at a step its sentence, while it plays nothing, and the last one at its end.
+import { grouped, signOf } from "./bytes.js";
+import { runsOf } from "./cells.js";
+import { byId } from "./elements.js";
 
 // So many milliseconds it waits whether more is to be said.
 const PAUSE = 80;
@@ -8,13 +11,13 @@ const REST = 1000;
 const SAID = ["ending", "note", "step"];
 
 // The words of a sentence. A byte that has no letter stands apart from what is beside it.
-function wordsSaid(sentence) {
+export function wordsSaid(sentence) {
   const copy = sentence.cloneNode(true);
   for (const byte of copy.querySelectorAll(".byte")) byte.replaceWith(` ${byte.textContent} `);
   return copy.textContent;
 }
 
-class Announcer {
+export class Announcer {
   constructor() {
     this.box = byId("said");
     this.words = new Map();
@@ -61,12 +64,13 @@ class Announcer {
 }
 
 // Says how many calls a search leaves.
-function startAnnouncing(page) {
+/** @param {import("./page.js").Page} page */
+export function startAnnouncing(page) {
   byId("filter").addEventListener("input", () => page.announcer.say("note", `${byId("tree-count").textContent} calls`));
 }
 
 // What a run came to, in words.
-function endingSaid(sentence, output) {
+export function endingSaid(sentence, output) {
   if (output.length === 0) return `${sentence} Nothing is printed.`;
   if (output.length > 60) return `${sentence} ${grouped(output.length)} bytes are printed.`;
   return `${sentence} Printed is: ${[...runsOf(output)].map((run) => run.text ?? ` ${signOf(run.byte)} `).join("")}`;

@@ -1,9 +1,12 @@
 // The large view, for a class: the rule and the text fill the window, in large type.
+import { isOn, isWriting } from "./focus.js";
+import { byId, elementOf, focused } from "./elements.js";
 
 // Keys that are for what the large view leaves out: they leave it first.
 const OUTSIDE_KEYS = ["/", "?", "h"];
 
-class Big {
+export class Big {
+  /** @param {import("./page.js").Page} page */
   constructor(page) {
     this.page = page;
     this.button = byId("big");
@@ -22,17 +25,17 @@ class Big {
 
   enter() {
     if (!this.page.run) return;
-    this.before = document.activeElement;
+    this.before = focused();
     this.scrolled = scrollY;
     document.documentElement.dataset.big = "yes";
     this.shown();
     this.button.focus({ preventScroll: true });
-    this.page.note("Esc or this button leaves the large view");
+    this.page.view.note("Esc or this button leaves the large view");
   }
 
   leave() {
     delete document.documentElement.dataset.big;
-    this.page.note("");
+    this.page.view.note("");
     this.shown();
     scrollTo(0, this.scrolled);
     if (this.before?.isConnected && this.before !== document.body) this.before.focus();
@@ -46,7 +49,7 @@ class Big {
   }
 
   key(event) {
-    if (!this.isOn || event.ctrlKey || event.altKey || event.metaKey || isWriting(event.target)) return;
+    if (!this.isOn || event.ctrlKey || event.altKey || event.metaKey || isWriting(elementOf(event))) return;
     const leaves = event.key === "Escape";
     if (leaves || (OUTSIDE_KEYS.includes(event.key) && isOn(event.key))) this.leave();
     if (leaves) event.preventDefault();

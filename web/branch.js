@@ -1,6 +1,8 @@
 // Why a call gave what it gave: `eq` compares bytes, `gr` and the decimals take the numbers at the ends of their
 // arguments, and `cs`, `cc`, `cn` and `in` give their default where they read nothing, as docs/language.md says. Where the
 // value is another than these rules give, nothing is said.
+import { boundary, grouped, isOnce, lengthOf } from "./bytes.js";
+import { DECIMALS } from "./given.js";
 
 // Where the digits begin with which a text ends. (The sign of a byte that has no letter may end in digits, too.)
 function digitsFrom(text) {
@@ -13,7 +15,7 @@ function digitsFrom(text) {
 }
 
 // The number at the end of a text, and what stands before it. Zero has no digits.
-function numberAt(text) {
+export function numberAt(text) {
   const from = digitsFrom(text);
   const isSigned = from < text.length && from > 0 && (text[from - 1] === "+" || text[from - 1] === "-");
   const digits = text.slice(from).replace(/^0+/, "");
@@ -58,7 +60,7 @@ function argumentAt(call, place) {
 }
 
 // Why the words before the value are these, or nothing.
-function reasonOf(move) {
+export function reasonOf(move) {
   const name = move.call.texts[0].toLowerCase();
   if (name === "eq") return reasonOfEqual(move);
   if (name === "gr") return reasonOfGreater(move);
@@ -149,7 +151,7 @@ function wordsOfResult(name, value, one, other, prefix) {
 // Calls that read a form at its pointer, and which argument they give where they read nothing.
 const READERS = { cs: 2, cc: 2, cn: 3, in: 3 };
 
-function isReader(call) {
+export function isReader(call) {
   return Object.hasOwn(READERS, call.texts[0].toLowerCase());
 }
 

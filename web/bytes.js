@@ -1,6 +1,11 @@
 // Texts as the debugger prints them: bytes 32 to 126 but \ [ ] stand as themselves, every other byte as \x and two digits.
+import { labelled, make } from "./elements.js";
 
-// Splits a text into runs of plain bytes and single other bytes.
+/**
+ * Splits a text into runs of plain bytes and single other bytes.
+ * @param {string} text
+ * @returns {{ plain?: string, byte?: number }[]}
+ */
 function piecesOf(text) {
   const pieces = [];
   for (const part of text.split(/(\\x..)/)) {
@@ -21,26 +26,26 @@ function addPlain(pieces, last, text) {
 }
 
 // How many bytes a text has.
-function lengthOf(text) {
+export function lengthOf(text) {
   let length = text.length;
   for (let at = text.indexOf("\\"); at >= 0; at = text.indexOf("\\", at + 4)) length -= 3;
   return length;
 }
 
 // Whether these signs stand once in a text.
-function isOnce(text, signs) {
+export function isOnce(text, signs) {
   const at = text.indexOf(signs);
   return at >= 0 && text.indexOf(signs, at + signs.length) < 0;
 }
 
 // A place at or before this one that is not within the sign of a byte.
-function boundary(text, place) {
+export function boundary(text, place) {
   const sign = place > 0 ? text.lastIndexOf("\\", place - 1) : -1;
   return sign >= 0 && sign + 4 > place ? sign : place;
 }
 
 // The bytes of a text.
-function bytesOf(text) {
+export function bytesOf(text) {
   const bytes = new Uint8Array(lengthOf(text));
   for (let at = 0, place = 0; at < text.length; at++, place++) {
     if (text[at] === "\\") {
@@ -52,7 +57,7 @@ function bytesOf(text) {
 }
 
 // The bytes of a text in base64. (There may be very many.)
-function bytesOfSigns(text) {
+export function bytesOfSigns(text) {
   const signs = atob(text), bytes = new Uint8Array(signs.length);
   for (let at = 0; at < signs.length; at++) bytes[at] = signs.charCodeAt(at);
   return bytes;
@@ -63,36 +68,19 @@ const CONTROLS = "NUL SOH STX ETX EOT ENQ ACK BEL BS TAB LF VT FF CR SO SI " +
   "DLE DC1 DC2 DC3 DC4 NAK SYN ETB CAN EM SUB ESC FS GS RS US";
 
 // The sign for a byte that has no letter of its own.
-function signOf(byte) {
+export function signOf(byte) {
   if (byte < 32) return CONTROLS.split(" ")[byte];
   return byte === 127 ? "DEL" : byte.toString(16);
 }
 
-const byId = (id) => document.getElementById(id);
-
-// Makes an element with a class and a text.
-function make(tag, name, text) {
-  const element = document.createElement(tag);
-  if (name) element.className = name;
-  if (text !== undefined) element.textContent = text;
-  return element;
-}
-
-// Gives an element a name for screen readers.
-function labelled(element, label) {
-  element.setAttribute("role", "img");
-  element.setAttribute("aria-label", label);
-  return element;
-}
-
 // A byte that has no letter. Who does not see its frame is told that its sign is no text.
-function asByte(element, byte) {
+export function asByte(element, byte) {
   element.textContent = signOf(byte);
   return labelled(element, byte > 127 ? `byte ${signOf(byte)}` : signOf(byte));
 }
 
 // Adds a text to an element, all of it.
-function addText(parent, text) {
+export function addText(parent, text) {
   for (const piece of piecesOf(text)) {
     if (piece.plain !== undefined) parent.append(piece.plain);
     else parent.append(asByte(make("span", "byte"), piece.byte));
@@ -100,7 +88,7 @@ function addText(parent, text) {
 }
 
 // Adds a text in a span of a class, with its middle left out where it is longer than so many signs.
-function addShort(parent, text, name, most) {
+export function addShort(parent, text, name, most) {
   const span = make("span", name);
   if (text.length <= most) addText(span, text);
   else {
@@ -115,17 +103,17 @@ function addShort(parent, text, name, most) {
 }
 
 // What stands in place of so many bytes.
-function leftOut(count) {
+export function leftOut(count) {
   return make("span", "left-out", ` … ${grouped(count)} bytes … `);
 }
 
 // A number with commas.
-function grouped(count) {
+export function grouped(count) {
   return String(count).replace(/\B(?=(\d{3})+$)/g, ",");
 }
 
 // A text as plain signs, for lists and labels: short, and with a sign for each byte.
-function plainOf(text, most) {
+export function plainOf(text, most) {
   const front = text.length > most ? boundary(text, most) : text.length;
   let plain = "";
   for (const piece of piecesOf(text.slice(0, front))) plain += piece.plain ?? `‹${signOf(piece.byte)}›`;
@@ -133,8 +121,37 @@ function plainOf(text, most) {
 }
 
 // Line and column of a byte, both counted from 1, as trac-walk counts them.
-function lineAndColumn(bytes, number) {
+export function lineAndColumn(bytes, number) {
   const front = bytes.subarray(0, number);
   const line = front.reduce((count, byte) => count + (byte === 10 ? 1 : 0), 1);
   return `line ${grouped(line)}, column ${grouped(number - front.lastIndexOf(10))}`;
+}
+
+// Bytes, one after the other.
+export function joined(parts) {
+  const bytes = new Uint8Array(parts.reduce((sum, part) => sum + part.length, 0));
+  let at = 0;
+  for (const part of parts) {
+    bytes.set(part, at);
+    at += part.length;
+  }
+  return bytes;
+}
+
+// The text of bytes that are UTF-8, or nothing.
+export function textOf(bytes) {
+  try {
+    return new TextDecoder("utf-8", { fatal: true, ignoreBOM: true }).decode(bytes);
+  } catch {
+    return null;
+  }
+}
+
+// Shows words in an element: a byte without a letter has its frame.
+export function showFramed(parent, words) {
+  parent.replaceChildren();
+  words.split(/‹(\w+)›/).forEach((part, at) => {
+    if (at % 2) parent.append(make("span", "byte", part));
+    else if (part) parent.append(part);
+  });
 }

@@ -1,4 +1,5 @@
 // The calls of a run, as trac-walk lists them.
+import { endOfInput } from "./asking.js";
 
 // So many calls are listed, the last of the run.
 const MOST_CALLS = 100000;
@@ -6,8 +7,26 @@ const MOST_CALLS = 100000;
 const MOST_LIST = 1 << 25;
 const CALL_LINE = /^(\d+) {2}((?: {2})*)(##?\(.*)$/;
 
+/**
+ * The calls of a run: for each its step, how many are begun around it, its text, and the call that it was an argument of.
+ * @typedef {object} Calls
+ * @property {number[]} steps
+ * @property {number[]} depths
+ * @property {string[]} texts
+ * @property {ArrayLike<number>} parents
+ * @property {number} from the first step whose calls are listed
+ * @property {number} to where the list ends
+ * @property {boolean} [isClosed] whether the input has ended
+ * @property {{ stride: number, depths: number[] }} [begun] how many calls are begun, every so many steps
+ * @property {{ step: number, words: string }[]} [prints]
+ * @property {{ from: number, to: number }[]} [idles] where the idle program reads on
+ */
+
+/** @type {Calls} */
+export const NO_CALLS = { steps: [], depths: [], texts: [], parents: [], from: 0, to: 0 };
+
 // The calls of a run. Where they are too long together, they are cut.
-async function callsOf(engine, tape, end, isClosed) {
+export async function callsOf(engine, tape, end, isClosed) {
   for (const list of [`t ${MOST_CALLS} all`, `t ${MOST_CALLS}`]) {
     const commands = `${[...endOfInput(isClosed), `s ${end}`, list].join("\n")}\n`;
     const { status, bytes } = await engine.ask("walk", tape, { commands, most: MOST_LIST }, 1 << 22);
@@ -16,14 +35,10 @@ async function callsOf(engine, tape, end, isClosed) {
   return { ...callsSaid("", end), isClosed };
 }
 
-// What trac-walk is told first of a run whose input has ended: else it waits where that goes on. It says where it stands.
-function endOfInput(isClosed) {
-  return isClosed ? ["e"] : [];
-}
-
 // The calls that trac-walk lists, before the step where it stands.
 function callsSaid(text, end) {
-  const calls = { steps: [], depths: [], texts: [], parents: [] };
+  /** @type {Calls} */
+  const calls = { ...NO_CALLS, steps: [], depths: [], texts: [], to: end };
   for (const line of text.split("\n")) {
     const found = CALL_LINE.exec(line);
     if (!found || Number(found[1]) >= end) continue;
@@ -47,4 +62,18 @@ function parentsOf(depths) {
     open.push(index);
   });
   return parents;
+}
+
+// The name of a call as it is listed, in small letters.
+export function nameSaid(text) {
+  return /^##?\(([A-Za-z]{2})[,)]/.exec(text)?.[1].toLowerCase() ?? "";
+}
+
+// How many calls each call is within.
+export function levelsOf(parents) {
+  const levels = new Int32Array(parents.length);
+  for (let index = parents.length - 1; index >= 0; index--) {
+    if (parents[index] >= 0) levels[index] = levels[parents[index]] + 1;
+  }
+  return levels;
 }

@@ -1,11 +1,13 @@
 // Texts as they are shown: no sign without its byte's number, so that each can be followed back.
+import { asByte, boundary, bytesOf, leftOut, lengthOf } from "./bytes.js";
+import { around, make } from "./elements.js";
 
 // Signs that are shown by the numbers of their bytes: they have no shape of their own, or change that of others.
 const SHAPELESS = /[\p{C}\p{Zl}\p{Zp}]/u;
 
 // Splits bytes into runs of signs that have equally many bytes, and single other bytes. `perUnit` is how many bytes a unit of the
 // script's text stands for.
-function* runsOf(bytes) {
+export function* runsOf(bytes) {
   let at = 0;
   while (at < bytes.length) {
     const width = widthAt(bytes, at);
@@ -29,7 +31,7 @@ function widthAt(bytes, at) {
 }
 
 // Adds bytes to an element. The first of them has this number. With `lines`, line feeds end lines and tabs are blank.
-function addCells(parent, bytes, first = 0, lines = false) {
+export function addCells(parent, bytes, first = 0, lines = false) {
   for (const run of runsOf(bytes)) {
     const cell = make("span", run.text === undefined ? "byte" : "");
     cell.dataset.byte = String(first + run.from);
@@ -48,7 +50,7 @@ function addCells(parent, bytes, first = 0, lines = false) {
 const TAGS = { gone: "del", put: "ins", moved: "ins", coming: "mark" };
 
 // Adds a text as the debugger prints it, in a span of a class; where it is long its middle is left out.
-function addTextCells(parent, text, first = 0, name = "", most = Infinity) {
+export function addTextCells(parent, text, first = 0, name = "", most = Infinity) {
   const span = make(TAGS[name.split(" ")[0]] ?? "span", name);
   if (text.length <= most) addCells(span, bytesOf(text), first);
   else {
@@ -63,7 +65,7 @@ function addTextCells(parent, text, first = 0, name = "", most = Infinity) {
 }
 
 // An element that shows a text of a place, as "output" or "argument 3 1" of a state at a step, if its bytes can be followed.
-function placed(element, place, step) {
+export function placed(element, place, step) {
   if (step !== undefined) {
     element.dataset.place = place;
     element.dataset.step = String(step);
@@ -77,7 +79,7 @@ function wholeUnit(text, unit) {
 }
 
 // The range of the sign that has a byte within an element, or nothing.
-function rangeOfByte(holder, number) {
+export function rangeOfByte(holder, number) {
   for (const cell of holder.querySelectorAll("[data-byte]")) {
     const from = Number(cell.dataset.byte), per = Number(cell.dataset.per ?? 0);
     const count = per ? cell.firstChild.length * per : 1;
@@ -96,9 +98,9 @@ function rangeOfByte(holder, number) {
 }
 
 // The byte under a point: its number, and the element that says where it stands.
-function byteUnder(x, y) {
-  const element = document.elementFromPoint(x, y)?.closest("[data-byte]");
-  const holder = element?.closest("[data-place]");
+export function byteUnder(x, y) {
+  const element = around(document.elementFromPoint(x, y), "[data-byte]");
+  const holder = around(element, "[data-place]");
   if (!holder) return null;
   const within = unitUnder(element, x, y) * Number(element.dataset.per ?? 0);
   return { holder, number: Number(element.dataset.byte) + within };

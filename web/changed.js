@@ -1,5 +1,8 @@
 // Which call changed a form last: its text, its gaps or its pointer. States before and after calls say it, so its name may have
 // any bytes.
+import { formIn } from "./parts.js";
+import { windowOf } from "./story.js";
+import { callsOf, nameSaid } from "./calls.js";
 
 // Calls that may change the form which they name first, and calls that may change others.
 const CHANGES_ONE = new Set(["ds", "ss", "cr", "cs", "cc", "cn", "in"]);
@@ -9,7 +12,7 @@ const FIRST_LOOK = 8;
 const MORE_LOOKS = 4;
 
 // Whether a call of this name may change a form.
-function isForming(name) {
+export function isForming(name) {
   return CHANGES_ONE.has(name) || CHANGES_MANY.has(name);
 }
 
@@ -19,11 +22,6 @@ function mayChange(text, form) {
   const name = nameSaid(text);
   const rest = text.slice(text.indexOf("(") + name.length + 2);
   return CHANGES_MANY.has(name) || (CHANGES_ONE.has(name) && (rest.startsWith(form) || rest.startsWith("(" + form) || rest.includes("..")));
-}
-
-// The text of a form in a state, or nothing.
-function formIn(state, name) {
-  return state.parts.forms.find((form) => form.name === name)?.text;
 }
 
 // The last of these calls, before a step, that changed a form, or nothing.
@@ -43,7 +41,7 @@ async function changeIn(story, calls, step, name) {
 }
 
 // The step of the call that changed a form last, before a step, or nothing. Calls before those that are listed are listed anew.
-async function lastChange(engine, tape, story, listed, step, name) {
+export async function lastChange(engine, tape, story, listed, step, name) {
   for (let calls = listed; ; calls = await callsOf(engine, tape, calls.from, calls.isClosed)) {
     const found = await changeIn(story, calls, step, name);
     if (found !== null || calls.from === 0) return found;

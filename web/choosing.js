@@ -1,7 +1,11 @@
 // In a text that has the focus, arrows choose a sign and Enter follows it, as a click does.
+import { grouped } from "./bytes.js";
+import { rangeOfByte } from "./cells.js";
+import { setLight } from "./lights.js";
+import { elementOf } from "./elements.js";
 
 // Texts whose signs can be chosen.
-const TEXTS = "#output, #rules, #neutral, #active, #begun, [data-place][tabindex], .way-row .code[tabindex]";
+export const TEXTS = "#output, #rules, #neutral, #active, #begun, [data-place][tabindex], .way-row .code[tabindex]";
 // In these, the first sign is chosen first, and not the last.
 const FORWARD = new Set(["active", "rules"]);
 
@@ -31,6 +35,7 @@ function signName({ holder, number }) {
 }
 
 // Moves the choice of a sign within a text, or follows it. Returns whether the key was for that.
+/** @param {import("./page.js").Page} page */
 function chooseSign(page, text, key) {
   if (!["ArrowLeft", "ArrowRight", "Enter"].includes(key)) return false;
   const signs = signsIn(text);
@@ -39,7 +44,7 @@ function chooseSign(page, text, key) {
   const at = signs.findIndex((sign) => signName(sign) === text.dataset.chosen);
   if (key === "Enter") {
     const { holder, number } = signs.at(at >= 0 ? at : isForward ? 0 : -1);
-    page.follow(holder, number).then(() => page.way.focus());
+    page.cursor.follow(holder, number).then(() => page.way.focus());
     return true;
   }
   const next = at < 0 ? (isForward ? 0 : signs.length - 1) : at + (key === "ArrowLeft" ? -1 : 1);
@@ -50,12 +55,13 @@ function chooseSign(page, text, key) {
 }
 
 // Marks the chosen sign, brings it in view, and says what it is.
+/** @param {import("./page.js").Page} page */
 function showChosen(page, text, { holder, number }) {
   const range = rangeOfByte(holder, number);
   if (!range) return;
   setLight("chosen", [range]);
   bringInView(text, range);
-  page.note(`byte ${grouped(number + 1)}: ${BLANKS[range] ?? range}`);
+  page.view.note(`byte ${grouped(number + 1)}: ${BLANKS[range] ?? range}`);
 }
 
 // Brings a range in view of its text, which scrolls, or is one line that is cut at its ends.
@@ -80,12 +86,13 @@ function forgetChosen(text) {
   line.style.transform = "";
 }
 
-function startChoosing(page) {
+/** @param {import("./page.js").Page} page */
+export function startChoosing(page) {
   document.addEventListener("keydown", (event) => {
-    if (!event.target.matches?.(TEXTS) || event.ctrlKey || event.altKey || event.metaKey || event.shiftKey) return;
-    if (!page.run || !chooseSign(page, event.target, event.key)) return;
+    if (!elementOf(event).matches?.(TEXTS) || event.ctrlKey || event.altKey || event.metaKey || event.shiftKey) return;
+    if (!page.run || !chooseSign(page, elementOf(event), event.key)) return;
     event.preventDefault();
     event.stopImmediatePropagation();
   }, true);
-  document.addEventListener("focusout", (event) => forgetChosen(event.target));
+  document.addEventListener("focusout", (event) => forgetChosen(elementOf(event)));
 }

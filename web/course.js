@@ -1,4 +1,12 @@
 // The course: a lesson or an exercise beside the editor. An exercise is checked by running the program of the editor.
+import { leftOut } from "./bytes.js";
+import { addCells } from "./cells.js";
+import { Stopped } from "./engine.js";
+import { isOff, setOff } from "./focus.js";
+import { addMarkdown, titleOf } from "./markdown.js";
+import { inputAfter, judged } from "./judging.js";
+import { buttonOf, byId, make } from "./elements.js";
+import { startList } from "./lists.js";
 
 const SHOWN_BYTES = 4096;
 // What a lesson says of the exercises in a terminal: here `next` leads to them. And sentences of what only a terminal shows.
@@ -10,11 +18,10 @@ function inPage(text) {
   return text.replace(IN_TERMINAL, "").replace(OF_SHELL, "");
 }
 
-class Course {
-  constructor(page, open) {
+export class Course {
+  /** @param {import("./page.js").Page} page */
+  constructor(page) {
     this.page = page;
-    // what opens a program, under a name
-    this.open = open;
     const lessons = JSON.parse(byId("course-data").textContent);
     // lessons, each before its exercises
     this.items = lessons.flatMap((lesson) => [lesson, ...lesson.exercises]);
@@ -58,17 +65,10 @@ class Course {
     byId("course").focus();
   }
 
-  button(word, does) {
-    const button = make("button", "", word);
-    button.type = "button";
-    button.addEventListener("click", () => does(button));
-    return button;
-  }
-
   // A program that can be opened in the editor.
   program(name, text) {
     const frame = make("div", "program");
-    const open = this.button(`Open ${name}`, () => this.open(name, new TextEncoder().encode(text)));
+    const open = buttonOf(`Open ${name}`, () => this.page.open(name, new TextEncoder().encode(text)));
     frame.append(make("pre", "block", text.replace(/\n$/, "")), open);
     return frame;
   }
@@ -80,13 +80,13 @@ class Course {
     this.said = make("div", "judged");
     this.said.setAttribute("role", "status");
     const bar = make("p", "bar");
-    const check = this.button("Check", () => this.check(runs));
+    const check = buttonOf("Check", () => this.check(runs));
     check.className = "main";
     // (a hint has no title)
     const hinted = (at) => addMarkdown(at, `#\n${hint}`, (name, text) => this.program(name, text));
     const solved = (at) => at.append(this.program("solution.trac", solution));
-    bar.append(check, this.button("Hint", (button) => this.unfold(button, hinted)));
-    bar.append(this.button("A solution", (button) => this.unfold(button, solved)));
+    bar.append(check, buttonOf("Hint", (button) => this.unfold(button, hinted)));
+    bar.append(buttonOf("A solution", (button) => this.unfold(button, solved)));
     place.append(bar, this.said);
   }
 
@@ -133,12 +133,12 @@ class Course {
     } catch (fault) {
       said.replaceChildren(fault instanceof Stopped ? "The check was stopped." : fault.message);
     }
-    said.lastChild.scrollIntoView?.({ block: "nearest" });
+    said.lastElementChild?.scrollIntoView({ block: "nearest" });
   }
 
   // What is said of a run that fails.
   failure({ at, printed, why, where }, program, runs) {
-    const run = this.button("Run it on this input", () => this.page.start(inputAfter(program, runs[at][0])));
+    const run = buttonOf("Run it on this input", () => this.page.runs.start(inputAfter(program, runs[at][0])));
     const last = make("p", "", where ? `${where[0].toUpperCase()}${where.slice(1)}. ` : "");
     last.append(run);
     const first = make("p", "wrong", `✗ Run ${at + 1} of ${runs.length}: ${why}`);

@@ -1,14 +1,46 @@
 // The cursor: the step of the run that is shown, and moves from it to others.
+import { wordsSaid } from "./announce.js";
+import { movedAnew } from "./arriving.js";
+import { foldedSpan, tokenLength, tokenStart } from "./stretch.js";
+import { callsOf } from "./calls.js";
+import { lastChange } from "./changed.js";
+import { showUnit, UNITS } from "./walking.js";
+import { keepFocus } from "./focus.js";
+import { byId } from "./elements.js";
+import { listAround } from "./gathering.js";
 
 // Less than so much output may be had with each state.
 const SMALL_OUTPUT = 1 << 16;
-// How far a step goes, as the switch says: what the buttons do then, and the name of that.
-const UNITS = ["byte", "token", "call"];
-// So many tokens a second it may play.
-const SPEEDS = [1, 2, 4, 8, 16, 32];
-const SPEED = 8;
 
-class Cursor extends View {
+/**
+ * A stretch of steps that was passed as one.
+ * @typedef {{ from: number, to: number }} Passed
+ */
+
+export class Cursor {
+  /** @param {import("./page.js").Page} page */
+  constructor(page) {
+    this.page = page;
+    this.step = 0;
+    // how much is read there
+    this.read = 0;
+    // where the last move began, and the token that it passed
+    this.from = 0;
+    /** @type {Passed | null} */
+    this.passed = null;
+    // what is asked for later makes an earlier answer worthless
+    this.turn = 0;
+    this.playing = 0;
+    this.unit = "token";
+    // whether each step of the idle program is shown
+    this.showsIdle = false;
+  }
+
+  // Another run is shown, at this step.
+  put(step) {
+    [this.step, this.passed] = [step, null];
+  }
+
   // Goes to a step that was asked for by itself: so what it does is said, and not what led there.
   visit(step) {
     return this.go(step, null, "next");
@@ -16,27 +48,34 @@ class Cursor extends View {
 
   // Goes to the first call that a search leaves.
   visitFound() {
-    const { calls, shown } = this.tree;
+    const { calls, shown } = this.page.tree;
     if (shown.length) this.visit(calls.steps[shown[0]]);
-    else this.note("no call has this");
+    else this.page.view.note("no call has this");
   }
 
-  // Goes to a step, and shows it; where a token was passed on the way, with what that came to. Says what led there, or what is
-  // next, or nothing.
+  /**
+   * Goes to a step, and shows it; where a token was passed on the way, with what that came to. Says what led there, or what is
+   * next, or nothing.
+   * @param {number} wanted
+   * @param {Passed | null} passed
+   * @param {"last" | "next" | null} said
+   */
   async go(wanted, passed = null, said = "last") {
-    if (!this.run) return;
-    const step = Math.min(Math.max(wanted, 0), this.run.end);
+    const { run, view, announcer } = this.page;
+    if (!run) return;
+    const step = Math.min(Math.max(wanted, 0), run.end);
     const turn = ++this.turn;
     try {
-      this.story.cursor = step;
-      const states = await this.story.around(step, this.run.end, () => turn === this.turn);
+      run.story.cursor = step;
+      const states = await run.story.around(step, run.end, () => turn === this.turn);
       if (turn !== this.turn || !states) return;
       [this.step, this.passed] = [step, passed];
-      keepFocus(() => this.draw(states));
-      if (said) this.announcer.step(wordsSaid(byId(said)));
-      this.story.widen(this.run.end);
+      keepFocus(() => view.draw(states));
+      if (said) announcer.step(wordsSaid(byId(said)));
+      run.story.widen(run.end);
+      listAround(this.page);
     } catch (fault) {
-      this.say(fault);
+      view.say(fault);
     }
   }
 
@@ -44,26 +83,50 @@ class Cursor extends View {
     return this.go(this.step, this.passed, null);
   }
 
+  // The states around the step that is shown.
+  states() {
+    const { run } = this.page;
+    return run.story.around(this.step, run.end);
+  }
+
   // Does what a button or a key is for.
   async act(action) {
+    const { run, view } = this.page;
     if (action.id !== "play") this.play(0);
     if (action.id || action.way) this.from = this.step;
-    this.note("");
-    if (action.way && this.step === (action.way < 0 ? 0 : this.run.end)) return void this.note(action.way < 0 ? "this is the start" : "this is the end");
+    view.note("");
+    if (action.way && this.step === (action.way < 0 ? 0 : run.end)) return void view.note(action.way < 0 ? "this is the start" : "this is the end");
     try {
       await action.does();
     } catch (fault) {
-      this.say(fault);
+      view.say(fault);
     }
+    return undefined;
   }
 
   // A step back or forward, as far as the switch says.
   unitBack() {
-    return { byte: () => this.go(this.step - 1), token: () => this.tokenBack(), call: () => this.walk("r") }[this.unit]();
+    return { byte: () => this.stepBack(), token: () => this.tokenBack(), call: () => this.walk("r") }[this.unit]();
   }
 
   unitForward() {
-    return { byte: () => this.go(this.step + 1), token: () => this.token(), call: () => this.walk("u") }[this.unit]();
+    return { byte: () => this.stepForward(), token: () => this.token(), call: () => this.walk("u") }[this.unit]();
+  }
+
+  // A step; those by which the idle program reads on are one, unless each is asked for.
+  stepBack() {
+    return this.go(foldedSpan(this.page, this.step - 1)?.from ?? this.step - 1);
+  }
+
+  stepForward() {
+    return this.go(foldedSpan(this.page, this.step)?.to ?? this.step + 1);
+  }
+
+  // Shows each step of the idle program, or has them taken as one.
+  showIdle(isShown = !this.showsIdle) {
+    this.showsIdle = isShown;
+    byId("idle").setAttribute("aria-pressed", String(isShown));
+    return this.redraw();
   }
 
   setUnit(unit) {
@@ -73,27 +136,28 @@ class Cursor extends View {
   }
 
   async token() {
-    const { at } = await this.story.around(this.step, this.run.end);
-    const [from, to] = [this.step, this.step + tokenLength(this, at, this.step)];
+    const { at } = await this.states();
+    const [from, to] = [this.step, this.step + tokenLength(this.page, at, this.step)];
     await this.go(to, { from, to });
   }
 
   async tokenBack() {
     const to = this.step;
     // (a long token that was just passed need not be looked for)
-    const from = this.passed?.to === to ? this.passed.from : await tokenStart(this, to);
+    const from = this.passed?.to === to ? this.passed.from : await tokenStart(this.page, to);
     await this.go(from, { from, to });
   }
 
   // A move of trac-walk. What it says beside where it stands is shown. Of a move to a call, or to where one begins, that is said.
   async walk(line) {
-    const { story } = this;
-    const isSmall = story.isSmall && this.run.output.length < SMALL_OUTPUT;
-    const { said, step, window } = await movedTo(this.engine, this, this.step, line, isSmall);
-    if (window && story === this.story) story.keep(window);
+    const { engine, run, view } = this.page;
+    const { story } = run;
+    const isSmall = story.isSmall && run.output.length < SMALL_OUTPUT;
+    const { said, step, window } = await movedAnew(engine, run, this.step, line, isSmall);
+    if (window && run === this.page.run) story.keep(window);
     const note = noteOf(said, line);
     if (step !== this.step || !note) await this.go(step, null, "urNO".includes(line) ? "next" : "last");
-    this.note(note);
+    view.note(note);
   }
 
   async returnTo() {
@@ -101,55 +165,58 @@ class Cursor extends View {
   }
 
   async whoChanged(name) {
-    const forms = (await this.story.around(this.step, this.run.end)).at.parts.forms;
+    const { tabs, view } = this.page;
+    const { forms } = (await this.states()).at.parts;
     const wanted = name ?? (forms.length === 1 ? forms[0].name : null);
-    if (forms.length === 0) this.note("there is no form at this step");
+    if (forms.length === 0) view.note("there is no form at this step");
     else if (wanted === null) {
-      this.tabs.choose("forms");
+      tabs.choose("forms");
       byId("forms").querySelector("button")?.focus();
-      this.note("which form? each has a button");
+      view.note("which form? each has a button");
     }
     else await this.goToChange(wanted);
   }
 
   // Goes to the call that changed a form last.
   async goToChange(name) {
-    const { engine, tape, story, step } = this;
-    const { calls } = this.tree;
-    const listed = calls.steps.length ? calls : await callsOf(engine, tape, step, this.isClosed);
-    const found = await lastChange(engine, tape, story, listed, step, name);
-    if (found === null) this.note("no call that is listed changed it");
+    const { engine, run, tree: { calls }, view } = this.page;
+    const { tape, story, isClosed } = run;
+    const listed = calls.steps.length ? calls : await callsOf(engine, tape, this.step, isClosed);
+    const found = await lastChange(engine, tape, story, listed, this.step, name);
+    if (found === null) view.note("no call that is listed changed it");
     else await this.visit(found);
   }
 
   async followName() {
-    const { at } = await this.story.around(this.step, this.run.end);
+    const { at } = await this.states();
     const inner = at.parts.calls.length - 1;
     const cell = document.querySelector(`#begun [data-place="argument ${inner} 0"]`);
     if (cell) await this.follow(cell, 0);
   }
 
   doubt(way) {
-    const steps = [...this.tree.doubts.keys()].sort((a, b) => a - b);
-    const found = way > 0 ? steps.find((step) => step > this.step) : steps.findLast((step) => step < this.step);
-    if (found === undefined) this.note(way > 0 ? "no new doubt after this step" : "no new doubt before this step");
+    const { tree, view } = this.page;
+    const steps = [...tree.doubts.keys()].sort((a, b) => a - b);
+    const found = way > 0 ? steps.find((step) => step > this.step) : steps.filter((step) => step < this.step).at(-1);
+    if (found === undefined) view.note(way > 0 ? "no new doubt after this step" : "no new doubt before this step");
     else return this.visit(found);
     return undefined;
   }
 
   // Follows a byte of a text that is shown.
   async follow(holder, number) {
-    this.note("");
+    const { view, way } = this.page;
+    view.note("");
     try {
-      await this.way.follow(holder, number);
+      await way.follow(holder, number);
     } catch (fault) {
-      this.say(fault);
+      view.say(fault);
     }
   }
 
   // Searches the calls.
   search() {
-    this.tabs.choose("tree");
+    this.page.tabs.choose("tree");
     byId("filter").focus();
   }
 
@@ -162,15 +229,14 @@ class Cursor extends View {
       button.textContent = way ? "pause" : "play";
       button.setAttribute("aria-label", button.textContent);
     }
-    this.announcer.playing(Boolean(way));
+    this.page.announcer.playing(Boolean(way));
     if (way) this.playOn();
   }
 
   playOn() {
     this.playing = setTimeout(async () => {
-      const playing = this.playing;
-      const { step } = this;
-      if (step < this.run.end) await this.unitForward();
+      const { playing, step } = this;
+      if (step < this.page.run.end) await this.unitForward();
       if (this.step === step) return this.play(0);
       if (this.playing === playing) this.playOn();
       return undefined;

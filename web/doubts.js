@@ -1,34 +1,57 @@
 // What a program does that a person is unlikely to have meant, as the processor tells it.
+import { grouped } from "./bytes.js";
+import { doubtSign } from "./words.js";
+import { placeOf } from "./way.js";
+import { buttonOf, byId, make } from "./elements.js";
+import { formsSet, remedied } from "./remedies.js";
 
 // So many doubts are listed.
 const MOST_DOUBTS = 30;
 // All rows of doubts have room in so many bytes: there are 1,000 at most.
 const ROOM_OF_DOUBTS = 1 << 18;
 
-// The doubts of a run, by the steps, each once for each place: rows of the line and the column in all of the input, the words, and
-// the step.
+/**
+ * What is doubted: at a step, or of the text of the program; the byte where it stands, and the one before which it ends; what is said
+ * of it, and beside that.
+ * @typedef {{ step: number | null, byte: number, end?: number, words: string, notes?: string[] }} Doubt
+ */
+
+/**
+ * The doubts of a run, by the steps, each once for each place: rows of the line and the column in all of the input, the words, and
+ * the step.
+ * @returns {Doubt[]}
+ */
 function doubtsSaid(bytes, tape) {
   const doubts = [];
   for (const row of new TextDecoder("latin1").decode(bytes).split("\n")) {
     const found = /^:(\d+):(\d+): (.+) \(step (\d+)\)$/.exec(row);
-    if (found) doubts.push({ step: Number(found[4]), byte: byteAt(tape, Number(found[1]), Number(found[2])), words: found[3] });
+    const place = (line, column) => byteAt(tape, Number(line), Number(column));
+    if (found) doubts.push({ step: Number(found[4]), byte: place(found[1], found[2]), words: found[3], notes: [] });
     // (a note goes on with the doubt before it)
     const note = /^:(\d+):(\d+): note: (?:(.+) here|this (.) (.+))$/.exec(row);
-    if (note && doubts.length) doubts.at(-1).words += `; ${noteSaid(note)}`;
+    if (note && doubts.length) doubts.at(-1).notes.push(noteSaid(note, isWithinWords(tape, place(note[1], note[2]))));
   }
   return doubts;
 }
 
-// What a note adds to the words of a doubt: which parenthesis may be wrong, or where a form of nearly the name is defined.
-function noteSaid([, line, column, missing, surplus, why]) {
+// Whether an apostrophe stands there before more words, and so ended a text where it was hardly meant to.
+function isWithinWords(bytes, at) {
+  return bytes[at] === 39 && /^[ \t]*[A-Za-z]/.test(String.fromCharCode(...bytes.subarray(at + 1, at + 20)));
+}
+
+// What a note adds to the words of a doubt: which parenthesis may be wrong, where a form of nearly the name is defined, or that an
+// apostrophe ended the text.
+function noteSaid(note, isApostrophe) {
+  const [, line, column, missing, surplus, why] = note;
   const where = `line ${line}, column ${column}`;
+  if (isApostrophe && missing === "a ) may be missing") return `the ' at ${where} ended its text`;
   return missing ? `${missing} at ${where}` : `the ${surplus} at ${where} ${why}`;
 }
 
 // The doubts of a run, as trac-lint finds them.
-async function doubtsOf(engine, page, run) {
-  const { bytes } = await engine.ask("doubts", page.tape, { budget: Math.max(run.end, 1) }, ROOM_OF_DOUBTS);
-  return doubtsSaid(bytes, page.tape).filter(({ step }) => step < run.end);
+export async function doubtsOf(engine, run) {
+  const { bytes } = await engine.ask("doubts", run.tape, { budget: Math.max(run.end, 1) }, ROOM_OF_DOUBTS);
+  return doubtsSaid(bytes, run.tape).filter(({ step }) => step < run.end);
 }
 
 // The byte at a line and a column, both counted from 1.
@@ -39,7 +62,7 @@ function byteAt(program, line, column) {
 }
 
 // Says of the last step and of the next one what was hardly meant.
-function markDoubts({ tree, step }) {
+export function markDoubts({ tree, cursor: { step } }) {
   for (const [id, of] of [["last", step - 1], ["next", step]]) {
     const words = tree.doubts.get(of);
     byId(id).querySelector(".doubt")?.remove();
@@ -49,9 +72,11 @@ function markDoubts({ tree, step }) {
 
 // Lists the first doubts, each as a link to its step, marks all of them in the program, and each under its call. Hints of the page have no
 // step.
-function showDoubts(page, told) {
+/** @param {import("./page.js").Page} page */
+export function showDoubts(page, told) {
   page.tree.doubts = new Map();
-  const doubts = told.map((doubt) => ({ ...doubt, words: wordsOfDoubt(doubt, page) }));
+  const forms = formsSet(page.run, page.tree.calls);
+  const doubts = told.map((doubt) => remedied(doubt, page, forms));
   for (const { step, words } of doubts) {
     if (step === null) continue;
     const said = page.tree.doubts.get(step);
@@ -59,15 +84,17 @@ function showDoubts(page, told) {
   }
   page.tree.draw();
   markDoubts(page);
-  const inProgram = doubts.filter(({ byte }) => byte < page.program.length);
-  page.editor.light("doubtful", page.isStale ? [] : inProgram.map(({ byte }) => byte), false);
+  const isInProgram = ({ byte }) => byte < page.run.program.length;
+  const inProgram = doubts.filter(isInProgram);
+  page.editor.light("doubtful", page.isStale ? [] : inProgram.map(({ byte, end }) => [byte, end]), false);
   page.tabs.count("doubts", grouped(doubts.length), doubts.length > 0);
   byId("doubts-hint").textContent = doubts.length ? "What was probably not meant." : "Nothing is done that was probably not meant.";
-  byId("doubts").replaceChildren(...doubts.slice(0, MOST_DOUBTS).map(({ step, byte, words }) => {
+  byId("doubts").replaceChildren(...doubts.slice(0, MOST_DOUBTS).map((doubt) => {
+    const { step, byte, words } = doubt;
     const row = make("p", "way-row");
-    if (step !== null) row.append(page.button(`step ${grouped(step)}`, () => page.visit(step)));
+    if (step !== null) row.append(buttonOf(`step ${grouped(step)}`, () => page.cursor.visit(step)));
     row.append(make("span", "doubt", words));
-    if (byte < page.program.length) row.append(placeOf(page, byte));
+    if (isInProgram(doubt)) row.append(placeOf(page, byte));
     return row;
   }));
   if (doubts.length > MOST_DOUBTS) byId("doubts").append(make("p", "note", `and ${grouped(doubts.length - MOST_DOUBTS)} more`));

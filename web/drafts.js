@@ -1,12 +1,13 @@
 // What this browser keeps for the next time: the program in the editor with its name, and the looks. Where it keeps nothing, the page
 // goes on without.
+import { textOf } from "./bytes.js";
 
-const DRAFT = "trac.draft", THEME = "trac.theme";
+export const DRAFT = "trac.draft", THEME = "trac.theme";
 // A longer program is not kept, and it is kept so many milliseconds after it was typed.
 const MOST_DRAFT = 1 << 20;
 const DRAFT_TIME = 250;
 
-function kept(key) {
+export function kept(key) {
   try {
     return localStorage.getItem(key);
   } catch {
@@ -15,7 +16,7 @@ function kept(key) {
 }
 
 // Keeps a text, or forgets it. Returns whether that was done.
-function keepText(key, text) {
+export function keepText(key, text) {
   try {
     if (text === null) localStorage.removeItem(key);
     else localStorage.setItem(key, text);
@@ -25,7 +26,7 @@ function keepText(key, text) {
   }
 }
 
-class Draft {
+export class Draft {
   constructor(editor) {
     this.editor = editor;
     // whether what stands in the editor is kept or saved

@@ -1,5 +1,13 @@
 // The program: a box of text over the same text, on which places are lit. Bytes are the truth: what the box cannot give back
 // as it was is shown for reading only.
+import { grouped, textOf } from "./bytes.js";
+import { runsOf } from "./cells.js";
+import { setLight } from "./lights.js";
+import { startOfSign } from "./output.js";
+import { LONG, Paint, pairAround } from "./paint.js";
+import { isWriting } from "./focus.js";
+import { byId, elementOf, focused } from "./elements.js";
+import { insertText, startIndenting } from "./indent.js";
 
 // Of a longer program a part is shown, for reading only, and so of a long one that is no text: browsers take some hundred bytes of
 // memory for each sign that is in a box.
@@ -13,7 +21,7 @@ const MOST_BEFORE_BYTES = 1 << 25;
 const NO_TEXT = "it has bytes that are no text";
 const TWO_ENDS = "its line ends are of two kinds, CR LF and LF";
 
-class Editor {
+export class Editor {
   constructor(changed) {
     this.box = byId("source");
     this.frame = byId("editor");
@@ -26,8 +34,10 @@ class Editor {
     this.kept = null;
     this.lit = new Map();
     // what stood there before and after, and the text as it was opened
-    [this.before, this.after, this.opened] = [[], [], ""];
-    // what is told that such a program is back
+    this.before = [];
+    this.after = [];
+    this.opened = "";
+    /** @type {(name: string) => void} what is told that such a program is back */
     this.restored = () => {};
     this.box.addEventListener("input", () => {
       this.typed();
@@ -41,6 +51,7 @@ class Editor {
     this.box.addEventListener("scroll", () => {
       if (this.box.scrollTop || this.box.scrollLeft) [this.box.scrollTop, this.box.scrollLeft] = [0, 0];
     });
+    startIndenting(this.box);
     document.addEventListener("selectionchange", () => this.lightPair());
     document.addEventListener("keydown", (event) => this.key(event));
     byId("undo").addEventListener("click", () => this.goBack(this.before, this.after));
@@ -125,7 +136,7 @@ class Editor {
   key(event) {
     const key = event.key.toLowerCase();
     if (!(event.ctrlKey || event.metaKey) || event.altKey || !["z", "y"].includes(key)) return;
-    const isElsewhere = event.target !== this.box && isWriting(event.target);
+    const isElsewhere = elementOf(event) !== this.box && isWriting(elementOf(event));
     const isAgain = key === "y" || event.shiftKey;
     if (isElsewhere || this.box.value !== this.opened || !(isAgain ? this.after : this.before).length) return;
     event.preventDefault();
@@ -184,9 +195,7 @@ class Editor {
     const end = this.box.value.replace(/\s+$/, "").length;
     this.box.focus({ preventScroll: true });
     this.box.setSelectionRange(end, end);
-    if (document.execCommand("insertText", false, text)) return;
-    this.box.setRangeText(text, end, end, "end");
-    this.box.dispatchEvent(new Event("input"));
+    insertText(this.box, text);
   }
 
   repaint() {
@@ -198,7 +207,7 @@ class Editor {
   // Lights the parentheses that one stands in.
   lightPair() {
     const { box } = this;
-    const isHere = document.activeElement === box && box.selectionStart === box.selectionEnd && !this.paint.isPlain;
+    const isHere = focused() === box && box.selectionStart === box.selectionEnd && !this.paint.isPlain;
     const pair = isHere && pairAround(box.value, box.selectionStart);
     setLight("pair", pair ? pair.map((unit) => this.paint.rangeOf(unit)).filter((range) => range) : []);
   }
@@ -221,17 +230,19 @@ class Editor {
   unitOfFixed(number) {
     const { from, to, places } = this.fixed;
     if (number < from || number >= to) return -1;
-    const place = places.findLast(({ byte }) => byte <= number);
+    const place = places.filter(({ byte }) => byte <= number).at(-1);
     return place.unit + Math.floor((number - place.byte) / place.per);
   }
 
-  // Lights bytes of the program in a way that has a name. If it is wanted, they come in view.
-  light(name, numbers, isShown = true) {
-    this.lit.set(name, numbers);
-    const rising = [...numbers].sort((one, other) => one - other);
-    const ranges = this.unitsOf(rising).map((unit) => this.paint.rangeOf(unit)).filter((range) => range);
+  // Lights bytes of the program, or stretches from one to before another, in a way that has a name. If it is wanted, they come in view.
+  light(name, places, isShown = true) {
+    this.lit.set(name, places);
+    const stretches = places.map((place) => (typeof place === "number" ? [place, place + 1] : place));
+    const rising = [...new Set(stretches.flatMap(([from, to]) => [from, to - 1]))].sort((one, other) => one - other);
+    const units = new Map(this.unitsOf(rising).map((unit, at) => [rising[at], unit]));
+    const ranges = stretches.flatMap(([from, to]) => this.paint.rangesOf(units.get(from), units.get(to - 1) + 1));
     setLight(name, ranges);
-    if (isShown && ranges.length && document.activeElement !== this.box) this.bring(ranges[0]);
+    if (isShown && ranges.length && focused() !== this.box) this.bring(ranges[0]);
   }
 
   // Chooses the sign of a byte, in view, so that it can be edited.
@@ -252,7 +263,7 @@ class Editor {
     this.fix(bytes, why, Math.max(number - PART / 2, 0));
     if (isOpened) this.opened = this.box.value;
     this.repaint();
-    for (const [name, numbers] of this.lit) this.light(name, numbers, false);
+    for (const [name, places] of this.lit) this.light(name, places, false);
   }
 
   // Scrolls the box so that a range is in view.
@@ -267,13 +278,4 @@ class Editor {
 function standIn(byte) {
   if (byte === 10 || byte === 9) return String.fromCharCode(byte);
   return byte < 32 ? String.fromCharCode(0x2400 + byte) : "\ufffd";
-}
-
-// The text of bytes that are UTF-8, or nothing.
-function textOf(bytes) {
-  try {
-    return new TextDecoder("utf-8", { fatal: true, ignoreBOM: true }).decode(bytes);
-  } catch {
-    return null;
-  }
 }

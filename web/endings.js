@@ -1,4 +1,5 @@
 // How a run ended, in words, and what can be done about it.
+import { grouped, plainOf } from "./bytes.js";
 
 const STANDS = {
   done: { words: "all of the program is run", isGood: true, next: "nothing: the program is done" },
@@ -12,37 +13,39 @@ const STANDS = {
 };
 
 // What a run came to.
-function kindOfEnd({ run: { stand, why }, isClosed }) {
+function kindOfEnd({ stand, why, isClosed }) {
   if (isClosed && (stand === "waits" || stand === "done")) return "ended";
   return stand === "refused" && why === "Memory" ? "Memory" : stand;
 }
 
 // The words of an end, whether it is a good one, what the step after it would be, and what can be done: words of a button and what that
 // does.
-function endingOf(page) {
+/** @param {import("./page.js").Page} page */
+export function endingOf(page) {
   const { run } = page;
-  const kind = kindOfEnd(page);
+  const kind = kindOfEnd(run);
   const count = `${grouped(run.end)} ${run.end === 1 ? "step" : "steps"}`;
-  if ((kind === "done" || kind === "waits") && page.hasText(run.read)) return unended(page, kind, count);
+  if ((kind === "done" || kind === "waits") && run.hasText(run.read)) return unended(page, kind, count);
   const { words, isGood, next } = STANDS[kind];
   const ending = { words: isGood ? `Done after ${count}: ${words}.` : `After ${count}: ${words}.`, isGood: Boolean(isGood), next };
-  if (kind === "spent" || kind === "stopped") ending.mend = { words: "go on", does: () => page.goOn() };
-  if (kind === "done" && !page.wantsInput) ending.mend = { words: "type more of it", does: () => page.typeMore() };
+  if (kind === "spent" || kind === "stopped") ending.mend = { words: "go on", does: () => page.runs.goOn() };
+  if (kind === "done" && !page.runs.wantsInput) ending.mend = { words: "type more of it", does: () => page.runs.typeMore() };
   return ending;
 }
 
 // The same where a text stands there that is not read, since it has no end.
+/** @param {import("./page.js").Page} page */
 function unended(page, kind, count) {
   const meta = plainOf(page.run.meta, 8);
   const lacks = `has no ${meta} at its end`;
   const words = kind === "done" ? `Not all is run: the last text of the program ${lacks}. Until there it took ${count}.`
     : `After ${count} the program waits for more: what it is to read ${lacks}.`;
-  const isProgram = page.inputs.length === 0 && !page.isStale && !page.editor.fixed;
+  const isProgram = page.run.inputs.length === 0 && !page.isStale && !page.editor.fixed;
   const end = /^[!-~]$/.test(page.run.meta) ? page.run.meta : "";
   const does = isProgram ? () => {
     page.editor.write(end);
-    page.start();
-  } : () => page.feedEnd(end);
+    page.runs.start();
+  } : () => page.runs.feedEnd(end);
   return {
     words, isGood: false, next: `what is left, once there is a ${meta} at its end`,
     mend: end ? { words: `put a ${meta} there, and run`, does } : undefined,
@@ -50,6 +53,6 @@ function unended(page, kind, count) {
 }
 
 // Whether a line of input gets a ' at its end: where it is read up to that, and has none.
-function needsEnd({ run }, line) {
-  return run.meta === "'" && !run.isOfByte && !line.includes("'");
+export function needsEnd({ meta, isOfByte }, line) {
+  return meta === "'" && !isOfByte && !line.includes("'");
 }

@@ -1,11 +1,13 @@
 // The proved processor, in a Worker. It keeps nothing but the input: each request has commands and a budget, and is
 // answered as if it were the first.
+import { bytesOfSigns } from "./bytes.js";
+import { byId } from "./elements.js";
 
 // The answer was dropped, since the Worker was stopped.
-class Stopped extends Error {}
+export class Stopped extends Error {}
 
 // The processor could not answer: memory was refused, or the answer is longer than a page takes.
-class Refused extends Error {
+export class Refused extends Error {
   constructor(why) {
     super(why);
     this.why = why;
@@ -62,23 +64,29 @@ class Turns {
 }
 
 class Engine {
-  // The bytes of the module, and the text of the Worker.
-  constructor(module, source, turns = new Turns()) {
+  // The bytes of the module, the text of the Worker, and how many bits numbers have.
+  constructor(module, source, decimals, turns = new Turns()) {
     this.module = module;
     this.source = source;
+    this.decimals = decimals;
     this.turns = turns;
     turns.engines.push(this);
     this.address = URL.createObjectURL(new Blob([source], { type: "text/javascript" }));
     this.last = 0;
     this.waiting = new Map();
-    // what is told how many requests wait
+    /** @type {(count: number) => void} what is told how many requests wait */
     this.told = () => {};
+    /** @type {Worker | null} */
     this.worker = null;
+    // the input that the Worker has, how many requests, and whether it has compiled the module
+    this.tape = null;
+    this.sent = 0;
+    this.isUp = false;
   }
 
   // Another one, for what goes on beside. Its Worker begins with its first request.
   twin() {
-    return new Engine(this.module, this.source, this.turns);
+    return new Engine(this.module, this.source, this.decimals, this.turns);
   }
 
   // Begins a Worker. What an earlier one still says is dropped. It is ready once it has compiled the module.
@@ -88,7 +96,6 @@ class Engine {
     });
     this.ready.catch(() => {});
     const worker = new Worker(this.address);
-    // the Worker, the input that it has, how many requests, and whether it has compiled the module
     [this.worker, this.tape, this.sent, this.isUp] = [worker, null, 0, false];
     worker.onmessage = ({ data }) => {
       if (this.worker === worker) this.take(data);
@@ -148,7 +155,7 @@ class Engine {
     if (!this.worker) this.start();
     const copy = this.tape === tape ? null : tape.slice();
     [this.tape, this.sent] = [tape, this.sent + 1];
-    this.worker.postMessage({ number, tape: copy, memory, decimals: DECIMALS, ...words }, copy ? [copy.buffer] : []);
+    this.worker.postMessage({ number, tape: copy, memory, decimals: this.decimals, ...words }, copy ? [copy.buffer] : []);
   }
 
   // Keeps no memory if it does nothing, or only what has spare memory.
@@ -183,15 +190,15 @@ class Engine {
 }
 
 // The bytes that are packed in a text: by deflate, and in base64.
-async function unpackedText(text) {
+export async function unpackedText(text) {
   const packed = new Blob([bytesOfSigns(text)]).stream();
   return new Uint8Array(await new Response(packed.pipeThrough(new DecompressionStream("deflate"))).arrayBuffer());
 }
 
-// The engine of this page.
-async function engineOfPage() {
+// The engine of this page, whose numbers have so many bits.
+export async function engineOfPage(decimals) {
   const module = await unpackedText(byId("module").textContent);
-  const engine = new Engine(module, byId("worker").textContent);
+  const engine = new Engine(module, byId("worker").textContent, decimals);
   try {
     engine.start();
   } catch (fault) {
@@ -199,4 +206,17 @@ async function engineOfPage() {
     engine.isReady.reject(fault);
   }
   return engine;
+}
+
+// What is said where the processor could not answer.
+const REFUSALS = {
+  "no memory": "Memory was refused, for this page takes 512 MiB for a run: a form may grow with each call.",
+  "the reply is too long": "This is too long to be shown: the states around one step have more than 128 MiB.",
+  "the output is too long": "This is too long to be shown: more than 64 MiB are printed.",
+  "the input is too long": "A limit is passed: a program and its input may have at most 33,554,432 bytes.",
+};
+
+// What is said of a fault.
+export function wordsOf(fault) {
+  return fault instanceof Refused ? REFUSALS[fault.why] ?? `Memory was refused (${fault.why}).` : fault.message;
 }

@@ -1,5 +1,10 @@
 // Calls that are seen in the list or named over the slider get their arguments one by one, as they stood when they were
 // performed, so that they look as they do in sentences: protected ones in quotes, and empty ones with their sign.
+import { addText, boundary, grouped } from "./bytes.js";
+import { Tree } from "./tree.js";
+import { addCallText, isProtected } from "./words.js";
+import { Story } from "./story.js";
+import { make } from "./elements.js";
 
 // So many milliseconds they have to stay, so large are states at most on average, and so many are fetched for a part of
 // the page.
@@ -15,13 +20,16 @@ function listedLength(text, { neutral, texts }) {
   return found?.length ?? 0;
 }
 
-class CallTree extends Tree {
+export class CallTree extends Tree {
   // What is told how many calls there are.
   constructor(go, counted) {
     super(go);
     this.counted = counted;
+    /** @type {((indexes: number[]) => void) | undefined} what is told which calls are shown */
+    this.wants = undefined;
   }
 
+  /** @override */
   list() {
     super.list();
     this.counted?.(grouped(this.calls.steps.length));
@@ -34,18 +42,23 @@ class CallTree extends Tree {
     this.draw();
   }
 
+  /** @override */
   show(calls) {
     // the calls as they stood, as far as they are known
     this.exact = new Map();
     super.show(calls);
   }
 
+  /** @override */
   draw() {
     super.draw();
     this.wants?.([...this.made.keys()]);
   }
 
-  // What a row says of its call: once its arguments are known, protected ones stand in quotes.
+  /**
+   * What a row says of its call: once its arguments are known, protected ones stand in quotes.
+   * @override
+   */
   fill(row, index) {
     const text = this.calls.texts[index], call = this.exact.get(index);
     const length = call ? listedLength(text, call) : 0;
@@ -72,7 +85,8 @@ class CallTree extends Tree {
   }
 }
 
-class Exact {
+export class Exact {
+  /** @param {import("./page.js").Page} page */
   constructor(page) {
     this.page = page;
     this.tree = page.tree;
@@ -92,9 +106,9 @@ class Exact {
     const { page, tree } = this;
     const { run } = page;
     const indexes = [...new Set(Object.values(this.wanted).flat())].filter((index) => !tree.exact.has(index));
-    if (!run || indexes.length === 0 || page.story.size > MOST_STATE) return;
+    if (!run || indexes.length === 0 || run.story.size > MOST_STATE) return;
     const { calls } = tree;
-    const story = new Story(page.ahead, page.tape, run.landmarks);
+    const story = new Story(page.ahead, run.tape, run.landmarks);
     const states = await story.at(indexes.map((index) => calls.steps[index])).catch(() => new Map());
     if (tree.calls !== calls) return;
     for (const index of indexes) {

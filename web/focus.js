@@ -1,4 +1,5 @@
 // The focus stays where it is while the page is shown anew: what stands in place of its element has it then.
+import { byId, focused } from "./elements.js";
 
 const FOCUSABLE = "button, select, input, textarea, [tabindex]";
 // What has the focus where an element is gone, and nothing stands in its place.
@@ -22,13 +23,13 @@ function sameIn(within, name) {
 }
 
 // Whether an element has a place in the page.
-function isShown(element) {
+export function isShown(element) {
   return element.getClientRects().length > 0;
 }
 
 // Does what may take away the element that has the focus.
-function keepFocus(does) {
-  const held = document.activeElement;
+export function keepFocus(does) {
+  const held = focused();
   const address = held && held !== document.body ? addressOf(held) : null;
   does();
   if (!address || isShown(held)) return;
@@ -39,11 +40,21 @@ function keepFocus(does) {
 }
 
 // A button that does nothing here keeps the focus: so it is not disabled, but says that it is.
-function setOff(button, isOff) {
+export function setOff(button, isOff) {
   if (isOff) button.setAttribute("aria-disabled", "true");
   else button.removeAttribute("aria-disabled");
 }
 
-function isOff(button) {
+export function isOff(button) {
   return button?.getAttribute("aria-disabled") === "true";
+}
+
+// Whether keys write where the focus is.
+export function isWriting(element) {
+  return element.closest("textarea, select, dialog, input:not([type='range'], [type='checkbox'])") !== null;
+}
+
+// Whether a key is one that does something now.
+export function isOn(key) {
+  return key.length > 1 || byId("single-keys").checked;
 }

@@ -1,4 +1,6 @@
 // A byte followed back by the processor: the calls on its way, the latest first, and how it ends.
+import { bytesOf } from "./bytes.js";
+import { NotUnderstood } from "./replies.js";
 
 // The kinds of places, as the module numbers them.
 const KINDS = { output: 0, active: 1, base: 2, argument: 3, form: 4, held: 5 };
@@ -10,14 +12,15 @@ const ROW = new RegExp("(\\d+) (prints|sets|gives|made|read|earlier|nothing|unke
 
 // The way of a byte that stands at a place of the state after a step. (A byte of the output is followed from where it was there
 // first, or soon after.)
-async function followed(page, place, at, number, engine = page.engine) {
+/** @param {import("./page.js").Page} page */
+export async function followed(page, place, at, number, engine = page.engine) {
   const [kind, ...words] = place.split(" ");
   const mark = kind === "output" ? page.run.landmarks.find(({ step, printed }) => step <= at && printed > number) : undefined;
   const step = mark?.step ?? at;
   const numbers = words.map(Number);
   let name = new Uint8Array(0);
   if (kind === "form" || kind === "held") {
-    const { forms, blocks } = (await page.story.at([step])).get(step).parts;
+    const { forms, blocks } = (await page.run.story.at([step])).get(step).parts;
     const [block, held] = numbers.splice(0);
     name = bytesOf((kind === "form" ? forms[block] : blocks[block].forms[held]).name);
     if (kind === "held") numbers.push(blocks[block].number);
@@ -25,7 +28,7 @@ async function followed(page, place, at, number, engine = page.engine) {
   numbers.push(number);
   while (numbers.length < 3) numbers.push(0);
   const request = { step, kind: KINDS[kind], numbers, name };
-  const { status, bytes } = await engine.ask("way", page.tape, request, 1 << 16);
+  const { status, bytes } = await engine.ask("way", page.run.tape, request, 1 << 16);
   if (status !== 0) throw new NotUnderstood(`the way of this byte has status ${status}`);
   return wayRows(bytes);
 }
@@ -50,7 +53,8 @@ function wayRows(bytes) {
   return rows;
 }
 
-function wayRow([, step, deed, rest]) {
+function wayRow(found) {
+  const [, step, deed, rest] = found;
   const words = { prints: "prints", sets: "sets", gives: "gives", nothing: "nothing", ...ENDS };
   const row = { step: Number(step), deed: words[deed] };
   if (deed === "read") row.byte = Number(rest.trim().split(" ")[0]);

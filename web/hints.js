@@ -9,15 +9,15 @@ const HINTS = [
 const MOST_HINTS = 5;
 
 // The hints of a program: rows like doubts, without a step.
-function hintsOf(bytes) {
+export function hintsOf(bytes) {
   const text = new TextDecoder("latin1").decode(bytes.subarray(0, MOST_HINTED));
   return HINTS.filter(({ unless }) => !unless?.test(text)).flatMap((hint) => rowsOfHint(text, hint));
 }
 
 function rowsOfHint(text, { sign, at, words }) {
   const rows = [];
-  for (const { index } of text.matchAll(sign)) {
-    rows.push({ step: null, byte: index + at, words });
+  for (const { index, 0: whole } of text.matchAll(sign)) {
+    rows.push({ step: null, byte: index + at, end: index + (at ? at + 1 : whole.length), words });
     if (rows.length === MOST_HINTS) break;
   }
   return rows;
@@ -25,10 +25,3 @@ function rowsOfHint(text, { sign, at, words }) {
 
 // So much of a program is looked at.
 const MOST_HINTED = 1 << 20;
-
-// The words of a doubt. Where a result does not fit since a number is divided by 0, that is said.
-function wordsOfDoubt({ words, step }, page) {
-  const found = /^##?\(dv,[^,]*(?:,([^,)]*))?[,)]/i.exec(page.tree.textAt(step) ?? "");
-  const isByZero = found && /does not fit/.test(words) && numberAt(found[1] ?? "").digits === "";
-  return isByZero ? "this divides by 0, which gives nothing: a third argument is given in its place" : words;
-}

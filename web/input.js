@@ -1,12 +1,13 @@
 // The input of a run: after the program stand lines, each with the step where the cursor was when it was given.
+import { grouped, joined } from "./bytes.js";
 
 // All input: the program, and what was given. (A copy of it alone would be of no use.)
-function tapeOf({ program, inputs }) {
+export function tapeOf({ program, inputs }) {
   return inputs.length ? joined([program, ...inputs.map(({ bytes }) => bytes)]) : program;
 }
 
 // The lines of which something is read, where so many bytes of all lines are.
-function linesBegun(inputs, read) {
+export function linesBegun(inputs, read) {
   const begun = [];
   let from = 0;
   for (const { step, bytes } of inputs) {
@@ -20,13 +21,13 @@ function linesBegun(inputs, read) {
 }
 
 // How many lines have something in them.
-function countOfLines(inputs) {
+export function countOfLines(inputs) {
   const isEnd = (byte, at, bytes) => byte !== 10 && (at + 1 === bytes.length || bytes[at + 1] === 10);
   return inputs.reduce((sum, { bytes }) => sum + bytes.reduce((count, ...of) => count + (isEnd(...of) ? 1 : 0), 0), 0);
 }
 
 // What came after a step: so many lines, and perhaps the end of input. Nothing if neither did.
-function laterSaid(lines, isClosed, step) {
+export function laterSaid(lines, isClosed, step) {
   const parts = lines > 0 ? [lines === 1 ? "one line of input" : `${grouped(lines)} lines of input`] : [];
   if (isClosed) parts.push("the end of input");
   const said = parts.join(" and ");

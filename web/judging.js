@@ -1,4 +1,6 @@
 // Whether a program solves an exercise of the course: it is run on each given input, and judged as trac-course does.
+import { grouped, joined } from "./bytes.js";
+import { Refused } from "./engine.js";
 
 // What it may take: steps, bytes that it prints, and milliseconds.
 const JUDGED_STEPS = 10000000;
@@ -40,7 +42,7 @@ function withoutEnds(bytes) {
   return bytes.subarray(0, length);
 }
 
-function isEqual(one, other) {
+export function isEqual(one, other) {
   return one === other || (one.length === other.length && one.every((byte, at) => byte === other[at]));
 }
 
@@ -55,12 +57,12 @@ function difference(printed, wanted) {
 }
 
 // The input after a program: its last line is ended, else the input would go on in it.
-function inputAfter(program, given) {
+export function inputAfter(program, given) {
   return joined([program[program.length - 1] === 10 ? "" : "\n", given].map((text) => new TextEncoder().encode(text)));
 }
 
 // The first run that fails, if one does: its number, what it prints, and why.
-async function judged(engine, program, runs) {
+export async function judged(engine, program, runs) {
   for (const [at, [given, out]] of runs.entries()) {
     const wanted = new TextEncoder().encode(out);
     const { printed, fault } = await tried(engine, joined([program, inputAfter(program, given)]));

@@ -1,4 +1,6 @@
 // Where the processor does not run, it is said what is lacking. Programs can be read and written all the same.
+import { NotUnderstood } from "./replies.js";
+import { make } from "./elements.js";
 
 // Stands for the processor where that does not run: it answers at once that it does not.
 class NoEngine {
@@ -20,7 +22,8 @@ function lackSaid(fault) {
 }
 
 // Goes on without the processor, and says what is lacking.
-function goWithout(page, fault) {
+/** @param {import("./page.js").Page} page */
+export function goWithout(page, fault) {
   page.engine = page.ahead = page.background = new NoEngine();
   const words = `The processor does not run in this browser: ${lackSaid(fault)}. You can read and write programs here.`;
   const notice = make("p", "notice", words);

@@ -1,11 +1,12 @@
 // Ranges that are lit, each kind under a name: by the browser's highlights, or where it has none by boxes under the signs.
+import { make } from "./elements.js";
 
 // So many boxes of a kind stand there at most.
 const MOST_BOXES = 200;
 const lit = new Map();
 
 // Lights these ranges in the way of a name, and no others in that way.
-function setLight(name, ranges) {
+export function setLight(name, ranges) {
   const before = lit.get(name);
   for (const box of before?.boxes ?? []) box.remove();
   lit.delete(name);
@@ -16,7 +17,7 @@ function setLight(name, ranges) {
 }
 
 // Lights one more.
-function addLight(name, range) {
+export function addLight(name, range) {
   setLight(name, [...(lit.get(name)?.ranges ?? []), range]);
 }
 
@@ -38,6 +39,6 @@ function boxesOf(name, range) {
 }
 
 // Lines may break elsewhere now: boxes are made anew.
-function startLights() {
+export function startLights() {
   if (!window.Highlight) addEventListener("resize", () => [...lit].forEach(([name, { ranges }]) => setLight(name, ranges)));
 }

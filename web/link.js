@@ -1,4 +1,5 @@
 // A link's part after #: a program, its input and a step. Its first sign says its form, the second how the rest is packed.
+import { bytesOfSigns, joined } from "./bytes.js";
 
 const LINK_FORM = "1";
 // So many bytes of a program are held at most, so many of input, and so many lines.
@@ -7,7 +8,7 @@ const MOST_LINES = 10000;
 const MOST_PACKED = 2 * MOST_HELD + 32 * MOST_LINES;
 
 // What is said of a link that is not taken.
-class WrongLink extends Error {}
+export class WrongLink extends Error {}
 
 const LINK_FAULTS = {
   other: "This link is not one that this page made. Nothing is opened.",
@@ -113,7 +114,7 @@ async function streamed(bytes, stream, most) {
 // The stream that packs or unpacks, or nothing where the browser has none.
 function packing(name) {
   try {
-    return new window[name]("deflate-raw");
+    return new (name === "CompressionStream" ? CompressionStream : DecompressionStream)("deflate-raw");
   } catch {
     return null;
   }
@@ -127,7 +128,7 @@ function signsOf(bytes) {
 }
 
 // The part after #, or nothing where the page would not take so much. It is packed where that makes it shorter.
-async function linkOf(held) {
+export async function linkOf(held) {
   const input = held.inputs.reduce((sum, { bytes }) => sum + bytes.length, 0);
   if (held.program.length > MOST_HELD || input > MOST_HELD || held.inputs.length > MOST_LINES) return null;
   const bytes = bytesOfLink(held);
@@ -137,7 +138,7 @@ async function linkOf(held) {
 }
 
 // What a link holds: an address with it, or its part after #. Blanks and line ends that a letter put into it do not matter.
-async function openedLink(address) {
+export async function openedLink(address) {
   const text = address.replace(/\s/g, "").replace(/^.*#/, "");
   if (/^[2-9][a-z]/.test(text)) throw new WrongLink(LINK_FAULTS.later);
   if (!/^1[ds][\w-]*$/.test(text)) throw new WrongLink(LINK_FAULTS.other);

@@ -1,4 +1,5 @@
 // Texts of the course, as elements. They are Markdown with headings, paragraphs, items, and blocks of code in fences.
+import { make } from "./elements.js";
 
 const MARKED = /`([^`]+)`|\*\*([^*]+)\*\*|\*([^*]+)\*/g;
 const FENCE = /^```(\w*) ?(\S*)$/;
@@ -40,7 +41,7 @@ function addMarked(parent, text) {
 }
 
 // Adds a text without its title. `shown` makes the element of a program in it, of its name and its text.
-function addMarkdown(parent, text, shown) {
+export function addMarkdown(parent, text, shown) {
   for (const { kind, name, lines } of partsOfText(text).slice(1)) {
     const whole = lines.join(" ");
     const last = parent.lastElementChild;
@@ -64,6 +65,6 @@ function addConsole(parent, lines) {
 }
 
 // The title of a text.
-function titleOf(text) {
+export function titleOf(text) {
   return text.slice(0, text.indexOf("\n")).replace(/^#+ /, "");
 }

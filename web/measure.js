@@ -1,10 +1,17 @@
 // A run to where it waits, ends, or has taken as many steps as it may.
+import { Refused } from "./engine.js";
+import { NotUnderstood, Replies, State } from "./replies.js";
+import { Story, windowOf } from "./story.js";
+import { standOf } from "./moves.js";
+import { endOfInput, MEASURED, REACHED, SCREEN, taken, walked } from "./asking.js";
+
+// So many it may take by itself.
+export const BUDGET = 2000000;
 
 // So many steps are between two landmarks; fewer where a way over so many takes too much memory, or prints too much.
 const STRIDES = [65536, 4096, 256, 16];
-// So many landmarks are asked for at most, and of what they are asked of so many steps and bytes of records are kept.
+// So many landmarks are asked for at most.
 const MOST_LANDMARKS = 20000;
-const MEASURED = { journal: 65536, keep: 1 << 24 };
 
 // With so much output landmarks stand nearer to each other, for a way to a state has what was printed since the last.
 const MUCH_OUTPUT = 1 << 20;
@@ -12,27 +19,41 @@ const NEAR_LANDMARKS = 64;
 // So much of it is shown.
 const MOST_OUTPUT = 1 << 26;
 
-// How far it comes, as trac-walk shows that. (Of a long line the end is cut.)
-const REACHED = /^step +(\d+), back to \d+; (\d+) bytes? of input not read, (?:(\d+) b)?/gm;
+/**
+ * How far a run comes, and why no farther; where a way leads there, with what there is.
+ * @typedef {object} Ended
+ * @property {number} end
+ * @property {string | null} why
+ * @property {import("./run.js").Landmark[]} [landmarks]
+ * @property {number} [read]
+ * @property {number} [printed]
+ * @property {import("./story.js").Window} [window]
+ */
 
-// What a run comes to: how many steps it takes, why no more, the last states, what was printed, if it is not too much, and landmarks
-// on the way: how much was read and printed until then.
-async function measure(engine, tape, isClosed, budget, mostOutput = MOST_OUTPUT) {
-  const run = await measured(engine, tape, isClosed, budget);
-  const state = run.window.states.at(-1);
-  run.meta = state.parts.meta;
-  // (whether one byte is read, and no text)
-  run.isOfByte = /^rc$/i.test(state.parts.calls.at(-1)?.texts[0] ?? "");
-  run.stand = run.why === "TooLong" || run.why === "Memory" ? "refused" : standOf(state);
-  if (run.stand === "refused" && run.end >= budget) run.stand = "spent";
+/**
+ * What a run comes to: how many steps it takes, why no more, the last states, what was printed, if it is not too much, and landmarks
+ * on the way: how much was read and printed until then.
+ * @param {Uint8Array} tape
+ * @returns {Promise<import("./run.js").Came>}
+ */
+export async function measure(engine, tape, isClosed, budget, mostOutput = MOST_OUTPUT) {
+  const ended = await measured(engine, tape, isClosed, budget);
+  const state = ended.window.states.at(-1);
+  const isRefused = ended.why === "TooLong" || ended.why === "Memory";
+  let stand = isRefused ? "refused" : standOf(state);
+  if (stand === "refused" && ended.end >= budget) stand = "spent";
   // (trac-walk, which keeps steps, takes more memory than the debugger)
-  else run.why ??= "Memory";
-  if (run.printed > mostOutput) throw new Refused("the output is too long");
-  run.output = await outputOf(engine, tape, run);
-  return run;
+  else ended.why ??= "Memory";
+  if (ended.printed > mostOutput) throw new Refused("the output is too long");
+  // (whether one byte is read, and no text)
+  const isOfByte = /^rc$/i.test(state.parts.calls.at(-1)?.texts[0] ?? "");
+  return { ...ended, stand, meta: state.parts.meta, isOfByte, output: await outputOf(engine, tape, ended) };
 }
 
-// The same without what follows from that. If no way comes to the end, what it stops before is the end.
+/**
+ * The same without what follows from that. If no way comes to the end, what it stops before is the end.
+ * @returns {Promise<Required<Ended>>}
+ */
 async function measured(engine, tape, isClosed, budget) {
   let most = budget, tried = null;
   for (const stride of STRIDES) {
@@ -40,12 +61,20 @@ async function measured(engine, tape, isClosed, budget) {
     const marks = await landmarksOf(engine, tape, isClosed, most, stride);
     most = marks.at(-1).step;
     const run = await endOf(engine, tape, marks);
-    if (run.window) return run;
+    if (run.window) return wayThere(run);
     tried = { ...run, stride };
   }
   const run = await endOf(engine, tape, await landmarksOf(engine, tape, isClosed, tried.end, tried.stride));
   if (!run.window) throw new Refused("no memory");
-  return { ...run, why: tried.why };
+  return wayThere({ ...run, why: tried.why });
+}
+
+/**
+ * The end of a run that a way leads to.
+ * @param {Ended} ended
+ */
+function wayThere(ended) {
+  return /** @type {Required<Ended>} */ (ended);
 }
 
 // How far it comes, and how much is read and printed there, each time that it has taken so many steps; of much output
@@ -69,8 +98,11 @@ async function landmarksOf(engine, tape, isClosed, most, stride) {
   return mark.printed > MUCH_OUTPUT && near < stride ? landmarksOf(engine, tape, isClosed, mark.step, near) : marks;
 }
 
-// The end of a run with its last states, if the way there over these landmarks comes to it; else how far that comes, and
-// why no farther.
+/**
+ * The end of a run with its last states, if the way there over these landmarks comes to it; else how far that comes, and
+ * why no farther.
+ * @returns {Promise<Ended>}
+ */
 async function endOf(engine, tape, marks) {
   const landmarks = [...marks], { step: end, position: read, printed } = landmarks.pop();
   const first = Math.max(end - 1, 0);
@@ -99,24 +131,4 @@ async function outputOf(engine, tape, { end, printed }) {
   const { bytes } = await engine.ask("run", tape, wanted, printed);
   if (bytes.length > MOST_OUTPUT) throw new Refused("the output is too long");
   return bytes;
-}
-
-// What trac-walk says to some lines.
-async function walked(engine, tape, lines, room = 1 << 16, more = {}) {
-  const { bytes } = taken(await engine.ask("walk", tape, { commands: lines.join("\n") + "\n", ...more }, room));
-  return new TextDecoder("latin1").decode(bytes);
-}
-
-// An answer, unless the input was not taken.
-function taken(answer) {
-  if (answer.status === 4) throw new Refused("the input is too long");
-  return answer;
-}
-
-// The number of the step where it stands after all that.
-function stepSaid(text) {
-  const last = text.trimEnd().split("\n").pop();
-  const found = /^(?:here: )?(\d+)  /.exec(last);
-  if (!found) throw new NotUnderstood(last.slice(0, 80));
-  return Number(found[1]);
 }

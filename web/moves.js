@@ -1,7 +1,10 @@
 // What a step does, told from the states before and after it.
+import { lengthOf } from "./bytes.js";
+import { currentOf, formIn } from "./parts.js";
+import { isReader } from "./branch.js";
 
 // The rule of the next step of a state, as a letter: words.js has the words of each.
-function ruleOf(state) {
+export function ruleOf(state) {
   const active = state.active;
   if (!active) return "i";
   if (active[0] === "(") return matchOf(active) > 0 ? "(" : "u";
@@ -24,13 +27,13 @@ function matchOf(text) {
 }
 
 // How many bytes stand in front that are only moved, one a step.
-function plainRun(active) {
+export function plainRun(active) {
   const end = active.search(/[(),#]|\\x0[da9]/);
   return lengthOf(end < 0 ? active : active.slice(0, end));
 }
 
 // The step from a state to the next: its rule, what it took, moved and put, and the call that it performed.
-function moveFrom(before, after) {
+export function moveFrom(before, after) {
   const rule = ruleOf(before);
   const active = before.active;
   const move = { rule, taken: "", put: "", moved: "", printed: "", call: null, grown: "" };
@@ -79,7 +82,7 @@ function formLeft({ texts }, before, after) {
 }
 
 // Why the debugger takes no step from a state: it waits for input, or halts, or something was refused.
-function standOf(state) {
+export function standOf(state) {
   const { calls, active } = state.parts;
   const name = ruleOf(state) === "p" ? calls[calls.length - 1].texts[0].toLowerCase() : "";
   if (name === "hl") return "halts";

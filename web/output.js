@@ -1,10 +1,13 @@
 // What was printed, up to the step where the cursor is.
+import { grouped } from "./bytes.js";
+import { addCells, placed } from "./cells.js";
+import { byId, make } from "./elements.js";
 
 const SHOWN_OUTPUT = 8192;
 
 // Shows the output up to so many bytes, of which the last step has printed some. Of a long one a part is shown, which buttons
 // move.
-function showOutput(view, bytes, printed, fresh, step) {
+export function showOutput(view, bytes, printed, fresh, step) {
   const last = Math.min(view.outputTo ?? printed, printed);
   const first = startOfSign(bytes, Math.max(last - SHOWN_OUTPUT, 0));
   const key = [first, last, printed, fresh].join();
@@ -38,7 +41,7 @@ function turnButton(word, to, view) {
 }
 
 // The place of the first byte of a sign.
-function startOfSign(bytes, at) {
+export function startOfSign(bytes, at) {
   let place = at;
   while (place > 0 && at - place < 3 && (bytes[place] & 0xc0) === 0x80) place--;
   return place;

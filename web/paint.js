@@ -1,8 +1,10 @@
 // The text of the editor with its colours, line by line, under the box where it is typed: calls, primitives, protected text, numbers,
 // and what ends a text.
+import { PRIMITIVES } from "./words.js";
+import { make } from "./elements.js";
 
 // A longer program is painted without colours and numbers of lines, and only once its typist rests.
-const LONG = 65536;
+export const LONG = 65536;
 
 // The parts of a program, each with what it is of: the signs of calls, names of primitives, protected text, numbers, ends of texts,
 // parentheses that match none. It is said by the bytes alone: what `cm` chooses is not known.
@@ -53,7 +55,7 @@ function linesOfProgram(text) {
 }
 
 // The beginning and the end of the call or the parentheses that a place stands in, as places; nothing outside all.
-function pairAround(text, at) {
+export function pairAround(text, at) {
   const from = text.lastIndexOf("'", at - 1) + 1;
   const end = text.indexOf("'", at);
   const upTo = end < 0 ? text.length : end;
@@ -69,7 +71,7 @@ function pairAround(text, at) {
   return null;
 }
 
-class Paint {
+export class Paint {
   constructor(place) {
     this.place = place;
     this.lines = [];
@@ -109,7 +111,19 @@ class Paint {
     return low;
   }
 
-  // The range of so many units of the text, in one line, or nothing.
+  // The ranges of a stretch of the text, one in each part that has some of it.
+  rangesOf(from, to) {
+    const ranges = [];
+    for (let unit = from; unit < to;) {
+      const range = this.rangeOf(unit, to - unit);
+      if (!range) break;
+      ranges.push(range);
+      unit += range.endOffset - range.startOffset;
+    }
+    return ranges;
+  }
+
+  // The range of so many units of the text, in one part of it, or nothing.
   rangeOf(unit, count = 1) {
     if (unit < 0 || unit >= this.length) return null;
     const line = this.lineAt(unit);

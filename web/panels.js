@@ -1,11 +1,16 @@
 // What a state has beside its text: begun calls, forms, blocks and settings. What `shown` says of them: the number of the
 // step, if bytes can be followed; the most boxes, and the most signs of an argument and of a form; whether the last step
 // changed a line; and whether what looks like gaps of a form may be bytes.
+import { addText, boundary, bytesOf, grouped, isOnce, leftOut, lengthOf, plainOf } from "./bytes.js";
+import { addCells, addTextCells, placed } from "./cells.js";
+import { addArgument } from "./words.js";
+import { DECIMALS } from "./given.js";
+import { byId, labelled, make } from "./elements.js";
 
 const ROWS = 200;
 
 // A call as it stands, each argument with its place. The one that is gathered is marked.
-function addCall(parent, call, depth, step, most, isGathered) {
+export function addCall(parent, call, depth, step, most, isGathered) {
   parent.append(make("span", "kind", call.neutral ? "##(" : "#("));
   call.texts.forEach((text, index) => {
     if (index) parent.append(make("span", "comma", ","));
@@ -32,7 +37,7 @@ function boxOf(call, number, shown) {
 }
 
 // Shows begun calls as boxes, each within the one outside it; where there are many, the innermost ones.
-function showBegun(calls, shown) {
+export function showBegun(calls, shown) {
   const depth = calls.length;
   const from = Math.max(depth - shown.boxes, 0);
   const outside = make("div");
@@ -82,7 +87,7 @@ function gapOf(number, item) {
 
 // Whether bytes of a form may look like gaps or the pointer: more look like the pointer than there is, or such bytes were
 // given to ds.
-function isDoubtfulForm(text, hasMarks) {
+export function isDoubtfulForm(text, hasMarks) {
   return !isOnce(text, "<^>") || (hasMarks && /<\d+>/.test(text));
 }
 
@@ -117,14 +122,14 @@ function letFollow(form, text, head) {
 }
 
 // Shows forms. Those that the last step changed are marked.
-function showForms(forms, shown) {
+export function showForms(forms, shown) {
   const rows = forms.slice(0, ROWS).map((form, index) => formRow(form, `form ${index}`, shown));
   if (forms.length > ROWS) rows.push(noteRow(`and ${grouped(forms.length - ROWS)} more`));
   if (forms.length === 0) rows.push(noteRow("none"));
   byId("forms").replaceChildren(...rows);
 }
 
-function showBlocks(blocks, shown) {
+export function showBlocks(blocks, shown) {
   byId("blocks-section").hidden = blocks.length === 0;
   const rows = [];
   for (const [place, block] of blocks.slice(0, ROWS).entries()) {
@@ -144,7 +149,7 @@ function noteRow(text, isChanged = false) {
 }
 
 // Settings, each with its name: how it is shown, of the parts of a state and the length of all input.
-const SETTINGS = {
+export const SETTINGS = {
   meta: ["meta character", ({ meta }) => addTextCells(make("span"), meta, 0, "code")],
   trace: ["trace", ({ trace }) => (trace ? "on" : "off")],
   position: ["read", ({ position }, length) => `${grouped(position)} of ${grouped(length)} bytes`],
@@ -153,7 +158,7 @@ const SETTINGS = {
 };
 
 // Shows these settings, and marks those that the last step changed.
-function showRest(names, parts, length, isChanged) {
+export function showRest(names, parts, length, isChanged) {
   byId("rest").replaceChildren(...names.map((name) => {
     const [title, value] = SETTINGS[name];
     const row = make("div", isChanged(name) ? "changed" : "");

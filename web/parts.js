@@ -1,4 +1,5 @@
 // The parts of a state, of the lines that the debugger prints of it. Texts stay as they stand there.
+import { lengthOf } from "./bytes.js";
 
 // The text within the brackets of a line, and the texts of a line with several.
 function textIn(line) {
@@ -30,6 +31,8 @@ class Form {
   constructor(source, line) {
     this.source = source;
     this.line = line;
+    /** @type {string[] | undefined} */
+    this.kept = undefined;
   }
 
   get name() {
@@ -46,8 +49,37 @@ class Form {
   }
 }
 
-// The parts, where so much was read and printed before what the lines say. Each knows the number of its line.
-function partsOf(lines, before) {
+/**
+ * A block of forms put aside.
+ * @typedef {{ number: number, isErased: boolean, forms: Form[], line: number }} Block
+ */
+
+/**
+ * The parts of a state.
+ * @typedef {object} Parts
+ * @property {string[]} lines
+ * @property {string} active
+ * @property {string} base
+ * @property {Begun[]} calls
+ * @property {Form[]} forms
+ * @property {Block[]} blocks
+ * @property {number} outputFrom
+ * @property {number} printed how many bytes were printed
+ * @property {number} [counted]
+ * @property {number} [tail]
+ * @property {string} [meta]
+ * @property {boolean} [trace]
+ * @property {number} [position] how many bytes were read
+ * @property {string} [output] what was printed since the last landmark
+ */
+
+/**
+ * The parts, where so much was read and printed before what the lines say. Each knows the number of its line.
+ * @param {string[]} lines
+ * @param {{ position: number, printed: number }} before
+ */
+export function partsOf(lines, before) {
+  /** @type {Parts} */
   const parts = {
     lines, active: textIn(lines[0]), base: textIn(lines[1]), calls: [], forms: [], blocks: [], outputFrom: before.printed,
     // how many bytes were printed, counted where it is asked for
@@ -75,7 +107,12 @@ function partsOf(lines, before) {
 }
 
 // The text that what is scanned goes to.
-function currentOf(parts) {
+export function currentOf(parts) {
   const inner = parts.calls[parts.calls.length - 1];
   return inner ? inner.texts[inner.texts.length - 1] : parts.base;
+}
+
+// The text of a form in a state, or nothing.
+export function formIn(state, name) {
+  return state.parts.forms.find((form) => form.name === name)?.text;
 }

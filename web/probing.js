@@ -1,8 +1,13 @@
 // How far a run has come that takes long: it is run beside that, for more and more steps. Each time the state and all output are known.
+import { grouped } from "./bytes.js";
+import { addCells } from "./cells.js";
+import { measure } from "./measure.js";
+import { startOfSign } from "./output.js";
+import { byId } from "./elements.js";
 
 // It begins so many milliseconds after the run, with so many steps, each time so many times as many. It has only memory that the run
 // leaves: it ends once it, or the run, is to be done alone.
-const WATCHED = 150;
+export const WATCHED = 150;
 const FIRST_PROBE = 128;
 const MORE_PROBED = 2;
 // What has more bytes of input, larger states, or more output, takes much memory: it is not run twice at once.
@@ -11,7 +16,7 @@ const MOST_PROBED = 1 << 18;
 const SHOWN_SO_FAR = 4096;
 
 // Tells what a run has come to after some steps, as long as that is wanted and there are more.
-async function probe(engine, wanted, isWanted, come) {
+export async function probe(engine, wanted, isWanted, come) {
   const { tape } = wanted;
   if (tape.length > MOST_PROBED) return;
   const spare = { ask: (call, input, more, room) => engine.ask(call, input, { ...more, isSpare: true }, room) };
@@ -25,7 +30,7 @@ async function probe(engine, wanted, isWanted, come) {
 }
 
 // Shows the end of what was printed so far. None of it can be followed yet.
-function showSoFar(view, bytes) {
+export function showSoFar(view, bytes) {
   view.outputKey = null;
   byId("welcome").hidden = true;
   const first = startOfSign(bytes, Math.max(bytes.length - SHOWN_SO_FAR, 0));

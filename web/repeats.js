@@ -1,4 +1,6 @@
 // Of a run that came to no end: which calls are made again and again at its end.
+import { addText, grouped } from "./bytes.js";
+import { buttonOf, byId } from "./elements.js";
 
 // So many of the last calls are looked at, so many kinds are told, and a kind counts from so many calls on.
 const LOOKED_AT = 300;
@@ -23,14 +25,15 @@ function repeatsOf({ steps, texts }) {
 }
 
 // Says it under the end of a run that was stopped; each is a link to where it was made last.
-function showRepeats(page, calls) {
+/** @param {import("./page.js").Page} page */
+export function showRepeats(page, calls) {
   const place = byId("repeats");
   const isOpen = ["spent", "stopped", "refused"].includes(page.run.stand);
   const repeats = isOpen ? repeatsOf(calls) : [];
   place.hidden = repeats.length === 0;
   place.replaceChildren("Called again and again: ");
   repeats.forEach(({ kind, step }, at) => {
-    const link = page.button("", () => page.visit(step));
+    const link = buttonOf("", () => page.cursor.visit(step));
     link.className = "link";
     addText(link, plainKind(kind));
     link.setAttribute("aria-label", `${kind} ..), the last time at step ${grouped(step)}`);

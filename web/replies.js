@@ -1,6 +1,7 @@
 // The replies of the debugger, which are fixed byte for byte: what is not understood is refused.
+import { partsOf } from "./parts.js";
 
-class NotUnderstood extends Error {}
+export class NotUnderstood extends Error {}
 
 const STATE_LINE = new RegExp(
   ("^(?:(?:active|base|meta|output) \\[T\\]|call ##? (?:\\[T\\])+|(?:form|held) \\[T\\] \\[T\\]"
@@ -9,11 +10,13 @@ const STATE_LINE = new RegExp(
 );
 
 // Replies, read one after the other. They are kept as bytes: only what is wanted of them becomes text.
-class Replies {
+export class Replies {
   constructor(bytes) {
     this.bytes = bytes;
     this.decoder = new TextDecoder("latin1");
     this.at = 0;
+    /** @type {string | undefined} */
+    this.whole = undefined;
   }
 
   // All of them as text, of which each sign is a byte.
@@ -100,7 +103,7 @@ class Replies {
 }
 
 // A state: what the debugger prints of it, and what was read and printed before that counts.
-class State {
+export class State {
   constructor(text, before) {
     this.text = text;
     this.before = before;

@@ -1,6 +1,14 @@
+import { grouped, lengthOf } from "./bytes.js";
+import { currentOf } from "./parts.js";
+import { addTextCells, placed } from "./cells.js";
+import { addCall } from "./panels.js";
+import { addArgument, addWord, IDLE_WORDS, RULES, showWords } from "./words.js";
+import { stepsSaid } from "./stretch.js";
+import { byId, make } from "./elements.js";
+
 // The sentences of what led here and of what comes next: of the state before, here, and after. Only the next step is numbered: it has the
 // number that stands in the box, and in the lists.
-function showSentences(step, last, next, endWords, { before, at, after }) {
+export function showSentences(step, last, next, endWords, { before, at, after }) {
   const count = last ? step - last.from : 0;
   if (last) showSentence(byId("last"), count === 1 ? "Just done: " : `Just done, ${grouped(count)} steps: `, last.move, step - 1, before, at);
   else showWords(byId("last"), "Start: ", ["the idle program is there. ", ...IDLE_WORDS]);

@@ -1,22 +1,32 @@
 // Share: a link to what the page shows; and Open, which takes a file or such a link. The address is never written.
+import { grouped } from "./bytes.js";
+import { BUDGET } from "./measure.js";
+import { linkOf, openedLink, WrongLink } from "./link.js";
+import { DECIMALS, WIDE } from "./given.js";
+import { byId } from "./elements.js";
+import { budgetTo, performTo } from "./programs.js";
+import { ask } from "./question.js";
 
 // A link's run goes no further than this step, and by itself no further than any run.
 const MOST_LINK_STEPS = 100000000;
 
 // What is shared: the program as it stands in the editor; and if that was run, the input and the step.
+/** @param {import("./page.js").Page} page */
 function heldByPage(page) {
-  const isRun = page.run !== null && !page.isStale && !page.isBusy;
+  const { run, cursor, editor } = page;
+  const isRun = run !== null && !page.isStale && !page.view.isBusy;
   return {
-    program: isRun ? page.program : page.editor.bytes(),
-    inputs: isRun ? page.inputs : [],
-    isClosed: isRun && page.isClosed,
-    step: isRun ? page.step : null,
+    program: isRun ? run.program : editor.bytes(),
+    inputs: isRun ? run.inputs : [],
+    isClosed: isRun && run.isClosed,
+    step: isRun ? cursor.step : null,
   };
 }
 
 // Opens what a link holds: the program, and if it was run, a run with the same input, at the same step.
+/** @param {import("./page.js").Page} page */
 async function openHeld(page, held) {
-  openProgram(page, "shared.trac", held.program, false);
+  page.open("shared.trac", held.program, false);
   if (held.step === null) return;
   const steps = Math.min(held.step, MOST_LINK_STEPS);
   const isFar = steps > BUDGET
@@ -24,28 +34,16 @@ async function openHeld(page, held) {
   await performTo(page, { ...held, budget: budgetTo(isFar ? steps : 0) }, "the link");
 }
 
-// How many steps a run may take at least that comes to a step.
-function budgetTo(step) {
-  return BUDGET * Math.max(Math.ceil(step / BUDGET), 1);
-}
-
-// Runs a program, and goes to the step that a link or a page is to, if there is one.
-async function performTo(page, { program, inputs, isClosed, step, budget }, who) {
-  await page.perform({ program, inputs, isClosed, budget, isNew: true });
-  if (!page.run || step === null) return;
-  await page.visit(step);
-  if (step > page.run.end) page.note(`${who} is to step ${grouped(step)}, and the run ends before it`);
-}
-
 // Opens the link that is the address, if there is one. If it is wrong, that is said beside an empty editor.
-async function openAddress(page) {
+/** @param {import("./page.js").Page} page */
+export async function openAddress(page) {
   if (location.hash.length < 2) return;
   try {
     await openHeld(page, await openedLink(location.hash));
   } catch (fault) {
     if (!(fault instanceof WrongLink)) throw fault;
-    openProgram(page, "program.trac", new Uint8Array(0), false);
-    page.showWords(fault.message);
+    page.open("program.trac", new Uint8Array(0), false);
+    page.view.showWords(fault.message);
     page.announcer.say("ending", fault.message);
   }
 }
@@ -55,6 +53,7 @@ function isServed() {
   return location.protocol === "https:" || location.protocol === "http:";
 }
 
+/** @param {import("./page.js").Page} page */
 async function share(page) {
   const held = heldByPage(page);
   const link = await linkOf(held);
@@ -88,6 +87,7 @@ async function copyLink() {
 }
 
 // Opens a link that was pasted. If it is wrong, that is said, and nothing else changes.
+/** @param {import("./page.js").Page} page */
 async function openPasted(page) {
   try {
     const held = await openedLink(byId("paste").value);
@@ -100,7 +100,8 @@ async function openPasted(page) {
   }
 }
 
-function startSharing(page) {
+/** @param {import("./page.js").Page} page */
+export function startSharing(page) {
   byId("share").addEventListener("click", () => share(page));
   byId("share-copy").addEventListener("click", copyLink);
   byId("share-close").addEventListener("click", () => byId("share-box").close());

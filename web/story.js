@@ -1,14 +1,21 @@
 // The states of a run. To go to one is to run the program anew up to it: so there is no limit to going back. Those around the
 // cursor are kept.
+import { NotUnderstood, Replies, State } from "./replies.js";
+import { MEASURED, REACHED, SCREEN, walked } from "./asking.js";
 
 // So much is kept of states, and is taken in one reply, in bytes.
 const KEPT_STATES = 64 << 20;
-const WINDOW = 4 << 20;
+export const WINDOW = 4 << 20;
 // So many states are fetched where one is wanted, and so many later, to be there when they are.
 const NEAR_STEPS = 60;
 const WIDE_STEPS = 1000;
 
-class Story {
+/**
+ * States that follow one another, the first of them at this step; and how long their texts are together.
+ * @typedef {{ from: number, states: State[], length: number }} Window
+ */
+
+export class Story {
   // The input, and landmarks of the run: at these steps what was printed is dropped on the way to a state. One processor is asked
   // for what is wanted now, the other, if there is one, for what may be wanted soon.
   constructor(engine, tape, landmarks, ahead = engine) {
@@ -16,14 +23,15 @@ class Story {
     this.ahead = ahead;
     this.tape = tape;
     this.landmarks = landmarks;
-    // windows of states: their first step, the states, and how long they are
+    /** @type {Window[]} what is kept */
     this.windows = [];
     // how long a state near here is, and where the cursor is
     this.size = 1000;
     this.cursor = 0;
+    /** @type {Promise<unknown>} */
     this.fetching = Promise.resolve();
     this.isWidening = false;
-    // the states that were shown last: of these alone the parts are kept
+    /** @type {State[]} those that were shown last: of these alone the parts are kept */
     this.shown = [];
   }
 
@@ -229,6 +237,6 @@ class Story {
 }
 
 // A window of states.
-function windowOf(from, states) {
+export function windowOf(from, states) {
   return { from, states, length: states.reduce((sum, state) => sum + state.text.length, 0) };
 }

@@ -1,8 +1,11 @@
 // Steps that are shown as one: a run of plain bytes that was passed as a token, and those by which the idle program
 // reads on. These are explained once, and folded after that.
+import { grouped } from "./bytes.js";
+import { IDLE_WORDS, movedWords, RULES } from "./words.js";
+import { moveFrom, plainRun, ruleOf } from "./moves.js";
 
 // What is not scanned yet at each step of the idle program, from where it is loaded to where its `rs` is performed.
-const IDLE_TEXTS = ["#(ps,#(rs))", "ps,#(rs))", "s,#(rs))", ",#(rs))", "#(rs))", "rs))", "s))", "))"];
+export const IDLE_TEXTS = ["#(ps,#(rs))", "ps,#(rs))", "s,#(rs))", ",#(rs))", "#(rs))", "rs))", "s))", "))"];
 
 // How many steps of the idle program are done in a state, or -1 where it is not that which goes on.
 function idlePlace(state) {
@@ -16,21 +19,29 @@ function idlePlace(state) {
 // The steps by which the idle program reads on, of which the step after these is one: where it is loaded, and where
 // they end. At the start it is there already. (The program's own `#(rs)` looks the same, but nothing was loaded before
 // it.)
+/** @param {import("./page.js").Page} page */
 function idleSpan(page, step) {
-  const state = page.story.kept(step);
+  const state = page.run.story.kept(step);
   if (!state) return null;
   const from = state.active === "" ? step : step - idlePlace(state) - 1;
   if (from === step && state.active !== "") return null;
-  const loaded = page.story.kept(from);
+  const loaded = page.run.story.kept(from);
   if (from < -1 || (loaded && loaded.active !== "")) return null;
   return { from, to: Math.min(from + 1 + IDLE_TEXTS.length, page.run.end), isFirst: from < 0 };
 }
 
+// The same where these steps are taken as one: unless each of them is asked for.
+export function foldedSpan(page, step) {
+  const idle = page.cursor.showsIdle ? null : idleSpan(page, step);
+  return idle && { ...idle, from: Math.max(idle.from, 0) };
+}
+
 // How many steps there are from a state to where its token ends: a run of plain bytes is one, and so is what the idle
 // program does.
-function tokenLength(page, state, step) {
-  const idle = idleSpan(page, step);
-  if (idle && !idle.isFirst) return idle.to - step;
+/** @param {import("./page.js").Page} page */
+export function tokenLength(page, state, step) {
+  const idle = foldedSpan(page, step);
+  if (idle) return idle.to - step;
   return ruleOf(state) === "x" ? plainRun(state.active) : 1;
 }
 
@@ -38,13 +49,14 @@ function tokenLength(page, state, step) {
 const PATIENCE = 400;
 
 // The step where the token begins that ends at a step; of a long run of plain bytes, where it is looked for no longer.
-async function tokenStart(page, step) {
+/** @param {import("./page.js").Page} page */
+export async function tokenStart(page, step) {
   const began = performance.now();
-  const rule = async (one) => ruleOf(page.story.kept(one) ?? (await page.story.around(one, page.run.end)).at);
+  const rule = async (one) => ruleOf(page.run.story.kept(one) ?? (await page.run.story.around(one, page.run.end)).at);
   let at = Math.max(step - 1, 0);
   await rule(at);
-  const idle = idleSpan(page, at);
-  if (idle && !idle.isFirst) return idle.from;
+  const idle = foldedSpan(page, at);
+  if (idle) return idle.from;
   while (at > 0 && performance.now() - began < PATIENCE) {
     if (await rule(at) !== "x" || await rule(at - 1) !== "x") break;
     at--;
@@ -53,11 +65,12 @@ async function tokenStart(page, step) {
 }
 
 // The same where all that is to be looked at is there; else the step before.
+/** @param {import("./page.js").Page} page */
 function keptTokenStart(page, step) {
   let at = step - 1;
-  const isPlain = (one) => ruleOf(page.story.kept(one)) === "x";
-  if (!page.story.kept(at) || !isPlain(at)) return at;
-  for (; at > 0 && page.story.kept(at - 1); at--) {
+  const isPlain = (one) => ruleOf(page.run.story.kept(one)) === "x";
+  if (!page.run.story.kept(at) || !isPlain(at)) return at;
+  for (; at > 0 && page.run.story.kept(at - 1); at--) {
     if (!isPlain(at - 1)) return at;
   }
   return at === 0 ? at : step - 1;
@@ -70,18 +83,21 @@ function runMove(move, text) {
 
 // What led to the state where the cursor is: from which step, by what move, and in which words, if not in those of its
 // rule.
-function lastOf(page, { before, at }) {
+/** @param {import("./page.js").Page} page */
+export function lastOf(page, { before, at }) {
   if (!before) return null;
-  const { step } = page;
+  const { step } = page.cursor;
   const move = moveFrom(before, at);
   const idle = idleSpan(page, step - 1);
-  if (idle && !idle.isFirst) {
-    const from = step < idle.to ? step - 1 : idle.from;
+  const folded = foldedSpan(page, step - 1);
+  const isWhole = folded !== null && step === folded.to;
+  if (isWhole || (idle && !idle.isFirst)) {
+    const from = isWhole ? folded.from : step - 1;
     return { from, before, move: { ...move, words: idleWords(page, move, idle) } };
   }
-  if (page.passed && move.rule === "x") {
-    const from = page.passed.to === step ? page.passed.from : keptTokenStart(page, step);
-    const start = page.story.kept(from);
+  if (page.cursor.passed && move.rule === "x") {
+    const from = page.cursor.passed.to === step ? page.cursor.passed.from : keptTokenStart(page, step);
+    const start = page.run.story.kept(from);
     if (from < step - 1 && start && ruleOf(start) === "x") {
       return { from, before: start, move: runMove(move, bytesInFront(start.active, step - from)) };
     }
@@ -90,13 +106,14 @@ function lastOf(page, { before, at }) {
 }
 
 // What the next step does; after a move by tokens, the next token.
-function nextOf(page, { at, after }) {
+/** @param {import("./page.js").Page} page */
+export function nextOf(page, { at, after }) {
   if (!after) return null;
-  const { step } = page;
+  const { step } = page.cursor;
   const move = moveFrom(at, after);
-  const idle = idleSpan(page, step);
-  if (idle && idle.from === step) return { to: idle.to, move: { ...move, words: ["the idle program reads on"] } };
-  const length = page.passed && move.rule === "x" ? Math.min(plainRun(at.active), page.run.end - step) : 1;
+  const idle = foldedSpan(page, step);
+  if (idle?.from === step) return { to: idle.to, move: { ...move, words: ["the idle program reads on"] } };
+  const length = page.cursor.passed && move.rule === "x" ? Math.min(plainRun(at.active), page.run.end - step) : 1;
   return { to: step + length, move: length > 1 ? runMove(move, bytesInFront(at.active, length)) : move };
 }
 
@@ -112,11 +129,12 @@ function bytesAsSaid(text, count) {
 }
 
 // The words of a step by which the idle program reads on. It is explained the first time that they are shown.
+/** @param {import("./page.js").Page} page */
 function idleWords(page, move, idle) {
-  const { step, view } = page;
-  if (step < idle.to) return ["the idle program reads on: ", ...RULES[move.rule](move)];
-  // (at the end of a run there is nothing to explain: the program is done)
-  if (step < page.run.end) view.idleTold ??= step;
+  const { cursor: { step, showsIdle }, view } = page;
+  if (step < idle.to || showsIdle) return ["the idle program reads on: ", ...RULES[move.rule](move)];
+  // (at the end of a run there is nothing to explain: the program is done; at the start it is explained before)
+  if (step < page.run.end && !idle.isFirst) view.idleTold ??= step;
   const explained = view.idleTold === step && step < page.run.end ? [". ", ...IDLE_WORDS] : [];
   if (!move.call) return ["the idle program waits to read on", ...explained];
   const more = explained.length ? explained : [", which is scanned next"];
@@ -124,6 +142,6 @@ function idleWords(page, move, idle) {
 }
 
 // What steps are called in a sentence.
-function stepsSaid(from, to) {
+export function stepsSaid(from, to) {
   return to - from === 1 ? `step ${grouped(from)}` : `steps ${grouped(from)} to ${grouped(to - 1)}`;
 }

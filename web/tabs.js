@@ -1,8 +1,9 @@
 // Tabs: where a byte comes from, calls, forms, begun calls, doubts. One stop for the Tab key; arrows choose.
+import { byId, make } from "./elements.js";
 
 const TABS = { way: "Where from", tree: "Calls", forms: "Forms", begun: "Begun", doubts: "Doubts" };
 
-class Tabs {
+export class Tabs {
   constructor(shown) {
     // what is told that a panel is seen now
     this.shown = shown;
@@ -40,7 +41,7 @@ class Tabs {
 
   // How much a panel has stands beside its name.
   count(name, text, isAlarm = false) {
-    const place = byId(`tab-${name}`).lastChild;
+    const place = byId(`tab-${name}`).lastElementChild;
     place.textContent = text;
     byId(`tab-${name}`).setAttribute("aria-label", text ? `${TABS[name]} ${text}` : TABS[name]);
     place.classList.toggle("alarm", isAlarm);

@@ -1,8 +1,16 @@
 // The text in reading order: what is scanned, a mark, what is not scanned yet. What `shown` says of it: the number of the
 // step, if bytes can be followed; and how many signs stand on each side.
+import { addShort, boundary, grouped, lengthOf } from "./bytes.js";
+import { addTextCells, placed } from "./cells.js";
+import { addCallText, isProtected, QUOTES } from "./words.js";
+import { byId, make } from "./elements.js";
 
-// The scanned text in parts, each with its place: base text, and the begun calls.
+/**
+ * The scanned text in parts, each with its place, or a sign: base text, and the begun calls.
+ * @returns {{ text?: string, place?: string, sign?: string, name?: string }[]}
+ */
 function scannedParts(parts, side) {
+  /** @type {{ text?: string, place?: string, sign?: string, name?: string }[]} */
   const list = [{ text: parts.base, place: "base" }];
   // the innermost calls are enough to fill what is shown
   let from = parts.calls.length, signs = 0;
@@ -74,7 +82,7 @@ function standsFor(line, { rule }) {
 
 // Shows the scanned text up to the mark. What was moved or put there stands after what was deleted, but for the parenthesis
 // after protected text.
-function showScanned(parts, move, shown) {
+export function showScanned(parts, move, shown) {
   const line = make("div", "line");
   const come = addScanned(line, scannedParts(parts, shown.side), move, shown);
   const gone = goneOf(move);
@@ -103,7 +111,7 @@ function activeParts(active, last, next, { side }) {
 }
 
 // Shows the text that is not scanned.
-function showActive({ active }, last, next, shown) {
+export function showActive({ active }, last, next, shown) {
   const line = placed(make("div", "line"), "active", shown.step);
   let end = 0;
   for (const { from, text, name } of activeParts(active, last, next, shown)) {

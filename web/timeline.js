@@ -1,86 +1,11 @@
 // Over the slider: how many calls are begun, where something is printed, where a form changes, and where the idle
 // program reads on.
-
-// So many calls of ps are looked for.
-const MOST_PRINTS = 200000;
-
-// The name of a call as it is listed, in small letters.
-function nameSaid(text) {
-  return /^##?\(([A-Za-z]{2})[,)]/.exec(text)?.[1].toLowerCase() ?? "";
-}
-
-// Of runs with so many steps at most, and for so many texts of the input, it is looked for where the idle program reads
-// on.
-const MOST_IDLE_STEPS = 1000000;
-const MOST_IDLES = 5000;
-
-// So much output is looked at for where it was printed.
-const MOST_LOOKED = 4 << 20;
-
-// The steps that printed something, and what: where ps is performed, the idle program's too, and those that print a
-// form. Of much output, the calls of ps.
-async function printsOf(engine, tape, calls, { end, output }) {
-  const names = calls.texts.map(nameSaid);
-  const listed = calls.steps.map((step, index) => ({ step, words: calls.texts[index] }));
-  const said = (wanted) => listed.filter((_, index) => wanted(names[index]));
-  if (output.length > MOST_LOOKED) return said((name) => name === "ps" || name === "pf");
-  const own = names.filter((name) => name === "ps").length;
-  const most = Math.min(own + tape.reduce((sum, byte) => sum + (byte === 39 ? 1 : 0), 2), MOST_PRINTS);
-  const { bytes } = await engine.ask("debug", tape, { commands: `u ps ${end}\ns 1\nc\n`.repeat(most) }, 1 << 20);
-  const replies = new Replies(bytes);
-  const prints = said((name) => name === "pf");
-  let step = 0;
-  for (let left = most; left > 0; left--) {
-    const until = replies.moved("until");
-    const forward = replies.moved("forward");
-    const text = replies.committed();
-    step += until.done + forward.done;
-    if (step > end || until.why || forward.why) break;
-    if (text !== "") prints.push({ step: step - 1, words: `prints ${text}` });
-  }
-  return prints;
-}
-
-// The steps by which the idle program reads on: before each `rs` that is none of the program's own. Of a long run,
-// none.
-async function idlesOf(engine, tape, calls, { end, stand }) {
-  if (end > MOST_IDLE_STEPS || calls.from > 0) return [];
-  const own = new Set(calls.steps);
-  const reads = calls.texts.filter((text) => nameSaid(text) === "rs").length;
-  const count = Math.min(tape.reduce((sum, byte) => sum + (byte === 39 ? 1 : 0), reads + 2), MOST_IDLES);
-  const { bytes } = await engine.ask("debug", tape, { commands: `u rs ${Math.max(end, 1)}\n`.repeat(count) }, 1 << 16);
-  const replies = new Replies(bytes);
-  const spans = [];
-  for (let step = 0, left = count; left > 0; left--) {
-    const { done, why } = replies.moved("until");
-    step += done;
-    // (where the run stands, the program's own one waits too, and is not listed)
-    if (why || step > end || (step === end && stand !== "done")) break;
-    if (!own.has(step)) spans.push({ from: Math.max(step - IDLE_TEXTS.length, 0), to: Math.min(step + 1, end) });
-  }
-  return spans;
-}
-
-// At so many steps it is looked how many calls are begun, and so many bytes tell that of one step, more or less.
-const MOST_DEPTHS = 1500;
-const SCREEN = 1200;
-
-// How many calls are begun at steps that are equally far apart, the first one and the last one too, as trac-walk shows it.
-async function depthsOf(engine, tape, { end }, isClosed) {
-  const stride = Math.max(Math.ceil(end / MOST_DEPTHS), 1);
-  const turns = Math.floor(end / stride), rest = end - turns * stride;
-  const moves = [...Array(turns).fill(stride), ...(rest ? [rest] : [])].flatMap((steps) => [`s ${steps}`, "p"]);
-  const text = await walked(engine, tape, [...endOfInput(isClosed), "p", ...moves], (turns + 2) * SCREEN);
-  const depths = [];
-  let depth = 0;
-  for (const line of text.split("\n")) {
-    const more = /^begun {3}\.\. (\d+) more \.\.$/.exec(line);
-    if (more) depth += Number(more[1]);
-    else if (line.startsWith("begun   ")) depth++;
-    else if (line.startsWith("text    ")) [depths[depths.length], depth] = [depth, 0];
-  }
-  return { stride, depths };
-}
+import { grouped, plainOf, showFramed } from "./bytes.js";
+import { callText } from "./words.js";
+import { nameSaid, NO_CALLS } from "./calls.js";
+import { isForming } from "./changed.js";
+import { byId, focused, make } from "./elements.js";
+import { MOST_IDLE_STEPS } from "./tracks.js";
 
 // The kinds of marks, from above: the colour, and how high it is.
 const LANES = {
@@ -100,18 +25,21 @@ function marksOf(calls) {
 }
 
 // The marks over the slider: a list of one line, with one stop for the Tab key.
-class Timeline {
+export class Timeline {
+  /** @param {import("./page.js").Page} page */
   constructor(page) {
     this.page = page;
     this.box = byId("marks");
+    /** @type {((indexes: number[]) => void) | undefined} what is told which calls are named */
+    this.wants = undefined;
     this.label = byId("mark-label");
     this.forget();
-    byId("depth").addEventListener("click", ({ offsetX, target }) => {
-      this.go(Math.round(offsetX / target.clientWidth * this.end));
+    byId("depth").addEventListener("click", ({ offsetX }) => {
+      this.go(Math.round(offsetX / byId("depth").clientWidth * this.end));
     });
     this.box.addEventListener("click", (event) => this.click(event));
     this.box.addEventListener("keydown", (event) => this.key(event));
-    this.box.addEventListener("focus", () => this.choose(Math.max(this.lastBefore(page.step), 0)));
+    this.box.addEventListener("focus", () => this.choose(Math.max(this.lastBefore(page.cursor.step), 0)));
     this.box.addEventListener("blur", () => this.choose(-1));
     this.box.addEventListener("pointermove", (event) => this.tell(this.near(event)));
     this.box.addEventListener("pointerleave", () => this.tell(this.chosen));
@@ -119,22 +47,28 @@ class Timeline {
   }
 
   forget() {
-    this.show({ steps: [], depths: [], texts: [] }, 0);
+    this.show(NO_CALLS, 0);
   }
 
-  // Shows the calls of a run, and the marks of what is known of it.
+  /**
+   * Shows the calls of a run, and the marks of what is known of it.
+   * @param {import("./calls.js").Calls} calls
+   * @param {number} end
+   */
   show(calls, end) {
-    [this.calls, this.end, this.chosen] = [calls, end, -1];
+    this.calls = calls;
+    this.end = end;
+    this.chosen = -1;
     this.marks = marksOf(calls);
     this.box.hidden = this.marks.length === 0;
     this.draw();
-    if (document.activeElement === this.box) this.choose(Math.max(this.lastBefore(this.page.step), 0));
+    if (focused() === this.box) this.choose(Math.max(this.lastBefore(this.page.cursor.step), 0));
     else this.choose(-1);
   }
 
   go(step) {
-    this.page.play(0);
-    this.page.visit(step);
+    this.page.cursor.play(0);
+    this.page.cursor.visit(step);
   }
 
   // How far from the left a step is, of 1.

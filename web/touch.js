@@ -1,11 +1,15 @@
 // Fingers: a swipe over the text is a step, and a tap beside a sign is for it.
+import { byteUnder } from "./cells.js";
+import { TEXTS } from "./choosing.js";
+import { byId } from "./elements.js";
 
 // So far a finger moves at least, and so far beside a sign it may tap, in pixels of the page.
 const SWIPE = 40;
 const BESIDE = 22;
 
 // A swipe to the right is a step forward, as the key and the slider; to the left, a step back.
-function startSwipes(page) {
+/** @param {import("./page.js").Page} page */
+export function startSwipes(page) {
   const tape = byId("tape");
   let from = null;
   tape.addEventListener("pointerdown", (event) => {
@@ -19,21 +23,22 @@ function startSwipes(page) {
     const across = event.clientX - from.clientX, along = event.clientY - from.clientY;
     from = null;
     if (Math.abs(across) < SWIPE || Math.abs(across) < 2 * Math.abs(along)) return;
-    page.act(page.actions.find(({ keys }) => keys.includes(across > 0 ? "s" : "b")));
+    page.cursor.act(page.actions.find(({ keys }) => keys.includes(across > 0 ? "s" : "b")));
   });
 }
 
 // A finger that only scrolls the page has moved the slider where it came down: it goes back to its step.
-function startSlider(page) {
+/** @param {import("./page.js").Page} page */
+export function startSlider(page) {
   let from = null;
   byId("slider").addEventListener("pointerdown", () => {
-    from = page.step;
+    from = page.cursor.step;
   });
-  byId("slider").addEventListener("pointercancel", () => page.go(from, null, null));
+  byId("slider").addEventListener("pointercancel", () => page.cursor.go(from, null, null));
 }
 
 // The byte under a finger, or the nearest in the text that it taps.
-function byteNear(x, y) {
+export function byteNear(x, y) {
   const found = byteUnder(x, y);
   if (found || !matchMedia("(pointer: coarse)").matches) return found;
   const text = document.elementFromPoint(x, y)?.closest(`${TEXTS}, [data-place], .way-row .code, .box > .head, .rule`);

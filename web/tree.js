@@ -1,17 +1,12 @@
 // The calls of the run as a tree: within a call stand those that made its arguments. Only the rows that can be seen are
 // made.
+import { addText, grouped } from "./bytes.js";
+import { doubtSign } from "./words.js";
+import { levelsOf, NO_CALLS } from "./calls.js";
+import { around, byId, elementOf, make } from "./elements.js";
 
 // So many milliseconds what was typed to choose a call is kept.
 const TYPING = 1000;
-
-// How many calls each call is within.
-function levelsOf(parents) {
-  const levels = new Int32Array(parents.length);
-  for (let index = parents.length - 1; index >= 0; index--) {
-    if (parents[index] >= 0) levels[index] = levels[parents[index]] + 1;
-  }
-  return levels;
-}
 
 // Has an element hold these and no others. Those that stay are not touched, so that nothing reads them anew.
 function keepSame(parent, elements) {
@@ -29,7 +24,7 @@ function isAsked(text, word) {
   return word.startsWith("##(") ? text.startsWith(word) : text.includes(word);
 }
 
-class Tree {
+export class Tree {
   constructor(go) {
     this.box = byId("tree");
     this.go = go;
@@ -41,7 +36,7 @@ class Tree {
     this.box.append(this.rows);
     this.typed = "";
     this.isByKeys = false;
-    this.show({ steps: [], depths: [], texts: [], parents: [] });
+    this.show(NO_CALLS);
     this.box.addEventListener("scroll", () => requestAnimationFrame(() => this.draw()));
     this.box.addEventListener("click", (event) => this.click(event));
     this.box.addEventListener("keydown", (event) => this.key(event));
@@ -49,8 +44,8 @@ class Tree {
     this.box.addEventListener("focus", () => this.entered());
     this.box.addEventListener("blur", () => this.pointed(false));
     // (as a description for all, it would be read aloud after the name, which is the same)
-    this.box.addEventListener("pointerover", ({ target }) => {
-      const row = target.closest(".row");
+    this.box.addEventListener("pointerover", (event) => {
+      const row = around(elementOf(event), ".row");
       if (row) row.title = row.textContent;
     });
     byId("filter").addEventListener("input", () => this.searched());
@@ -63,7 +58,7 @@ class Tree {
     this.folded = new Set();
     this.children = calls.steps.map(() => []);
     this.roots = [];
-    this.ranks = calls.parents.map((parent, index) => this.siblingsOf(index).push(index));
+    this.ranks = calls.parents.map((_, index) => this.siblingsOf(index).push(index));
     this.levels = levelsOf(calls.parents);
     this.made.clear();
     [this.current, this.chosen] = [-1, -1];
@@ -153,6 +148,11 @@ class Tree {
     return row;
   }
 
+  // Fills a row with what it says of its call.
+  fill(row, index) {
+    addText(row, this.calls.texts[index]);
+  }
+
   // What a row says of its call to those who do not see it, and how it looks.
   attributes(place) {
     const index = this.shown[place];
@@ -198,11 +198,11 @@ class Tree {
   }
 
   click(event) {
-    const row = event.target.closest(".row");
+    const row = around(elementOf(event), ".row");
     if (!row) return;
     const index = Number(row.dataset.index);
     this.chosen = index;
-    if (event.target.closest(".fold")?.textContent) this.fold(index, !this.folded.has(index));
+    if (elementOf(event).closest(".fold")?.textContent) this.fold(index, !this.folded.has(index));
     else this.go(this.calls.steps[index]);
   }
 

@@ -1,5 +1,21 @@
 // What the page shows: a run with its output and its end, and of the step where the cursor is the sentences, the text, and what stands
 // beside it.
+import { grouped, leftOut, lengthOf, lineAndColumn, showFramed } from "./bytes.js";
+import { addCells } from "./cells.js";
+import { isDoubtfulForm, SETTINGS, showBegun, showBlocks, showForms, showRest } from "./panels.js";
+import { showActive, showScanned } from "./tape.js";
+import { endingSaid } from "./announce.js";
+import { Refused, Stopped, wordsOf } from "./engine.js";
+import { NotUnderstood } from "./replies.js";
+import { lastOf, nextOf } from "./stretch.js";
+import { showSentences } from "./sentences.js";
+import { endingOf } from "./endings.js";
+import { showOutput, startOfSign } from "./output.js";
+import { NO_CALLS } from "./calls.js";
+import { followed } from "./follow.js";
+import { markDoubts, showDoubts } from "./doubts.js";
+import { keepFocus, setOff } from "./focus.js";
+import { buttonOf, byId, focused } from "./elements.js";
 
 // So much input is shown.
 const MOST_GIVEN = 400;
@@ -8,59 +24,85 @@ const MOST_SHOWN = { side: 300, boxes: 12, mostOfCall: 400, mostOfForm: 2000 };
 // After so many milliseconds an answer can be stopped, and after so many it is said that a run goes on.
 const LATE = 300;
 const SAID_LATE = 1500;
-const CHANGED = "changed since the run";
+export const CHANGED = "changed since the run";
 
-class View {
+export class View {
+  /** @param {import("./page.js").Page} page */
+  constructor(page) {
+    this.page = page;
+    // which of the output is shown: all of it up to a byte, and by what it is known whether that is there already
+    /** @type {Uint8Array | null} */
+    this.output = null;
+    /** @type {string | null} */
+    this.outputKey = null;
+    /** @type {number | undefined} */
+    this.outputTo = undefined;
+    this.hint = "click a character to see where it comes from";
+    // the step where the idle program was explained, and whether bytes of forms may look like gaps
+    /** @type {number | undefined} */
+    this.idleTold = undefined;
+    this.hasMarks = false;
+    this.isBusy = false;
+    this.isLighting = false;
+  }
+
+  redraw() {
+    return this.page.cursor.redraw();
+  }
+
   // Shows what the run came to.
   shown() {
+    const { run, tree, timeline, isStale } = this.page;
     for (const id of ["player", "panels"]) byId(id).hidden = false;
     byId("welcome").hidden = true;
-    const { end, output } = this.run;
+    const { end, output } = run;
     byId("slider").max = String(end);
     byId("of-steps").textContent = `of ${grouped(end)}`;
-    showOutput(this.view, output, output.length, 0, end);
-    byId("program-note").textContent = this.isStale ? CHANGED : "";
-    showDoubts(this, []);
-    this.tree.note = "";
-    this.tree.show({ steps: [], depths: [], texts: [], parents: [] });
-    this.timeline.show(this.tree.calls, end);
+    showOutput(this, output, output.length, 0, end);
+    byId("program-note").textContent = isStale ? CHANGED : "";
+    showDoubts(this.page, []);
+    tree.note = "";
+    tree.show(NO_CALLS);
+    timeline.show(tree.calls, end);
     byId("repeats").hidden = true;
   }
 
   // Nothing of a run is shown.
   clear() {
-    this.run = null;
-    this.story?.letGo();
-    if (this.big.isOn) this.big.leave();
+    const { page } = this;
+    page.run?.story.letGo();
+    page.run = null;
+    if (page.big.isOn) page.big.leave();
     for (const id of ["player", "panels", "given", "input-form", "repeats"]) byId(id).hidden = true;
     byId("output").replaceChildren();
-    this.view.outputKey = null;
+    this.outputKey = null;
     for (const id of ["output-note", "program-note"]) byId(id).textContent = "";
-    for (const name of ["lit", "doubtful"]) this.editor.light(name, []);
+    for (const name of ["lit", "doubtful"]) page.editor.light(name, []);
   }
 
   // Says how the run ended, after other words, if there are any; and where the cursor is, if that is not the end. What can be done about
   // it stands beside it.
   showEnding(lead = "") {
     const ending = byId("ending");
-    const { words, isGood, mend } = endingOf(this);
+    const { words, isGood, mend } = endingOf(this.page);
     ending.textContent = lead + words;
     ending.dataset.words = ending.textContent;
     ending.classList.toggle("good", isGood && lead === "");
-    this.announcer.say("ending", endingSaid(ending.textContent, this.run.output));
-    if (mend) ending.append(this.button(mend.words, mend.does));
+    this.page.announcer.say("ending", endingSaid(ending.textContent, this.page.run.output));
+    if (mend) ending.append(buttonOf(mend.words, mend.does));
     this.showGiven();
   }
 
   // Elsewhere than at the end of the run it is said where, too. What can be done about the end is not offered there.
   showWhere() {
     const ending = byId("ending");
-    const { end } = this.run;
+    const { run: { end }, cursor: { step } } = this.page;
     if (!ending.dataset.words) return;
-    const lead = this.step < end ? `Step ${grouped(this.step)} of ${grouped(end)} is shown. At the end: ` : "";
+    const lead = step < end ? `Step ${grouped(step)} of ${grouped(end)} is shown. At the end: ` : "";
     const words = ending.dataset.words;
     const shown = lead ? lead + words[0].toLowerCase() + words.slice(1) : words;
-    if (ending.firstChild?.nodeType === Node.TEXT_NODE && ending.firstChild.data !== shown) ending.firstChild.data = shown;
+    const text = ending.firstChild;
+    if (text?.nodeType === Node.TEXT_NODE && text.nodeValue !== shown) text.nodeValue = shown;
     ending.classList.toggle("away", lead !== "");
   }
 
@@ -74,7 +116,8 @@ class View {
 
   // Shows the end of what came as input after the program.
   showGiven() {
-    const given = this.tape.subarray(this.program.length);
+    const { tape, program } = this.page.run;
+    const given = tape.subarray(program.length);
     const text = byId("given-text");
     byId("given").hidden = given.length === 0;
     const first = startOfSign(given, Math.max(given.length - MOST_GIVEN, 0));
@@ -84,34 +127,37 @@ class View {
 
   // Shows a state, with what the last step did and the next one does.
   draw(states) {
-    const last = lastOf(this, states), next = nextOf(this, states);
+    const { page } = this;
+    const { run, cursor, tree, big } = page;
+    const last = lastOf(page, states), next = nextOf(page, states);
     const { before, at } = states;
-    const { step } = this;
+    const { step } = cursor;
     const move = last?.move;
     const parts = at.parts;
-    this.read = parts.position;
-    byId("input-form").hidden = !this.takesInput;
-    showSentences(step, last, next, endingOf(this).next, states);
-    markDoubts(this);
+    cursor.read = parts.position;
+    byId("input-form").hidden = !page.runs.takesInput;
+    showSentences(step, last, next, endingOf(page).next, states);
+    markDoubts(page);
     showScanned(parts, move, { ...MOST_SHOWN, step });
     showActive(parts, move, next?.move, { ...MOST_SHOWN, step });
     this.drawPanels(parts, before?.parts, step);
-    showOutput(this.view, this.run.output, parts.printed, move ? lengthOf(move.printed) : 0, step);
-    this.tree.mark(step);
+    showOutput(this, run.output, parts.printed, move ? lengthOf(move.printed) : 0, step);
+    tree.mark(step);
     this.showPlace();
     for (const id of ["start", "back", "over-back", "begin"]) setOff(byId(id), step === 0);
-    for (const id of ["end", "forward", "over", "out"]) setOff(byId(id), step === this.run.end);
+    for (const id of ["end", "forward", "over", "out"]) setOff(byId(id), step === run.end);
     this.showWhere();
     // (this has the browser lay out the page at once)
-    if (this.big.isOn) this.big.bring();
+    if (big.isOn) big.bring();
     this.light(step);
   }
 
   // Shows the number of the step.
   showPlace() {
-    const place = grouped(this.step);
-    byId("slider").value = String(this.step);
-    byId("slider").setAttribute("aria-valuetext", `step ${place} of ${grouped(this.run.end)}`);
+    const { run, cursor: { step } } = this.page;
+    const place = grouped(step);
+    byId("slider").value = String(step);
+    byId("slider").setAttribute("aria-valuetext", `step ${place} of ${grouped(run.end)}`);
     byId("place").value = place;
   }
 
@@ -123,31 +169,28 @@ class View {
       step,
       isChanged: (line) => before !== undefined
         && (line < 2 + parts.calls.length ? before.lines[line] !== parts.lines[line] : !old.has(parts.lines[line])),
-      isDoubtful: (_, text) => isDoubtfulForm(text, this.view.hasMarks),
+      isDoubtful: (_, text) => isDoubtfulForm(text, this.hasMarks),
     };
     showBegun(parts.calls, shown);
     showForms(parts.forms, shown);
     showBlocks(parts.blocks, shown);
-    showRest(Object.keys(SETTINGS), parts, this.tape.length, (name) => before && before[name] !== parts[name]);
-    this.tabs.count("forms", grouped(parts.forms.length));
-    this.tabs.count("begun", grouped(parts.calls.length));
-  }
-
-  // A panel is seen now: the calls are drawn as far as they can be seen.
-  panelShown(name) {
-    if (name === "tree") this.tree?.seen();
+    showRest(Object.keys(SETTINGS), parts, this.page.run.tape.length, (name) => before && before[name] !== parts[name]);
+    const { tabs } = this.page;
+    tabs.count("forms", grouped(parts.forms.length));
+    tabs.count("begun", grouped(parts.calls.length));
   }
 
   // Lights the place in the program where what comes next was written. While that is looked for, only the last step is kept in
   // mind.
   async light(step) {
+    const { page } = this;
     this.lightWanted = { step };
-    if (this.isLighting || this.isStale) return;
+    if (this.isLighting || page.isStale) return;
     this.isLighting = true;
     try {
-      for (let at = null; at !== this.lightWanted && this.run;) {
+      for (let at = null; at !== this.lightWanted && page.run;) {
         at = this.lightWanted;
-        const place = await placeInProgram(this, at.step).catch(() => null);
+        const place = await placeInProgram(page, at.step).catch(() => null);
         if (at === this.lightWanted) this.lit(place);
       }
     } finally {
@@ -157,17 +200,18 @@ class View {
 
   // Lights a byte of the program, or none.
   lit(place) {
-    if (this.isStale || !this.run) return;
-    const isInProgram = place !== null && place < this.program.length;
-    this.editor.light("lit", isInProgram ? [place] : []);
-    const where = isInProgram ? lineAndColumn(this.program, place) : "in the input";
+    const { run, isStale, editor } = this.page;
+    if (isStale || !run) return;
+    const isInProgram = place !== null && place < run.program.length;
+    editor.light("lit", isInProgram ? [place] : []);
+    const where = isInProgram ? lineAndColumn(run.program, place) : "in the input";
     byId("program-note").textContent = place === null ? "" : `here: ${where}`;
   }
 
   // Opens the help or closes it. By a key the help has the focus then, and after that what had it before.
   help(isOpening = byId("help").hidden) {
     const help = byId("help");
-    const held = document.activeElement;
+    const held = focused();
     help.hidden = !isOpening;
     byId("help-button").setAttribute("aria-expanded", String(isOpening));
     if (isOpening) {
@@ -200,19 +244,12 @@ class View {
       byId("stop").hidden = !isBusy;
       if (isBusy) this.showWords("It runs.");
     });
-    if (isBusy) this.saying = setTimeout(() => this.announcer.say("ending", "It runs. Escape stops it."), SAID_LATE);
-  }
-
-  button(word, does) {
-    const button = make("button", "", word);
-    button.type = "button";
-    button.addEventListener("click", does);
-    return button;
+    if (isBusy) this.saying = setTimeout(() => this.page.announcer.say("ending", "It runs. Escape stops it."), SAID_LATE);
   }
 
   note(words) {
     showFramed(byId("note"), words);
-    this.announcer.say("note", words);
+    this.page.announcer.say("note", words);
   }
 
   // Says what went wrong. The page goes on.
@@ -223,31 +260,10 @@ class View {
   }
 }
 
-// Shows words in an element: a byte without a letter has its frame.
-function showFramed(parent, words) {
-  parent.replaceChildren();
-  words.split(/‹(\w+)›/).forEach((part, at) => {
-    if (at % 2) parent.append(make("span", "byte", part));
-    else if (part) parent.append(part);
-  });
-}
-
-// What is said where the processor could not answer.
-const REFUSALS = {
-  "no memory": "Memory was refused, for this page takes 512 MiB for a run: a form may grow with each call.",
-  "the reply is too long": "This is too long to be shown: the states around one step have more than 128 MiB.",
-  "the output is too long": "This is too long to be shown: more than 64 MiB are printed.",
-  "the input is too long": "A limit is passed: a program and its input may have at most 33,554,432 bytes.",
-};
-
-// What is said of a fault.
-function wordsOf(fault) {
-  return fault instanceof Refused ? REFUSALS[fault.why] ?? `Memory was refused (${fault.why}).` : fault.message;
-}
-
 // Where what comes next was written: a byte of all input, or nothing.
+/** @param {import("./page.js").Page} page */
 async function placeInProgram(page, step) {
-  const state = page.story.kept(step);
+  const state = page.run.story.kept(step);
   if (!state) return null;
   const places = [];
   if (state.active) places.push("active");
@@ -258,20 +274,4 @@ async function placeInProgram(page, step) {
     if (last?.deed === "reads") return last.byte;
   }
   return null;
-}
-
-// Asks a question that is answered by yes or no.
-function ask(words) {
-  const box = byId("question");
-  byId("question-text").textContent = words;
-  return new Promise((resolve) => {
-    const answer = (isYes) => {
-      if (box.open) box.close();
-      resolve(isYes);
-    };
-    byId("question-yes").onclick = () => answer(true);
-    byId("question-no").onclick = () => answer(false);
-    box.onclose = () => answer(false);
-    box.showModal();
-  });
 }

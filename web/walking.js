@@ -1,19 +1,28 @@
 // Moves through a run. Where a call is meant, trac-walk says the step.
+import { grouped } from "./bytes.js";
+import { buttonOf, byId, make } from "./elements.js";
+
+// How far a step goes, as the switch says: what the buttons do then, and the name of that.
+export const UNITS = ["byte", "token", "call"];
+// So many tokens a second it may play.
+const SPEEDS = [1, 2, 4, 8, 16, 32];
+const SPEED = 8;
 
 // What can be done in the player: a button's sign, if it has one, what it is for, its keys, and what it does. `way` says that it does
 // nothing at the start, or at the end.
-function actionsOf(page) {
-  const walk = (line) => () => page.walk(line);
+/** @param {import("./page.js").Page} page */
+export function actionsOf(page) {
+  const walk = (line) => () => page.cursor.walk(line);
   return [
-    { id: "start", bar: "buttons", sign: "|◀", words: "to the start", keys: ["Home"], way: -1, does: () => page.go(0) },
-    { id: "back", bar: "buttons", sign: "◀ back", words: "back, as far as the switch says", keys: [], way: -1, does: () => page.unitBack() },
-    { id: "play", bar: "buttons", sign: "play", words: "play, pause", keys: [" "], does: () => page.play() },
-    { id: "forward", bar: "buttons", sign: "step ▶", words: "forward, as far as the switch says", keys: [], way: 1, does: () => page.unitForward() },
-    { id: "end", bar: "buttons", sign: "▶|", words: "to the end", keys: ["End"], way: 1, does: () => page.go(page.run.end) },
-    { words: "a step back", keys: ["b"], way: -1, does: () => page.go(page.step - 1) },
-    { words: "a step forward", keys: ["s"], way: 1, does: () => page.go(page.step + 1) },
-    { words: "a token back", keys: ["ArrowLeft"], way: -1, does: () => page.tokenBack() },
-    { words: "a token forward", keys: ["ArrowRight"], way: 1, does: () => page.token() },
+    { id: "start", bar: "buttons", sign: "|◀", words: "to the start", keys: ["Home"], way: -1, does: () => page.cursor.go(0) },
+    { id: "back", bar: "buttons", sign: "◀ back", words: "back, as far as the switch says", keys: [], way: -1, does: () => page.cursor.unitBack() },
+    { id: "play", bar: "buttons", sign: "play", words: "play, pause", keys: [" "], does: () => page.cursor.play() },
+    { id: "forward", bar: "buttons", sign: "step ▶", words: "forward, as far as the switch says", keys: [], way: 1, does: () => page.cursor.unitForward() },
+    { id: "end", bar: "buttons", sign: "▶|", words: "to the end", keys: ["End"], way: 1, does: () => page.cursor.go(page.run.end) },
+    { words: "a step back", keys: ["b"], way: -1, does: () => page.cursor.stepBack() },
+    { words: "a step forward", keys: ["s"], way: 1, does: () => page.cursor.stepForward() },
+    { words: "a token back", keys: ["ArrowLeft"], way: -1, does: () => page.cursor.tokenBack() },
+    { words: "a token forward", keys: ["ArrowRight"], way: 1, does: () => page.cursor.token() },
     { words: "back to the call before", keys: ["r", "Shift+ArrowLeft"], way: -1, does: walk("r") },
     { words: "forward to the next call", keys: ["u", "Shift+ArrowRight"], way: 1, does: walk("u") },
     { id: "over-back", bar: "more-buttons", sign: "◀ over", words: "back over the call that gave what stands here", keys: ["N"], way: -1, does: walk("N") },
@@ -24,22 +33,24 @@ function actionsOf(page) {
 }
 
 // What keys do beside those.
-function moreKeys(page) {
+/** @param {import("./page.js").Page} page */
+export function moreKeys(page) {
   return [
-    { keys: ["m"], words: "back to where the last of these moves began", does: () => page.returnTo() },
-    { keys: ["y"], words: "where the name of the next call comes from", does: () => page.followName() },
-    { keys: ["w"], words: "back to the call that changed a form last", does: () => page.whoChanged(null) },
-    { keys: ["d"], words: "forward to the next doubt", does: () => page.doubt(1) },
-    { keys: ["D"], words: "back to the last doubt", does: () => page.doubt(-1) },
+    { keys: ["m"], words: "back to where the last of these moves began", does: () => page.cursor.returnTo() },
+    { keys: ["y"], words: "where the name of the next call comes from", does: () => page.cursor.followName() },
+    { keys: ["w"], words: "back to the call that changed a form last", does: () => page.cursor.whoChanged(null) },
+    { keys: ["d"], words: "forward to the next doubt", does: () => page.cursor.doubt(1) },
+    { keys: ["D"], words: "back to the last doubt", does: () => page.cursor.doubt(-1) },
     { keys: ["g"], words: "to the number of a step", does: () => byId("place").select() },
-    { keys: ["/"], words: "search the calls", does: () => page.search() },
+    { keys: ["/"], words: "search the calls", does: () => page.cursor.search() },
+    { keys: ["i"], words: "each step of the idle program, or all as one", does: () => page.cursor.showIdle() },
     { keys: ["f"], words: "rule and text alone, in large type, and back", does: () => page.big.toggle() },
-    { keys: ["?", "h"], words: "this help", does: () => page.help() },
+    { keys: ["?", "h"], words: "this help", does: () => page.view.help() },
   ];
 }
 
 // The name of a key as a press of it says.
-function keyOf(event) {
+export function keyOf(event) {
   return event.shiftKey && event.key.startsWith("Arrow") ? `Shift+${event.key}` : event.key;
 }
 
@@ -54,7 +65,8 @@ function buttonName({ sign, words }) {
 }
 
 // Shows buttons, the switch, and the list of keys.
-function showActions(page, actions) {
+/** @param {import("./page.js").Page} page */
+export function showActions(page, actions) {
   for (const action of actions) if (action.bar) addButton(page, action);
   byId("buttons").append(unitSwitch(page));
   for (const speed of SPEEDS) byId("speed").append(new Option(`${speed}/s`, String(speed), speed === SPEED, speed === SPEED));
@@ -68,9 +80,10 @@ function showActions(page, actions) {
   }
 }
 
+/** @param {import("./page.js").Page} page */
 function addButton(page, action) {
   const { id, bar, sign, words, keys } = action;
-  const button = page.button("", () => page.act(action));
+  const button = buttonOf("", () => page.cursor.act(action));
   button.id = id;
   // (a small window has no room for the words of two of them)
   const parts = /^(◀ )?(back|step)( ▶)?$/.test(sign) ? sign.split(/([a-z]+)/) : [sign];
@@ -81,13 +94,14 @@ function addButton(page, action) {
 }
 
 // How far a step goes by these buttons.
+/** @param {import("./page.js").Page} page */
 function unitSwitch(page) {
   const place = make("span");
   place.id = "unit";
   place.setAttribute("role", "group");
   place.setAttribute("aria-label", "How far a step goes");
   for (const unit of UNITS) {
-    const button = page.button(unit, () => page.setUnit(unit));
+    const button = buttonOf(unit, () => page.cursor.setUnit(unit));
     button.id = unit;
     place.append(button);
   }
@@ -95,7 +109,7 @@ function unitSwitch(page) {
 }
 
 // The buttons say how far they go.
-function showUnit(unit) {
+export function showUnit(unit) {
   const [words, back, forward] = UNIT_WORDS[unit];
   for (const [id, word, way, key] of [["back", "back", "back", back], ["forward", "step", "forward", forward]]) {
     byId(id).title = `${words} ${way} (${key})`;
@@ -104,13 +118,14 @@ function showUnit(unit) {
 }
 
 // The number of the step, which can be typed.
+/** @param {import("./page.js").Page} page */
 function startPlace(page) {
   const box = byId("place");
   box.addEventListener("change", () => {
     const digits = box.value.replaceAll(",", "").trim();
     const isStep = /^\d+$/.test(digits) && Number(digits) <= page.run.end;
-    page.note(isStep ? "" : `the run has steps 0 to ${grouped(page.run.end)}`);
-    if (/^\d+$/.test(digits)) page.visit(Number(digits));
-    else page.redraw();
+    page.view.note(isStep ? "" : `the run has steps 0 to ${grouped(page.run.end)}`);
+    if (/^\d+$/.test(digits)) page.cursor.visit(Number(digits));
+    else page.cursor.redraw();
   });
 }

@@ -1,4 +1,13 @@
 // Where a byte comes from: the calls that carried it, each a link, and the byte of the program that it was read from.
+import { addShort, grouped, lengthOf, lineAndColumn, plainOf } from "./bytes.js";
+import { rangeOfByte } from "./cells.js";
+import { addCall } from "./panels.js";
+import { callText } from "./words.js";
+import { ruleOf } from "./moves.js";
+import { addLight, setLight } from "./lights.js";
+import { followed } from "./follow.js";
+import { keepFocus } from "./focus.js";
+import { around, buttonOf, byId, elementOf, make } from "./elements.js";
 
 const DEEDS = { prints: "prints it", sets: "sets it", gives: "gives it", makes: "makes it", there: "it is there already" };
 // So often a byte that a call made is followed on by itself, through the same argument of calls of the same name.
@@ -7,14 +16,15 @@ const SHOWN_ROWS = 30;
 // What is said after a place in a program that was changed since the run.
 const OF_OLD = " of the program as it was run";
 
-class Way {
+export class Way {
+  /** @param {import("./page.js").Page} page */
   constructor(page) {
     this.page = page;
     this.rows = [];
     this.turn = 0;
     byId("way-list").addEventListener("click", (event) => {
-      const link = event.target.closest("[data-go]");
-      if (link) page.visit(Number(link.dataset.go));
+      const link = around(elementOf(event), "[data-go]");
+      if (link) page.cursor.visit(Number(link.dataset.go));
     });
   }
 
@@ -33,7 +43,7 @@ class Way {
   // byte of an argument that was followed, the same argument of the next such call is followed too.
   async follow(holder, number) {
     const turn = ++this.turn;
-    const row = holder.closest(".way-row");
+    const row = around(holder, ".way-row");
     this.rows = row?.dataset.row ? this.rows.slice(0, Number(row.dataset.row) + 1) : [];
     const range = rangeOfByte(holder, number);
     setLight("followed", range ? [range] : []);
@@ -42,7 +52,7 @@ class Way {
     for (let hop = 0; from && hop < MOST_HOPS && turn === this.turn; hop++) from = await this.hop(from, turn);
     if (turn !== this.turn) return;
     // (the large view leaves out the list, so there it is shown what is said of it)
-    if (this.page.big.isOn) this.page.note(`${this.said()}; Esc shows the list`);
+    if (this.page.big.isOn) this.page.view.note(`${this.said()}; Esc shows the list`);
     else this.page.announcer.say("note", this.said());
   }
 
@@ -68,7 +78,7 @@ class Way {
     if (turn !== this.turn) return null;
     this.rows.push(...found);
     this.draw();
-    const states = await this.page.story.at([from.step, ...found.map((row) => row.step).filter((step) => step >= 0)]);
+    const states = await this.page.run.story.at([from.step, ...found.map((row) => row.step).filter((step) => step >= 0)]);
     if (turn !== this.turn) return null;
     for (const row of found) row.state = states.get(row.step);
     this.draw();
@@ -77,8 +87,9 @@ class Way {
 
   // The argument of the call at the end of the way that is followed next by the keys.
   focus() {
-    const found = byId("way-list").lastChild?.querySelectorAll("[data-place][tabindex]") ?? [];
-    (found[found.length - 1] ?? byId("way-list").lastChild?.querySelector("button"))?.focus();
+    const last = byId("way-list").lastElementChild;
+    const texts = [...last?.querySelectorAll("[data-place][tabindex]") ?? []];
+    around(texts.at(-1) ?? last?.querySelector("button"), "[tabindex], button")?.focus();
   }
 
   draw() {
@@ -88,15 +99,15 @@ class Way {
     keepFocus(() => list.replaceChildren(...this.rows.map((row, index) => this.row(row, index))));
     const last = this.rows[this.rows.length - 1];
     this.light(last?.deed === "reads" ? last.byte : null);
-    list.lastChild?.scrollIntoView({ block: "nearest" });
+    list.lastElementChild?.scrollIntoView({ block: "nearest" });
   }
 
   // Lights the byte that was read, in the program or in what came after it.
   light(byte) {
-    const { editor, program } = this.page;
-    const isInput = byte !== null && byte >= program.length;
-    editor.light("read", byte === null || isInput || this.page.isStale ? [] : [byte]);
-    const range = isInput && rangeOfByte(byId("given-text"), byte - program.length);
+    const { editor, run, isStale } = this.page;
+    const isInput = byte !== null && byte >= run.program.length;
+    editor.light("read", byte === null || isInput || isStale ? [] : [byte]);
+    const range = isInput && rangeOfByte(byId("given-text"), byte - run.program.length);
     if (range) addLight("followed", range);
   }
 
@@ -123,7 +134,7 @@ class Way {
       } else reachable(call, "call");
       line.append(call);
     }
-    const isRead = row.deed === "reads" && row.byte < this.page.program.length;
+    const isRead = row.deed === "reads" && row.byte < this.page.run.program.length;
     const deed = make("span", row === this.rows[this.rows.length - 1] ? "deed way-end" : "deed", isRead ? "reads it: " : this.words(row));
     if (isRead) deed.append(placeOf(this.page, row.byte));
     line.append(deed);
@@ -135,7 +146,7 @@ class Way {
     const isLast = row === this.rows[this.rows.length - 1];
     if (row.deed === "makes" && isLast && callOf(row)?.texts.length > 1) return "makes it: follow one of its arguments";
     if (row.deed !== "reads") return DEEDS[row.deed];
-    const { program } = this.page;
+    const { program } = this.page.run;
     if (row.byte < program.length) return `reads it: ${placeSaid(this.page, row.byte)}`;
     return `reads it: byte ${grouped(row.byte - program.length + 1)} of the input after the program`;
   }
@@ -147,21 +158,22 @@ function callOf({ state }) {
 }
 
 // What a place in the program is called.
-function placeSaid({ program, isStale }, byte) {
-  return lineAndColumn(program, byte) + (isStale ? OF_OLD : "");
+function placeSaid({ run, isStale }, byte) {
+  return lineAndColumn(run.program, byte) + (isStale ? OF_OLD : "");
 }
 
 // A place in the program, which leads there: that byte is chosen in the editor, unless that has another text now.
-function placeOf(page, byte) {
+/** @param {import("./page.js").Page} page */
+export function placeOf(page, byte) {
   const words = placeSaid(page, byte);
   if (page.isStale) return make("span", "", words);
-  const button = page.button(words, () => page.editor.choose(byte));
+  const button = buttonOf(words, () => page.editor.choose(byte));
   button.className = "place";
   return button;
 }
 
 // The editor has another text now: no place leads there any more.
-function unlinkPlaces() {
+export function unlinkPlaces() {
   keepFocus(() => {
     for (const button of document.querySelectorAll("button.place")) button.replaceWith(make("span", "", button.textContent + OF_OLD));
   });

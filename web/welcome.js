@@ -1,10 +1,14 @@
 // The first minute: a program to run, what to do with it, and some others to try. And the list of all programs that come with the page.
+import { bytesOfSigns, textOf } from "./bytes.js";
+import { buttonOf, byId, make } from "./elements.js";
+import { startList } from "./lists.js";
 
 // What is there at first, and what else is offered beside that.
 const FIRST = "wrong-factorial.trac";
 const TRIES = ["hello.trac", "guess.trac", "hanoi.trac"];
 
-class Library {
+export class Library {
+  /** @param {import("./page.js").Page} page */
   constructor(page) {
     this.page = page;
     this.programs = JSON.parse(byId("library-data").textContent);
@@ -25,8 +29,8 @@ class Library {
   }
 
   open(program) {
-    openProgram(this.page, program.name, bytesOfSigns(program.text));
-    this.page.showWords(`${program.title}: ${program.line}. Press Run.`);
+    this.page.open(program.name, bytesOfSigns(program.text));
+    this.page.view.showWords(`${program.title}: ${program.line}. Press Run.`);
   }
 
   named(name) {
@@ -36,21 +40,22 @@ class Library {
 
 // Shows what a newcomer meets: the program that was typed last, or a first one, and what to do. Whoever opens the page of
 // a program meets that.
-function welcome(page, isGiven) {
+/** @param {import("./page.js").Page} page */
+export function welcome(page, isGiven) {
   const { library } = page;
   const first = library.named(FIRST);
   const isBack = page.draft.restore();
   if (!isBack && !isGiven) page.editor.put({ name: first.name, bytes: bytesOfSigns(first.text) });
   byId("welcome-about").hidden = page.editor.name !== FIRST || page.editor.box.value !== textOf(bytesOfSigns(first.text));
   for (const program of TRIES.map((name) => library.named(name))) {
-    addTry(page, program.title, program.line, () => library.open(program));
+    addTry(program.title, program.line, () => library.open(program));
   }
-  addTry(page, "The course", "TRAC in short lessons, with exercises", () => page.course.show(0));
+  addTry("The course", "TRAC in short lessons, with exercises", () => page.course.show(0));
   byId("welcome").hidden = isGiven;
 }
 
-function addTry(page, title, line, does) {
-  const button = page.button("", does);
+function addTry(title, line, does) {
+  const button = buttonOf("", does);
   button.append(make("b", "", title), line);
   byId("tries").append(button);
 }

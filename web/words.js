@@ -1,9 +1,12 @@
 // What each step and each primitive does, in the words of docs/language.md. A text of the program stands in a list,
 // with what it is after it; the empty text has a sign of its own.
+import { addShort, grouped } from "./bytes.js";
+import { reasonOf } from "./branch.js";
+import { make } from "./elements.js";
 
 const UNPROTECTED = [" that is not protected by ", ["( )"]];
 
-const RULES = {
+export const RULES = {
   i: () => ["nothing is left: base text and begun functions are emptied, and the idle program is loaded"],
   "(": (move) => [["("], " and its matching ", [")"],
     " are deleted, and what they protect goes to the current text unchanged", protectedWords(move.moved)],
@@ -23,9 +26,9 @@ const RULES = {
 // What stands for the empty text in a list or a label, and the quotes around an argument that has a comma or a
 // parenthesis. The debugger prints no such sign, so none is the program's.
 const EMPTY = "‹empty›";
-const QUOTES = ["“", "”"];
+export const QUOTES = ["“", "”"];
 
-const PRIMITIVES = {
+export const PRIMITIVES = {
   ps: "prints its argument",
   rs: "reads a text of the input, up to the meta character",
   rc: "reads the next byte of the input",
@@ -62,12 +65,12 @@ const PRIMITIVES = {
 };
 
 // What the idle program is.
-const IDLE_WORDS = ["It is ", ["#(ps,#(rs))"], ", there at the start and whenever nothing is left: ", ["rs"],
+export const IDLE_WORDS = ["It is ", ["#(ps,#(rs))"], ", there at the start and whenever nothing is left: ", ["rs"],
   " reads a text of the input, up to the meta character; that is scanned as the argument of ", ["ps"],
   ", which prints what is left of it"];
 
 // What is moved: blanks have a word, since nobody hears them.
-function movedWords(text) {
+export function movedWords(text) {
   if (!/^ +$/.test(text)) return [text];
   return text.length === 1 ? "a blank" : `${grouped(text.length)} blanks`;
 }
@@ -117,7 +120,7 @@ function fateOf(move) {
 }
 
 // Whether an argument could be taken for several, or for a call.
-function isProtected(text) {
+export function isProtected(text) {
   return /[(),]/.test(text);
 }
 
@@ -127,7 +130,7 @@ function argumentText(text) {
 }
 
 // A call as it is written, in one text.
-function callText(call) {
+export function callText(call) {
   const texts = call.texts.map((text) => (text === "" ? "" : argumentText(text)));
   return `${call.neutral ? "##(" : "#("}${texts.join(",")})`;
 }
@@ -141,7 +144,7 @@ function emptySign() {
 }
 
 // What is doubted. For those who do not see the sign before it there is a word.
-function doubtSign(words) {
+export function doubtSign(words) {
   const sign = make("span", "doubt");
   sign.append(make("span", "unseen", ". Doubt: "), words);
   return sign;
@@ -149,7 +152,7 @@ function doubtSign(words) {
 
 // Adds an argument, of which `add` adds the text and returns its element: where it is protected it stands in quotes,
 // and where it is empty there is the sign for that. One that is gathered still is open at its end.
-function addArgument(parent, text, add, isOpen = false) {
+export function addArgument(parent, text, add, isOpen = false) {
   const isQuoted = isProtected(text);
   if (isQuoted) parent.append(make("span", "quote", QUOTES[0]));
   const span = add();
@@ -158,7 +161,7 @@ function addArgument(parent, text, add, isOpen = false) {
 }
 
 // Adds a call as it is written; of a long argument its middle is left out.
-function addCallText(parent, call, most) {
+export function addCallText(parent, call, most) {
   const code = make("span", "code");
   code.append(make("span", "kind", call.neutral ? "##(" : "#("));
   call.texts.forEach((text, index) => {
@@ -171,7 +174,7 @@ function addCallText(parent, call, most) {
 }
 
 // Adds a word of a sentence: what stands first in a list is a text of the program.
-function addWord(parent, word) {
+export function addWord(parent, word) {
   if (!Array.isArray(word)) parent.append(word);
   else if (word[1] === "call") addCallText(parent, word[2], 60);
   else if (/text/.test(word[1])) addArgument(parent, word[0], () => addShort(parent, word[0], "code", 72));
@@ -180,7 +183,7 @@ function addWord(parent, word) {
 }
 
 // Shows words in an element.
-function showWords(parent, lead, words) {
+export function showWords(parent, lead, words) {
   parent.replaceChildren(make("b", "", lead));
   for (const word of words) addWord(parent, word);
 }

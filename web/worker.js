@@ -1,113 +1,114 @@
 // The Worker of the page. It is given the module once, and the input where that is another than before. All requests are done by one
 // instance of the module, which forgets what it had of one before the next: so its memory is as large as the largest needs, and no
 // memory of others is left behind.
-"use strict";
-(() => {
-  // A reply may be so long, in bytes, and the memory of the module so large.
-  const MOST = 1 << 27, MEMORY = 1 << 29;
-  const FULL = 9, NO_MEMORY = 5;
-  const JOURNAL = 1048576, KEEP = 1 << 28, DECIMALS = 128;
 
-  // Why a request is not answered, where the module is as it was before.
-  class Refusal extends Error {}
+// A reply may be so long, in bytes, and the memory of the module so large.
+const MOST = 1 << 27, MEMORY = 1 << 29;
+const FULL = 9, NO_MEMORY = 5;
+const JOURNAL = 1048576, KEEP = 1 << 28, DECIMALS = 128;
 
-  // What the module has.
-  class Instance {
-    constructor(module) {
-      this.exports = new WebAssembly.Instance(module, {}).exports;
-    }
+// Why a request is not answered, where the module is as it was before.
+class Refusal extends Error {}
 
-    // Forgets all that there is; the memory may grow to so many bytes from here on.
-    begin(memory) {
-      this.exports.trac_web_begin(BigInt(memory));
-    }
-
-    // The address of a block of so many bytes.
-    room(size) {
-      const address = this.exports.trac_web_allocate(BigInt(size));
-      if (address === 0n) throw new Refusal("no memory");
-      return address;
-    }
-
-    // The address and the length of bytes that are put there.
-    put(bytes) {
-      const address = this.room(Math.max(bytes.length, 1));
-      new Uint8Array(this.exports.memory.buffer).set(bytes, Number(address));
-      return [address, BigInt(bytes.length)];
-    }
-
-    // Calls a function with these words, and a room of so many bytes for its reply. It may write some numbers beside.
-    call(name, words, size, beside = 0) {
-      const output = this.room(size), written = this.room(8);
-      const others = Array.from({ length: beside }, () => this.room(8));
-      const status = this.exports[name](...words, output, BigInt(size), written, ...others);
-      const length = Number(new DataView(this.exports.memory.buffer).getBigUint64(Number(written), true));
-      return { status, bytes: new Uint8Array(this.exports.memory.buffer, Number(output), length).slice() };
-    }
+// What the module has.
+class Instance {
+  constructor(module) {
+    /** @type {any} */
+    this.exports = new WebAssembly.Instance(module, {}).exports;
   }
 
-  const encode = (text) => new TextEncoder().encode(text);
-
-  // What each call takes before the room for its reply, and how many numbers it writes beside.
-  const CALLS = {
-    run: (instance, { tape, budget, decimals }) =>
-      ["trac_web_run", [...instance.put(tape), BigInt(budget), BigInt(decimals)], 1],
-    debug: (instance, { tape, commands, decimals }) =>
-      ["trac_web_debug", [...instance.put(tape), ...instance.put(encode(commands)), BigInt(JOURNAL), BigInt(decimals)]],
-    walk: (instance, { tape, commands, journal = JOURNAL, keep = KEEP, decimals }) => {
-      const numbers = [journal, keep, decimals].map(BigInt);
-      return ["trac_web_walk", [...instance.put(tape), ...instance.put(encode(commands)), ...numbers]];
-    },
-    way: (instance, { tape, step, kind, numbers, name, decimals }) => {
-      const place = [step, kind, ...numbers].map(BigInt), most = [JOURNAL, decimals].map(BigInt);
-      return ["trac_web_way", [...instance.put(tape), ...place, ...instance.put(name), ...most]];
-    },
-    doubts: (instance, { tape, budget, decimals }) =>
-      ["trac_web_doubts", [...instance.put(tape), BigInt(budget), BigInt(decimals)], 1],
-  };
-
-  // Answers a request: a reply that is too long for its room is asked for again with twice the room or more. If so much is not
-  // wanted, its front is enough.
-  function answer(instance, request) {
-    const most = request.most ?? MOST;
-    for (let room = Math.min(request.room, most); ; room = Math.min(Math.max(room * 2, 1 << 22), most)) {
-      instance.begin(request.memory);
-      const [name, words, beside] = CALLS[request.call](instance, request);
-      const { status, bytes } = instance.call(name, words, room, beside);
-      if (status === NO_MEMORY || isShort(instance, request)) throw new Refusal("no memory");
-      if (status !== FULL || (room === most && request.most)) return { status, bytes };
-      if (room === most) throw new Refusal("the reply is too long");
-    }
+  // Forgets all that there is; the memory may grow to so many bytes from here on.
+  begin(memory) {
+    this.exports.trac_web_begin(BigInt(memory));
   }
 
-  // Whether memory was refused that the module may have if nothing else takes any.
-  function isShort({ exports }, { memory }) {
-    return memory < MEMORY && exports.trac_web_refusals() > 0n;
+  // The address of a block of so many bytes.
+  room(size) {
+    const address = this.exports.trac_web_allocate(BigInt(size));
+    if (address === 0n) throw new Refusal("no memory");
+    return address;
   }
 
-  // The instance, and the input.
-  let instance = null, tape = null;
-
-  // Answers a request, or says why not.
-  async function reply(compiled, request) {
-    const { number } = request;
-    tape = request.tape ?? tape;
-    const asked = { decimals: DECIMALS, ...request, tape, memory: request.memory ?? MEMORY };
-    const module = await compiled;
-    try {
-      instance ??= new Instance(module);
-      const { status, bytes } = answer(instance, asked);
-      self.postMessage({ number, status, bytes, memory: instance.exports.memory.buffer.byteLength }, [bytes.buffer]);
-    } catch (fault) {
-      self.postMessage({ number, refused: fault.message, isShort: instance !== null && isShort(instance, asked) });
-      // (one that was cut off is not used again)
-      if (!(fault instanceof Refusal)) instance = null;
-    }
+  // The address and the length of bytes that are put there.
+  put(bytes) {
+    const address = this.room(Math.max(bytes.length, 1));
+    new Uint8Array(this.exports.memory.buffer).set(bytes, Number(address));
+    return [address, BigInt(bytes.length)];
   }
 
-  self.onmessage = ({ data }) => {
-    const compiled = WebAssembly.compile(data);
-    compiled.then(() => self.postMessage({ isReady: true }), (fault) => self.postMessage({ fault: fault.message }));
-    self.onmessage = (event) => reply(compiled, event.data);
-  };
-})();
+  // Calls a function with these words, and a room of so many bytes for its reply. It may write some numbers beside.
+  call(name, words, size, beside = 0) {
+    const output = this.room(size), written = this.room(8);
+    const others = Array.from({ length: beside }, () => this.room(8));
+    const status = this.exports[name](...words, output, BigInt(size), written, ...others);
+    const length = Number(new DataView(this.exports.memory.buffer).getBigUint64(Number(written), true));
+    return { status, bytes: new Uint8Array(this.exports.memory.buffer, Number(output), length).slice() };
+  }
+}
+
+const encode = (text) => new TextEncoder().encode(text);
+
+// What each call takes before the room for its reply, and how many numbers it writes beside.
+const CALLS = {
+  run: (instance, { tape, budget, decimals }) =>
+    ["trac_web_run", [...instance.put(tape), BigInt(budget), BigInt(decimals)], 1],
+  debug: (instance, { tape, commands, decimals }) =>
+    ["trac_web_debug", [...instance.put(tape), ...instance.put(encode(commands)), BigInt(JOURNAL), BigInt(decimals)]],
+  walk: (instance, { tape, commands, journal = JOURNAL, keep = KEEP, decimals }) => {
+    const numbers = [journal, keep, decimals].map(BigInt);
+    return ["trac_web_walk", [...instance.put(tape), ...instance.put(encode(commands)), ...numbers]];
+  },
+  way: (instance, { tape, step, kind, numbers, name, decimals }) => {
+    const place = [step, kind, ...numbers].map(BigInt), most = [JOURNAL, decimals].map(BigInt);
+    return ["trac_web_way", [...instance.put(tape), ...place, ...instance.put(name), ...most]];
+  },
+  doubts: (instance, { tape, budget, decimals }) =>
+    ["trac_web_doubts", [...instance.put(tape), BigInt(budget), BigInt(decimals)], 1],
+};
+
+// Answers a request: a reply that is too long for its room is asked for again with twice the room or more. If so much is not
+// wanted, its front is enough.
+function answer(instance, request) {
+  const most = request.most ?? MOST;
+  for (let room = Math.min(request.room, most); ; room = Math.min(Math.max(room * 2, 1 << 22), most)) {
+    instance.begin(request.memory);
+    const [name, words, beside] = CALLS[request.call](instance, request);
+    const { status, bytes } = instance.call(name, words, room, beside);
+    if (status === NO_MEMORY || isShort(instance, request)) throw new Refusal("no memory");
+    if (status !== FULL || (room === most && request.most)) return { status, bytes };
+    if (room === most) throw new Refusal("the reply is too long");
+  }
+}
+
+// Whether memory was refused that the module may have if nothing else takes any.
+function isShort({ exports }, { memory }) {
+  return memory < MEMORY && exports.trac_web_refusals() > 0n;
+}
+
+// The page, the instance, and the input.
+/** @type {any} */
+const page = self;
+let instance = null, tape = null;
+
+// Answers a request, or says why not.
+async function reply(compiled, request) {
+  const { number } = request;
+  tape = request.tape ?? tape;
+  const asked = { decimals: DECIMALS, ...request, tape, memory: request.memory ?? MEMORY };
+  const module = await compiled;
+  try {
+    instance ??= new Instance(module);
+    const { status, bytes } = answer(instance, asked);
+    page.postMessage({ number, status, bytes, memory: instance.exports.memory.buffer.byteLength }, [bytes.buffer]);
+  } catch (fault) {
+    page.postMessage({ number, refused: fault.message, isShort: instance !== null && isShort(instance, asked) });
+    // (one that was cut off is not used again)
+    if (!(fault instanceof Refusal)) instance = null;
+  }
+}
+
+page.onmessage = ({ data }) => {
+  const compiled = WebAssembly.compile(data);
+  compiled.then(() => page.postMessage({ isReady: true }), (fault) => page.postMessage({ fault: fault.message }));
+  page.onmessage = (event) => reply(compiled, event.data);
+};

@@ -9,6 +9,7 @@ import fs from 'node:fs'
 import os from 'node:os'
 import path from 'node:path'
 import { BUDGET, ENDED, Engine, LIMIT, MEMORY, NOT_UNDERSTOOD, TOO_LONG } from './engine.mjs'
+import { modules } from './modules.mjs'
 import * as random from './random.mjs'
 import { story } from './story.mjs'
 import { worker } from './worker.mjs'
@@ -265,7 +266,8 @@ function doubts() {
     }
 }
 
-const parts = { wholePrograms, hostile, wrongNumbers, rooms, memory, randomPrograms, scripts, dialogues, ways, doubts, story: () => story(holds), worker: () => worker(engine, holds) }
+const parts = { wholePrograms, hostile, wrongNumbers, rooms, memory, randomPrograms, scripts, dialogues, ways, doubts, story: () => story(holds), worker: () => worker(engine, holds),
+    modules: () => modules(engine, holds) }
 try {
     for (const [name, part] of Object.entries(parts)) {
         const from = process.hrtime.bigint()

@@ -1,11 +1,8 @@
 // The states that the page keeps: those around the cursor, and at most 64 MiB of them.
-import fs from 'node:fs'
-import vm from 'node:vm'
+import { State } from '../../web/replies.js'
+import { Story, windowOf } from '../../web/story.js'
 
 const MOST = 64 << 20
-const read = (name) => fs.readFileSync(new URL(`../../web/${name}`, import.meta.url), 'utf8')
-const { State, Story, windowOf } = vm.runInNewContext(
-    `${read('replies.js')}\n${read('story.js')}\n;({ State, Story, windowOf })`, { TextDecoder })
 
 // Three states from a step on, each of so many bytes.
 function threeFrom(step, size) {

@@ -11,7 +11,7 @@ PATIENT = """(() => {
   const set = window.setTimeout;
   window.setTimeout = (does, time, ...words) => set(does, time === 60000 ? 3600000 : time, ...words);
 })()"""
-# Programs for exercise 5.1, and what a check says of each, as trac-course says it.
+# Programs for exercise 5.1, and what a check says of each, as trac course says it.
 CHECKED = (
     ("#(ds,down,(#(cl,down)))'", "Run 1 of 2: it has not ended within 10,000,000 steps"),
     ("#(ds,down,(#(ps,x)#(cl,down)))'", "Run 1 of 2: it prints more than 65,536 bytes"),
@@ -68,7 +68,7 @@ def check_lessons(page):
         last = [line for line in text.split("\n## Exercises\n")[0].split("\n") if line and line[0].isalpha()][-1]
         check(has_words(shown, last), "{} is shown to its end".format(path))
         check("```" not in shown, "{}: each block is one".format(path))
-        check("./trac run <" not in shown and "trac-course" not in shown, "{} takes no terminal for what Run does".format(path))
+        check("./trac run <" not in shown and "./trac course" not in shown, "{} takes no terminal for what Run does".format(path))
     shows(page, "3. Forms")
     page.put("")
     press(page, "Open scan.trac")

@@ -1,4 +1,4 @@
-"""Nothing is used that Chromium 105, Firefox 121 or Safari 16.4 lack, but where the page goes on without it."""
+"""Nothing is used that Chromium 105, Firefox 121 or Safari 16.4 lack, but where the page goes on without it; and no part is long."""
 import glob
 import os
 import re
@@ -18,6 +18,10 @@ LATER = {
 }
 
 
+# The most lines of a part.
+MOST_LINES = 300
+
+
 def check_features():
     """Each part of the page, line by line."""
     for path in sorted(glob.glob(os.path.join(TOP, "web", "*"))):
@@ -25,5 +29,7 @@ def check_features():
         if not pattern:
             continue
         with open(path, encoding="utf-8") as part:
-            found = [(number, line.strip()[:80]) for number, line in enumerate(part, 1) if re.search(pattern, line)]
+            lines = part.readlines()
+        found = [(number, line.strip()[:80]) for number, line in enumerate(lines, 1) if re.search(pattern, line)]
+        check(len(lines) <= MOST_LINES, "{} has {} lines".format(os.path.relpath(path, TOP), len(lines)))
         check(not found, "{}: later browsers alone have this: {}".format(os.path.relpath(path, TOP), found))

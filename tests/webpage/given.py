@@ -1,4 +1,4 @@
-"""Pages that trac-page makes of programs: what they show when they are opened, from a file and without a connection."""
+"""Pages that trac page makes of programs: what they show when they are opened, from a file and without a connection."""
 import os
 import shutil
 import subprocess
@@ -14,12 +14,13 @@ WIDE = b"#(ps,#(ad,9223372036854775807,1,Z))'"
 
 
 class Maker:
-    """Makes pages of programs by trac-page, of this page."""
+    """Makes pages of programs by trac page, of this page."""
 
     def __init__(self, room, file):
         self.room, self.count = room, 0
-        self.script = shutil.copy(os.path.join(TOP, "trac-page"), room)
-        os.symlink(os.path.join(TOP, "share"), os.path.join(room, "share"))
+        for name in "crates", "crates.txt", "out", "python", "tools":
+            os.symlink(os.path.join(TOP, name), os.path.join(room, name))
+        self.script = shutil.copy(os.path.join(TOP, "trac"), room)
         os.mkdir(os.path.join(room, "release"))
         os.symlink(file, os.path.join(room, "release", "trac.html"))
 
@@ -35,8 +36,8 @@ class Maker:
         self.count += 1
         place = os.path.join(self.room, "{}.html".format(self.count))
         with open(place, "wb") as out:
-            made = subprocess.run([self.script, *words], stdout=out)
-        check(made.returncode == 0, "trac-page {}: status {}".format(words, made.returncode))
+            made = subprocess.run([self.script, "page", *words], stdout=out)
+        check(made.returncode == 0, "trac page {}: status {}".format(words, made.returncode))
         return place
 
 

@@ -5,6 +5,7 @@ from window import pick
 
 VALUE = "document.getElementById('source').value"
 NAME = "document.getElementById('program-name').textContent"
+PAPER = "getComputedStyle(document.body).backgroundColor"
 
 
 def again(page, file):
@@ -27,14 +28,19 @@ def check_draft(page, file):
     pick(page, "hello.trac")
     page.script("(document.getElementById('source').focus(), document.getElementById('source').setSelectionRange(0, 0))")
     page.insert("mine ")
+    before = page.script(PAPER)
     page.script("document.getElementById('theme').click()")
+    paper = page.script(PAPER)
+    check(before != paper, "the other looks have another paper: {}".format(paper))
     looks = page.script("document.documentElement.dataset.theme")
     text = page.script(VALUE)
     again(page, file)
     check(text.startswith("mine ") and page.script(VALUE) == text, "what was typed: " + page.script(VALUE)[:40])
     check(page.script(NAME) == "hello.trac", "its name: " + page.script(NAME))
     check(page.script("document.documentElement.dataset.theme") == looks, "the looks: {}".format(looks))
+    check(page.script(PAPER) == paper, "the paper: {}".format(page.script(PAPER)))
     page.script("document.getElementById('theme').click()")
+    check(page.script(PAPER) == before, "the looks before: {}".format(page.script(PAPER)))
 
 
 def check_undo(page):

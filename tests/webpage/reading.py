@@ -130,7 +130,7 @@ def press_in(page, selector, *keys):
 def check_noted(page):
     """A note goes on with its doubt: where the form is that was probably meant, or which parenthesis is probably wrong."""
     for program, wanted in (
-        ("#(ds,greeting,hi)'#(cl,greting)'", "no form is named greting; a form of nearly this name is defined at line 1, column 6"),
+        ("#(ds,greeting,hi)'#(cl,greting)'", "no form is named greting; a form of nearly this name is defined at line 1, column 6: did you mean greeting?"),
         ("a)b'", ") ends no call; the ) at line 1, column 2 may be one too many"),
     ):
         page.type(program)
@@ -146,7 +146,7 @@ def check_heard(page):
     page.until("window.said.join('|').includes('2 doubts are listed')", "how much is doubted")
     page.tab("doubts")
     said = hears(page, lambda: press_in(page, "#doubts button", "Enter"), "Next, step 13: ) ends the function, and #(pr,a) is performed")
-    check(said.endswith("its value is empty. Doubt: no primitive is named pr"), "what is doubted: " + said)
+    check(said.endswith("its value is empty. Doubt: no primitive is named pr: did you mean ps or pf?"), "what is doubted: " + said)
     said = hears(page, lambda: press_in(page, None, "r"), "there is no call before this step")
     check("Step" not in said and "step 13" not in said, "a step is not said again: " + said)
     hears(page, lambda: page.press("u"), ") ends the function, and #(ps,Hello, world) is performed")

@@ -154,10 +154,12 @@ def check_tokens(page):
     page.at(0)
     says(page, "last", explained)
     # (the idle program; `#(` `ps` `,` `abc` `)` and its own `)`; the idle program; the line end, `##(` `zz` `)` and `)`)
-    steps = (1, 3, 4, 5, 7, 8, 9, 11, 12, 15, 16, 17, 26, 27, 28, 30, 31, 32, 40)
+    steps = (8, 9, 11, 12, 15, 16, 17, 26, 27, 28, 30, 31, 32, 40)
     for step in steps:
         page.press("ArrowRight")
         page.at(step)
+        if step == 8:
+            says(page, "last", "Just done, 8 steps: the idle program reads on: its rs gives #(ps,abc), which is scanned next")
         if step == 15:
             says(page, "last", "Just done, 3 steps: abc goes to the current text")
         if step == 17:
@@ -173,12 +175,9 @@ def check_tokens(page):
         page.script("document.getElementById('back').click()")
         page.at(step)
     page.script("document.getElementById('forward').click()")
-    page.at(1)
+    page.at(8)
     page.press("End")
     page.at(40)
-    page.press("b")
-    page.at(39)
-    says(page, "last", "Just done: the idle program reads on: ")
     page.put("#(ps," + "long" * 5000 + ")'")
     page.run()
     page.go(12)

@@ -1,5 +1,6 @@
 """What the page says is true and the same everywhere: blanks, messages with what to do, one counting, line ends, and places that are lit
 in any browser."""
+import json
 import os
 import tempfile
 
@@ -45,12 +46,29 @@ def check_messages(page):
     page.run()
     check(page.text("output") == "a\nb\n", "what it prints then: " + ascii(page.text("output")))
     for program, words in (("#(ps,#(dv,7,0))'", "this divides by 0"), ("# (ps,Hello)'", "a blank stands between # and ("),
-                           ("#(ps,it's)'", "this ' ends the text")):
+                           ("#(ps,it's)'", "this ' ends the text"),
+                           ("#(ds,down,x)'#(cl,dwon)'", "no form is named dwon: did you mean down?"), ("#(cl,dwon)#(ds,down,x)'", "dwon: did you mean down?"),
+                           ("#(pr,a)'", "no primitive is named pr: did you mean ps or pf?"),
+                           ("#(ds,Double,x)#(Duoble,2)'", "no primitive is named Duoble: did you mean #(cl,Double)?")):
         page.type(program)
         page.run()
         page.until("document.getElementById('doubts').textContent.includes(\"{}\")".format(words), "{}: {}".format(program, words))
         check("does not fit" not in page.text("doubts"), "nothing else is said: " + page.text("doubts"))
-    check("line 1, column 8" in page.text("doubts"), "where it stands: " + page.text("doubts"))
+        if "it's" in program:
+            check("line 1, column 8" in page.text("doubts"), "where it stands: " + page.text("doubts"))
+            check("the ' at line 1, column 8 ended its text" in page.text("doubts") and "a ) may be missing" not in page.text("doubts"),
+                  "why the call never ended: " + page.text("doubts"))
+
+
+def check_marked(page):
+    """What is doubted is marked whole: a name, an argument, a sign that begins no call."""
+    marked = "[...CSS.highlights.get('doubtful') ?? []].map((range) => range.toString()).join('')"
+    for program, wanted in (("#(prnt,a)'", "prnt"), ("#(ps,Hello, big world)'", " big world"), ("# (ps,Hello)'", "# ("),
+                            ("#(ds,a,b)'#(cl,a,(x,y))'", "x,y"), ("#(ps,ä#(cl,größer))'", "größer")):
+        page.type(program)
+        page.run()
+        page.until("document.querySelector('#doubts .doubt') !== null", "a doubt is listed")
+        page.until(marked + " === " + json.dumps(wanted), "of {} what is marked: {}".format(program, page.script(marked)))
 
 
 def check_counting(page):
@@ -126,6 +144,6 @@ def check_lights(page):
 def check_wording(kind, file):
     """All that."""
     with opened(kind, file) as page:
-        for part in (check_blanks, check_messages, check_counting, check_line_ends, check_lights):
+        for part in (check_blanks, check_messages, check_marked, check_counting, check_line_ends, check_lights):
             part(page)
             page.well(part.__name__)

@@ -1,0 +1,84 @@
+// Modules of the page in Node: none of them shows anything here.
+globalThis.document ??= { getElementById: () => ({ textContent: 'null' }) }
+
+const { movedAnew } = await import('../../web/arriving.js')
+const { measure } = await import('../../web/measure.js')
+const { endOfArgument, formsSet, isSlip, remedied } = await import('../../web/remedies.js')
+const { Story } = await import('../../web/story.js')
+
+// What the page asks its Worker, asked of the module.
+const asked = (engine) => ({
+    ask: async (call, tape, { commands, journal = 1048576, keep = 268435456, budget, most = Infinity }) => {
+        const { status, reply } = call === 'run' ? engine.run(tape, budget)
+            : call === 'walk' ? engine.walk(tape, commands, journal, keep) : engine.debug(tape, commands, journal)
+        return reply.length > most ? { status: 9, bytes: reply.subarray(0, most) } : { status, bytes: reply }
+    },
+})
+
+// Names that are one slip from another, and that are not: by counting.
+function slips(holds) {
+    const near = ['pr ps', 'psx ps', 'p ps', 'sp ps', 'greting greeting', 'greetings greeting', 'gteeting greeting', 'greetign greeting']
+    const far = ['ps ps', 'greitign greeting', 'abc cba', 'p psx', 'ab cd', 'abcd badc']
+    for (const row of near) holds(`${row}: one slip`, isSlip(...row.split(' ')) && isSlip(...row.split(' ').reverse()))
+    for (const row of far) holds(`${row}: not one slip`, !isSlip(...row.split(' ')) && !isSlip(...row.split(' ').reverse()))
+    holds('a blank too many', isSlip(' ps', 'ps') && isSlip('ps ', 'ps'))
+}
+
+// What is said of a doubt, with what was probably meant; and what of it is marked.
+function remedies(holds) {
+    const program = "#(pr,a)#(ps,Hello, big world)#(cl,(a,b)\n)#(x(y,z)'"
+    const bytes = Buffer.from(program)
+    const marked = (text) => program.slice(program.indexOf(text), endOfArgument(bytes, program.indexOf(text)))
+    const wanted = ['pr', ' big world', 'a,b', 'x(y,z)']
+    for (const text of wanted) holds(`marked is ${JSON.stringify(marked(text))}, and not ${JSON.stringify(text)}`, marked(text) === text)
+    const story = { isSmall: true, kept: () => ({ parts: { forms: [{ name: 'Hall' }, { name: 'a\\x2c' }] } }) }
+    const run = { program: bytes, end: 9, story }
+    const forms = formsSet(run, { texts: ['#(ds,Factorial,(x))', '##(DS,greeting,hi)', '#(ds,(a,b),c)', '#(ps,x)'] })
+    holds(`the forms: ${[...forms]}`, [...forms].join() === 'Factorial,greeting,Hall')
+    const said = (words, call = '#(x)') => remedied({ step: 1, byte: 2, words }, { run, tree: { textAt: () => call } }, forms).words
+    const rows = [
+        ['no primitive is named pr', 'no primitive is named pr: did you mean ps or pf?'],
+        ['no primitive is named  ps', 'no primitive is named  ps: did you mean ps?'],
+        ['no primitive is named ADD', 'no primitive is named ADD: did you mean ad?'],
+        ['no primitive is named Factoral', 'no primitive is named Factoral: did you mean #(cl,Factorial)?'],
+        ['no primitive is named print', 'no primitive is named print'],
+        ['no form is named greting', 'no form is named greting: did you mean greeting?'],
+        ['no form is named HALL', 'no form is named HALL: did you mean Hall?'],
+        ['no form is named lobby', 'no form is named lobby'],
+    ]
+    for (const [words, all] of rows) holds(`it says ${said(words)}, and not ${all}`, said(words) === all)
+    const fits = 'the result does not fit, and gives nothing'
+    for (const call of ['#(dv,7,0)', '##(DV,7,-00,x)', '#(dv,7)']) {
+        holds(`${call} divides by 0: ${said(fits, call)}`, said(fits, call).startsWith('this divides by 0'))
+    }
+    holds('another result', said(fits, '#(ml,7,0)') === fits && said(fits, '#(dv,7,10)') === fits)
+}
+
+// Moves in a run of more steps than the processor keeps.
+async function longMoves(engine, holds) {
+    const long = 'a'.repeat(1_300_000)
+    for (const [text, line, wanted] of [
+        [`#(ps,x)${long}'`, 'r', 13],
+        [`#(ds,A,${long}#(ad,1,2)`, 'O', 8],
+        [`#(ds,A,(${long})#(ad,1,2)${long}`, 'O', 8],
+        [`${long}`, 'r', null],
+    ]) {
+        const tape = Buffer.from(text)
+        const came = await measure(asked(engine), tape, true, 4_000_000)
+        const run = { ...came, tape, isClosed: true, story: new Story(asked(engine), tape, came.landmarks) }
+        const from = came.end - (line === 'O' ? 20 : 1)
+        const { step, said } = await movedAnew(asked(engine), run, from, line, false)
+        const name = `${line} over ${text.slice(0, 12)}..${text.slice(-12)}, from ${from}`
+        holds(`${name}: to ${step}, and not ${wanted ?? from}`, step === (wanted ?? from))
+        // (where nothing is met, it looked as far as the start)
+        const words = wanted === null ? 'not met since the first step that is kept, step 0' : ''
+        holds(`${name}: it says ${said}, and not ${words}`, said === words)
+    }
+}
+
+// All that. `holds` counts a check.
+export async function modules(engine, holds) {
+    slips(holds)
+    remedies(holds)
+    await longMoves(engine, holds)
+}

@@ -1,0 +1,93 @@
+// Programs come into the page: of a file, of the page itself, by a link; and go to a file.
+import { grouped } from "./bytes.js";
+import { unpackedText } from "./engine.js";
+import { BUDGET } from "./measure.js";
+import { byId, make } from "./elements.js";
+
+// The most bytes that a program may have. A longer file is not even read: a tab has no room for any size.
+const MOST_BYTES = 33554432;
+
+/** @param {import("./page.js").Page} page */
+async function openFile(page, file) {
+  if (!file) return;
+  if (file.size > MOST_BYTES) {
+    const most = `a program may have at most ${grouped(MOST_BYTES)}`;
+    refuseFile(page, `${file.name} has ${grouped(file.size)} bytes: ${most}. Nothing is opened.`);
+    return;
+  }
+  try {
+    page.open(file.name, new Uint8Array(await file.arrayBuffer()));
+  } catch {
+    refuseFile(page, `${file.name} cannot be read. Nothing is opened.`);
+  }
+}
+
+// Says that a file is not opened.
+/** @param {import("./page.js").Page} page */
+function refuseFile(page, words) {
+  page.view.showWords(words);
+  page.announcer.say("ending", words);
+}
+
+// Writes the program to a file, by a link that is pressed.
+/** @param {import("./page.js").Page} page */
+function saveProgram(page) {
+  const link = make("a");
+  link.href = URL.createObjectURL(new Blob([page.editor.bytes()], { type: "application/octet-stream" }));
+  link.download = page.editor.name;
+  link.click();
+  setTimeout(() => URL.revokeObjectURL(link.href), 1000);
+  page.draft.isKept = true;
+}
+
+/** @param {import("./page.js").Page} page */
+export function startFiles(page) {
+  const file = byId("file");
+  file.addEventListener("change", async () => {
+    await openFile(page, file.files[0]);
+    file.value = "";
+  });
+  byId("save").addEventListener("click", () => saveProgram(page));
+  const drop = byId("drop");
+  // (a text that is dragged is no file: the editor takes it)
+  const isFile = (event) => event.dataTransfer.types.includes("Files");
+  addEventListener("dragover", (event) => {
+    if (!isFile(event)) return;
+    event.preventDefault();
+    drop.hidden = false;
+  });
+  addEventListener("dragleave", (event) => {
+    if (!event.relatedTarget) drop.hidden = true;
+  });
+  addEventListener("drop", (event) => {
+    if (!isFile(event)) return;
+    event.preventDefault();
+    drop.hidden = true;
+    openFile(page, event.dataTransfer.files[0]);
+  });
+}
+
+// How many steps a run may take at least that comes to a step.
+export function budgetTo(step) {
+  return BUDGET * Math.max(Math.ceil(step / BUDGET), 1);
+}
+
+// Runs a program, and goes to the step that a link or a page is to, if there is one.
+/** @param {import("./page.js").Page} page */
+export async function performTo(page, { program, inputs, isClosed, step, budget }, who) {
+  await page.runs.perform({ program, inputs, isClosed, budget, isNew: true });
+  if (!page.run || step === null) return;
+  await page.cursor.visit(step);
+  if (step > page.run.end) page.view.note(`${who} is to step ${grouped(step)}, and the run ends before it`);
+}
+
+// Runs what was put into the page, and goes to its step, or stays at the end. It is not kept for the next time.
+/** @param {import("./page.js").Page} page */
+export async function openGiven(page, { name, program, input, step, budget }) {
+  const [bytes, read] = await Promise.all([program, input].map(unpackedText));
+  const inputs = read.length ? [{ step: 0, bytes: read }] : [];
+  document.title = `${name}: TRAC`;
+  page.open(name, bytes, false);
+  const wanted = { program: bytes, inputs, isClosed: false, step, budget: budget ?? budgetTo(step) };
+  await performTo(page, wanted, "the page");
+}

@@ -1,0 +1,228 @@
+// How a run comes about, and what input it is given.
+import { grouped } from "./bytes.js";
+import { Stopped, wordsOf } from "./engine.js";
+import { countOfLines, laterSaid, linesBegun, tapeOf } from "./input.js";
+import { Story } from "./story.js";
+import { BUDGET, measure } from "./measure.js";
+import { probe, showSoFar, WATCHED } from "./probing.js";
+import { needsEnd } from "./endings.js";
+import { keepFocus } from "./focus.js";
+import { isEqual } from "./judging.js";
+import { byId, focused } from "./elements.js";
+import { gather } from "./gathering.js";
+import { ask } from "./question.js";
+import { Run } from "./run.js";
+
+const STOPPED = "The run was stopped.";
+
+export class Runs {
+  /** @param {import("./page.js").Page} page */
+  constructor(page) {
+    this.page = page;
+    // what is asked to be run, until it has come to an end, and how far that is known to have come
+    this.began = null;
+    this.partial = null;
+    // whether more is to be typed of a program that is done
+    this.wantsInput = false;
+  }
+
+  // Runs the program of the editor from its start, with no input but what is given.
+  async start(given = new Uint8Array(0)) {
+    const { page } = this;
+    const inputs = given.length ? [{ step: 0, bytes: given }] : [];
+    const held = focused();
+    await this.perform({ program: page.editor.bytes(), inputs, isClosed: false, budget: BUDGET, isNew: true });
+    // (on a phone a lesson stands over it)
+    byId("ending").scrollIntoView({ block: "nearest" });
+    if (page.run?.stand === "waits" && [document.body, held, byId("output")].includes(focused())) byId("input").focus();
+  }
+
+  // Runs the program that was run with other input, or further.
+  performAgain(changes) {
+    return this.perform(this.page.run.wanted(changes));
+  }
+
+  /**
+   * Runs a program with its input, and goes to the end. Until then the run before is there, and is asked over its own input.
+   * @param {import("./run.js").Wanted} wanted
+   */
+  async perform(wanted) {
+    const { page } = this;
+    page.cursor.play(0);
+    page.view.note("");
+    page.way.clear();
+    page.cursor.turn++;
+    page.drop();
+    [this.began, this.partial] = [wanted, null];
+    if (wanted.isNew) this.wantsInput = false;
+    page.view.busy(true);
+    const before = page.run?.story;
+    if (!before?.isSmall) before?.letGo();
+    wanted.tape = tapeOf(wanted);
+    this.watch(wanted);
+    try {
+      const came = await measure(page.engine, wanted.tape, wanted.isClosed, wanted.budget);
+      const run = this.runOf(wanted, came);
+      const states = await run.story.around(run.end, run.end);
+      if (wanted === this.began) this.take(run, states);
+    } catch (fault) {
+      if (wanted === this.began) this.fail(fault instanceof Stopped ? STOPPED : wordsOf(fault));
+      page.view.say(fault);
+    }
+  }
+
+  // A run with its states, of which the last are there.
+  runOf(wanted, came) {
+    const { engine, ahead } = this.page;
+    const story = new Story(engine, wanted.tape, came.landmarks, ahead);
+    if (came.window) story.keep(came.window);
+    came.window = null;
+    return new Run(wanted, came, story);
+  }
+
+  // Looks how far a run has come that takes long, and shows what it has printed until then. So if it is stopped, that much of it is
+  // there.
+  async watch(wanted) {
+    await new Promise((then) => setTimeout(then, WATCHED));
+    const { view, ahead } = this.page;
+    const isWanted = () => wanted === this.began;
+    const come = (came) => {
+      this.partial = came;
+      view.showWords(`It runs: ${grouped(came.end)} steps so far.`);
+      showSoFar(view, came.output);
+    };
+    await probe(ahead, wanted, isWanted, come).catch(() => {});
+  }
+
+  /**
+   * Takes a run in place of the one before, and shows its end, after other words, if there are any.
+   * @param {Run} run
+   */
+  take(run, states, lead = "") {
+    const { page } = this;
+    const { cursor, view } = page;
+    this.leave();
+    page.run = run;
+    cursor.put(run.end);
+    page.isStale = !isEqual(run.program, page.editor.bytes());
+    view.outputTo = undefined;
+    view.busy(false);
+    keepFocus(() => {
+      view.shown();
+      view.showEnding(lead);
+      view.draw(states);
+    });
+    run.story.cursor = run.end;
+    run.story.widen(run.end);
+    gather(page, run);
+  }
+
+  // Takes as much of a run as is known of it.
+  async takePartial(wanted, came, lead = "") {
+    const run = this.runOf({ ...wanted, budget: came.end }, { ...came, stand: "stopped" });
+    const states = await run.story.around(run.end, run.end);
+    if (this.began === null) this.take(run, states, lead);
+  }
+
+  // Says why a run came to no end. As much of it as is known is shown; if nothing is, the run before.
+  fail(words) {
+    const { began, partial, page } = this;
+    const { view, run } = page;
+    this.leave();
+    view.busy(false);
+    if (partial) {
+      view.showWords(words);
+      return void this.takePartial(began, partial, words === STOPPED ? "" : `${words} `);
+    }
+    keepFocus(() => {
+      view.showWords(words);
+      if (!run) view.clear();
+      else {
+        page.isStale = !isEqual(run.program, page.editor.bytes());
+        view.outputKey = null;
+        page.cursor.redraw();
+        view.showEnding(`${words} The run before is shown. `);
+      }
+    });
+    if (run && !run.isGathered) gather(page, run);
+    return undefined;
+  }
+
+  // Leaves the run that is shown, and what is asked to be run: no answer is waited for.
+  leave() {
+    const { page } = this;
+    page.cursor.turn++;
+    this.began = this.partial = null;
+    page.drop();
+    page.cursor.play(0);
+    page.way.clear();
+  }
+
+  // Ends what goes on. (Of a run that stays, the calls are listed all the same.)
+  stop() {
+    const { cursor, view, engine, ahead } = this.page;
+    cursor.turn++;
+    cursor.play(0);
+    if (this.began) this.fail(STOPPED);
+    for (const one of [engine, ahead]) if (one.waiting.size) one.stop();
+    // (a number that was typed may not be reached)
+    if (this.page.run) view.showPlace();
+    view.note("stopped");
+  }
+
+  // Whether input may be given where the cursor is.
+  get takesInput() {
+    const { run, cursor } = this.page;
+    return run.takesInput(cursor.step, cursor.read, this.wantsInput);
+  }
+
+  async goOn() {
+    const { run } = this.page;
+    const taken = Math.max(run.budget, run.end);
+    await this.performAgain({ budget: taken + Math.max(taken, BUDGET) });
+    if (focused() === byId("output")) byId("ending").querySelector("button")?.focus();
+  }
+
+  // The lines of input that stay where other input is given at the cursor: at the end all, else those that the program has begun to
+  // read. It is asked first if others came; nothing if these are to stay.
+  async linesBefore(wish) {
+    const { run, cursor: { step, read } } = this.page;
+    if (step === run.end) return run.inputs;
+    const stay = linesBegun(run.inputs, read - run.program.length);
+    const later = laterSaid(countOfLines(run.inputs) - countOfLines(stay), run.isClosed, step);
+    const isWanted = !later || await ask(`${later} ${wish}`);
+    return isWanted && run === this.page.run ? stay : null;
+  }
+
+  // Takes a line of input at the step where the cursor is. It gets the ' that ends it, where it has none and is to be read up to that.
+  async feed(line) {
+    const { run, cursor: { step } } = this.page;
+    const before = await this.linesBefore("Take this line in place of that?");
+    if (!before) return;
+    const isEnded = needsEnd(run, line);
+    const bytes = new TextEncoder().encode(`${line}${isEnded ? "'" : ""}\n`);
+    await this.performAgain({ inputs: [...before, { step, bytes }], isClosed: false });
+    if (isEnded) this.page.view.note("' was put at its end, since it is read up to that");
+  }
+
+  // Lets more of the program be typed, after its end.
+  async typeMore() {
+    const { run, cursor, view } = this.page;
+    this.wantsInput = true;
+    await cursor.go(run.end, null, null);
+    view.showEnding();
+    byId("input").focus();
+  }
+
+  // Ends what stands there and is not read, and goes on.
+  feedEnd(end) {
+    const { run } = this.page;
+    const bytes = new TextEncoder().encode(`${end}\n`);
+    return this.performAgain({ inputs: [...run.inputs, { step: run.end, bytes }], isClosed: false });
+  }
+
+  async endInput() {
+    const inputs = await this.linesBefore("End the input here, in place of that?");
+    if (inputs) await this.performAgain({ inputs, isClosed: true });
+  }
+}
