@@ -34,7 +34,8 @@ on_terminal() { [ ! -t 2 ] || printf "$@" >&2; }
 sums_by() {
     LC_ALL=C
     shopt -s globstar nullglob
-    cd "$top" && exec "$@" crates.txt crates/!(*_tests|*_faults|*_example|*_web|*_web_requests)/@(src|specs)/**/*.@(rt|antt)
+    cd "$top" &&
+        exec "$@" crates.txt crates/!(*_tests|*_faults|*_example|*_web?(_requests))/@(src|specs)/**/*.@(rt|antt)
 }
 sums() (sums_by sha256sum)
 
