@@ -1,39 +1,22 @@
 -- The names that the machine of a session knows, as the fields show it.
-use Rattle.std.proofs.Common.{◌≡◌, ◌≢◌, ℕ, zero, suc, ◌<◌, ◌≤◌, Bool, List, [], ◌∷◌, ◌++◌, length, take, refl, sym, ap, subst, ◌∙◌, arith}
+use Rattle.std.proofs.Common.{◌≡◌, ◌≢◌, ℕ, zero, suc, Bool, List, [], ◌∷◌, ◌++◌, length, take, refl, sym, ap, subst, ◌∙◌, arith}
 use Rattle.std.specs.Prelude.{Some, replicate}
 use Rattle.trac_rules.specs.declared.reply.Reply.{Reply}
 use Rattle.trac_rules.specs.declared.width.Width.{Width}
 use Rattle.trac_rules.specs.PlainRuns.{moved_on}
 use Rattle.trac_rules.specs.Records.{Record, Moved}
-use Rattle.trac_rules.specs.Session.{PlainSession, Command, Answers, released, repeated, settled}
+use Rattle.trac_rules.specs.Session.{PlainSession, Command, Answers, released, repeated}
 use Rattle.trac_rules.specs.State.{State}
-use Rattle.trac_rules.proofs.GoingOn.{settled_is}
 use Rattle.trac_rules.proofs.MovedOn.{moved_on-zero}
 use Rattle.trac_step.specs.Layout.{Shown}
-use Rattle.trac_session.specs.Journal.{AreRecords, IsAtStart, IsSession, IsSound, IsWithinReach, earlier_of, plain_of}
+use Rattle.trac_session.specs.Journal.{AreRecords, IsAtStart, IsSession, IsSound, IsWithinReach, plain_of}
 use Rattle.trac_session.specs.Knowing.{HasForgotten, KnowsItsOwn, names_in}
 use Rattle.trac_session.proofs.Journaled.{length-earlier}
 use Rattle.trac_session.proofs.Trailed.{answered, walked}
 
 -- ---- names are forgotten
 
--- a state at its start is settled
-settled_at_start : (s : State) → IsAtStart s → settled s ≡ s
-settled_at_start s start = settled_is s ∙ (λ i. record s { output = sym start.nothing_pending i; position = sym start.nothing_read i })
-
--- without a step to go back over a machine is settled
-pub forgotten_if_none : (records : List Record) (m n : Shown) → records ≡ [] → IsAtStart m.state →
-    n ≡ record m { state = settled m.state; known = names_in m.state } → HasForgotten records m n
-forgotten_if_none records m n none start at =
-    subst (λ (rs : List Record). HasForgotten rs m n) (sym none)
-    (at ∙ (λ i. record m { state = settled_at_start m.state start i; known = names_in m.state }))
-
--- else it stays
-pub forgotten_if_some : (records : List Record) (m : Shown) → 0 < length records → HasForgotten records m m
-forgotten_if_some [] m some = absurd (omega (arith, some))
-forgotten_if_some (r ∷ records) m some = refl
-
--- so it knows no names but its own
+-- a machine that has forgotten names without a step to go back over knows no names but its own
 pub own_names : (records : List Record) (m n : Shown) → HasForgotten records m n → KnowsItsOwn records n
 own_names [] m n h = ap (λ (u : Shown). u.known) h ∙ sym (ap (λ (u : Shown). names_in u.state) h)
 own_names (r ∷ records) m n h = tt
