@@ -6,7 +6,7 @@ import shlex
 
 from support.cases import TOP, WALK, Case, Place, each, ran, scratch, tests
 
-COURSE, LAUNCHER = TOP / "course", TOP / "trac"
+COURSE, LAUNCHER = TOP / "programs" / "course", TOP / "trac"
 # How many words a lesson may have, with its programs, and an exercise or a hint.
 LESSON_WORDS, EXERCISE_WORDS = 400, 60
 # The programs that trac lint doubts, on purpose, and the solutions that it doubts for some input: a line of one word,
@@ -108,14 +108,14 @@ class Course(Case):
         kind, file, text = block.groups()
         if kind == "trac":
             wanted = read(name, file) if (COURSE / name / file).exists() else ""
-            path = "course/{}/{}".format(name, file)
+            path = "programs/course/{}/{}".format(name, file)
             self.same("{} is as the lesson shows it".format(file), text, wanted, Place(path), "shown")
             self.holds("the lesson runs {}".format(file), path in consoles)
             return
         self.holds("a block is a program or a console", kind == "console" and not file)
         for command, typed, wanted, lines in commands(text, line):
             said, _ = called(["bash", "-c", command], typed)
-            place = Place("course/{}/lesson.md".format(name), lines or line)
+            place = Place("programs/course/{}/lesson.md".format(name), lines or line)
             self.same(command, said.rstrip("\n"), wanted.rstrip("\n"), place, "printed")
 
     def check_lint(self, folder, files):
@@ -203,6 +203,12 @@ class Course(Case):
         words = sorted({word for line in lines for word in shlex.split(line) if "/" in word})
         left = [word for word in words if not os.path.exists(os.path.join("/", word))]
         self.holds("of {} all are there, and not only those that are not {}".format(words, left), words and not left)
+
+    def test_from_a_folder_that_is_gone(self):
+        """A lesson is shown also where the folder was taken away that it is asked for in."""
+        gone = 'mkdir gone && cd gone && rmdir ../gone && exec "$0" course 1'
+        said, status = called(["bash", "-c", gone, str(LAUNCHER)], folder=scratch(self))
+        self.holds("to its end: {!r}".format(said[-80:]), status == 0 and said[-40:] == courses("1")[0][-40:])
 
     def test_who_reads_no_more(self):
         said, status = called(["bash", "-o", "pipefail", "-c", shlex.quote(str(LAUNCHER)) + " course 1 | head -c 1"])

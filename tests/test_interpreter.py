@@ -1,7 +1,7 @@
 """Random programs: the built program must run them as the plain processor of interpreter/processor.py does. Output,
 standard error and exit status are compared byte for byte, with numbers of both widths. Of every 10th program, so are
 the replies of `trac debug` to random commands, with the states that it shows, by interpreter/session.py. Before them
-the plain processor must do what was worked by hand for tests/programs, and the model whose bytes carry where they
+the plain processor must do what was worked by hand for tests/data/programs, and the model whose bytes carry where they
 come from must print what the plain processor prints.
 
 SEED in the environment chooses other programs."""
@@ -13,7 +13,7 @@ import tempfile
 
 from interpreter import author, processor, session
 from model.machine import Machine, plain
-from support.cases import TESTS, TRAC, Case, Place, each, near, patience, stems, tests, words_in
+from support.cases import DATA, TRAC, Case, Place, each, near, patience, stems, tests, words_in
 
 SEED = int(os.environ.get("SEED", "1"))
 # So many programs are tried, so many in a test; one of so many is debugged; one of so many, that of this number,
@@ -107,13 +107,13 @@ class Interpreter(Case):
 
 @tests
 class Worked(Case):
-    """What was worked by hand for tests/programs, done by the plain processor."""
+    """What was worked by hand for tests/data/programs, done by the plain processor."""
 
     suite = "interpreter"
 
-    @each(stems(TESTS / "programs"))
+    @each(stems(DATA / "programs"))
     def test_worked(self, name):
-        file = TESTS / "programs" / (name + ".trac")
+        file = DATA / "programs" / (name + ".trac")
         status = int((words_in(file.with_suffix(".status")) or ["0"])[0])
         for bits in 128, 64:
             narrow = file.with_suffix(".64")

@@ -1,4 +1,4 @@
-"""The programs of library/, and what they print: NAME.trac, and after it NAME.in where there is one, as in
+"""The programs of programs/library/, and what they print: NAME.trac, and after it NAME.in where there is one, as in
 test_programs.
 
 Each has its page, NAME.md, and what it prints, NAME.out, and no file is left over. Each is looked through with what
@@ -10,7 +10,7 @@ import re
 from support.cases import TOP, WALK, Case, Place, bytes_in, each, near, ran, stems, tests
 from test_programs import run_both_ways, strays
 
-HERE = TOP / "library"
+HERE = TOP / "programs" / "library"
 STEP = re.compile(rb" \(step [0-9]+\)$", re.M)
 
 
@@ -58,7 +58,7 @@ class Library(Case):
         endings = {".trac", ".md", ".in", ".out", ".64", ".lint", ".walk"}
         left = [near(file) for file in sorted(HERE.iterdir()) if file.suffix not in endings]
         self.holds("the kind of each file is known: {}".format(left), not left)
-        left = [it for it in strays(HERE, endings) if it != "library/README.md"]
+        left = [it for it in strays(HERE, endings) if it != "programs/library/README.md"]
         self.holds("each file belongs to a program: {}".format(left), not left)
         self.holds("five walks", len(stems(HERE, ".walk")) == 5)
         count = len((HERE / "README.md").read_text(encoding="utf-8").split())

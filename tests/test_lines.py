@@ -8,13 +8,13 @@ import shutil
 import stat
 import sys
 
-from support.cases import TESTS, TOP, Case, each, patience, ran, scratch, tests
+from support.cases import DATA, EXAMPLES, TOP, Case, each, patience, ran, scratch, tests
 
 sys.path.insert(0, str(TOP / "python"))
 from trac_tools import walk  # noqa: E402
 
-TRAC, FIRST = TOP / "trac", TOP / "examples" / "first.trac"
-FACTORIAL = TOP / "examples" / "wrong-factorial.trac"
+TRAC, FIRST = TOP / "trac", EXAMPLES / "first.trac"
+FACTORIAL = EXAMPLES / "wrong-factorial.trac"
 UP = "\x1b[A"
 FORMS = ["again", "all"]
 # A beginning of a line of the walk, and the words that may stand there.
@@ -147,7 +147,7 @@ class Words(Case):
 
     def test_commands(self):
         """They are those that `h` lists."""
-        text = (TESTS / "walks" / "help.out").read_text(encoding="utf-8")
+        text = (DATA / "walks" / "help.out").read_text(encoding="utf-8")
         for word in walk.COMMANDS:
             self.holds("h lists " + word, re.search(r"(?:^|  |or |[;,] ){}\b".format(word), text, re.M))
         listed = set(re.findall(r"(?:^|   )([a-zA-Z])(?:  | \[| [A-Z\"#])", text, re.M))

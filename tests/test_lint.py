@@ -1,20 +1,20 @@
 """What trac-lint says of programs, byte for byte.
 
-Each NAME.trac of tests/lint is a program, worked by hand, and NAME.out what must be said of it, without the numbers
-of steps; NAME.options has further words of the command line. known.out has the doubts of all of examples/ and
-tests/programs, each judged true by hand. Of 500 random programs the model says what must be said. mistakes/ has ten
-programs with one silent mistake each, which stands at the line and column in NAME.place: of nine the line must be
-named. parentheses/ has programs with one parenthesis missing, or one too many, whose place must be named. unseen/ has
-mistakes of each kind of which share/man/trac-lint.1 says that they are not seen. Then hostile programs, endless ones,
-and statuses."""
+Each NAME.trac of tests/data/lint is a program, worked by hand, and NAME.out what must be said of it, without the
+numbers of steps; NAME.options has further words of the command line. known.out has the doubts of all of
+programs/examples/ and tests/data/programs, each judged true by hand. Of 500 random programs the model says what must
+be said. mistakes/ has ten programs with one silent mistake each, which stands at the line and column in NAME.place: of
+nine the line must be named. parentheses/ has programs with one parenthesis missing, or one too many, whose place must
+be named. unseen/ has mistakes of each kind of which share/man/trac-lint.1 says that they are not seen. Then hostile
+programs, endless ones, and statuses."""
 import os
 import re
 
 from model import doubts
 from model.random_doubts import Author
-from support.cases import TESTS, TOP, WALK, Case, Place, each, near, ran, scratch, stems, tests, words_in
+from support.cases import DATA, EXAMPLES, WALK, Case, Place, each, near, ran, scratch, stems, tests, words_in
 
-HERE = TESTS / "lint"
+HERE = DATA / "lint"
 LINT = [WALK, "--lint"]
 COUNT, SEED, STEPS = 500, 60, 3000
 STEP = re.compile(rb" \(step [0-9]+\)$", re.M)
@@ -58,13 +58,13 @@ class Stored(Linter):
 
     def test_known(self):
         """All other programs."""
-        folders = TOP / "examples", TESTS / "programs"
+        folders = EXAMPLES, DATA / "programs"
         files = [near(file) for folder in folders for file in sorted(folder.glob("*.trac"))]
         run = ran([*LINT, *files])
-        self.same("examples/ and tests/programs", STEP.sub(b"", run.output), (HERE / "known.out").read_bytes(),
-                  Place("tests/lint/known.out"), "said of them")
+        self.same("programs/examples/ and tests/data/programs", STEP.sub(b"", run.output),
+                  (HERE / "known.out").read_bytes(), Place("tests/data/lint/known.out"), "said of them")
         self.same("what is said of how they end", re.sub(rb" [0-9]+ steps, where", b" N steps, where", run.error),
-                  (HERE / "known.err").read_bytes(), Place("tests/lint/known.err"), "said of them")
+                  (HERE / "known.err").read_bytes(), Place("tests/data/lint/known.err"), "said of them")
 
     def test_mistakes(self):
         """The line of a mistake is named."""
@@ -227,6 +227,13 @@ class Words(Linter):
                   b"a line\\x0aanother\\x1b:1:3: no primitive is named pr (step 11)\n", 1)
         self.ends("two lines of a file that is not there", ran([*LINT, "no\nfile"], folder=self.room), b"", 2,
                   b"trac-lint: no\\x0afile: it cannot be read\n")
+
+    def test_name_with_signs_that_are_not_seen(self):
+        """They are shown as `trac debug` shows them; letters of all scripts stand as themselves."""
+        (self.room / "\u00e9\u034f\u115f\u3164\u17b4").write_bytes(PR)
+        self.ends("each is shown", ran([*LINT, "\u00e9\u034f\u115f\u3164\u17b4"], folder=self.room),
+                  b"\xc3\xa9\\xcd\\x8f\\xe1\\x85\\x9f\\xe3\\x85\\xa4\\xe1\\x9e\\xb4:1:3: "
+                  b"no primitive is named pr (step 11)\n", 1)
 
     def test_file_that_is_not_there(self):
         """The next one is looked through."""

@@ -1,8 +1,9 @@
 """release/trac.mjs, the programs in Node: what it answers is, byte for byte, what the programs do.
 
-Most rows are answered in one process, whose streams are held in memory: the programs of tests/programs, the sessions,
-the walks, and the command lines. Each is given its input at once, and in pieces, after each of which what waits is
-answered. Then the file itself is run: as a pipe that waits, with long streams, where nobody reads, and with Ctrl-C."""
+Most rows are answered in one process, whose streams are held in memory: the programs of tests/data/programs, the
+sessions, the walks, and the command lines. Each is given its input at once, and in pieces, after each of which what
+waits is answered. Then the file itself is run: as a pipe that waits, with long streams, where nobody reads, and with
+Ctrl-C."""
 import base64
 import json
 import os
@@ -15,8 +16,8 @@ import signal
 import subprocess
 import termios
 
-from support.cases import (TESTS, TOP, TRAC, WALK, Case, Place, Ran, Silent, bytes_in, near, patience, ran, scratch,
-                           stems, words_in)
+from support.cases import (DATA, EXAMPLES, TESTS, TOP, TRAC, WALK, Case, Place, Ran, Silent, bytes_in, near, patience,
+                           ran, scratch, stems, words_in)
 from test_programs import ENDINGS
 from test_sessions import NOT_UNDERSTOOD, REPLIES, refusal
 
@@ -94,9 +95,9 @@ class Stored(InNode):
     seconds = 20
 
     def test_programs(self):
-        """The programs of tests/programs and of examples/, with numbers of both widths."""
+        """The programs of tests/data/programs and of programs/examples/, with numbers of both widths."""
         rows = []
-        for folder in TESTS / "programs", TOP / "examples":
+        for folder in DATA / "programs", EXAMPLES:
             for name in stems(folder, ".out"):
                 file = folder / (name + ".trac")
                 tape = file.read_bytes() + bytes_in(file.with_suffix(".in"))
@@ -110,7 +111,7 @@ class Stored(InNode):
 
     def test_sessions(self):
         """The sessions of the debugger, and short lists of commands."""
-        here, rows = TESTS / "sessions", []
+        here, rows = DATA / "sessions", []
         stored = [(here / name, here / (name + ".in"), here / (name + ".trac")) for name in stems(here)]
         folder = here / "not-understood"
         stored += [(folder / "each", folder / (name + ".in"), here / "not-understood.trac")
@@ -136,7 +137,7 @@ class Stored(InNode):
 
     def test_walks(self):
         """The walks, and the short ones with prompts too, as the program gives them."""
-        here, rows = TESTS / "walks", []
+        here, rows = DATA / "walks", []
         for name in stems(here, ".in"):
             file = here / (name.replace(".found", "") + ".trac")
             if not file.exists():
@@ -152,11 +153,11 @@ class Stored(InNode):
 
     def test_lint(self):
         """What trac-lint says of all programs that are here."""
-        here, lines = TESTS / "lint", []
+        here, lines = DATA / "lint", []
         lines += [(words_in(here / (name + ".options")) + [name + ".trac"], here) for name in stems(here)]
-        for folder in here / "mistakes", here / "parentheses", here / "unseen", TESTS / "programs", TOP / "examples":
+        for folder in here / "mistakes", here / "parentheses", here / "unseen", DATA / "programs", EXAMPLES:
             lines.append(([near(file) for file in sorted(folder.glob("*.trac"))], TOP))
-        first = "examples/first.trac"
+        first = "programs/examples/first.trac"
         lines += [(words, TOP) for words in (["--steps", "7", first, "nowhere"], ["--input", "nowhere", first],
                                              ["--decimals", "64", first], ["", "a\nb\u202e"], ["."])]
         rows = []
@@ -169,10 +170,10 @@ class Stored(InNode):
     def test_texts(self):
         """Help, and command lines that are not understood."""
         rows = []
-        for name in stems(TESTS / "texts", ".words"):
-            program, *words = words_in(TESTS / "texts" / (name + ".words"))
+        for name in stems(DATA / "texts", ".words"):
+            program, *words = words_in(DATA / "texts" / (name + ".words"))
             command = {"trac": [], "trac-walk": ["walk"], "trac-lint": ["lint"]}[program]
-            out, err = (TESTS / "texts" / (name + ending) for ending in (".out", ".err"))
+            out, err = (DATA / "texts" / (name + ending) for ending in (".out", ".err"))
             rows.append((row([*command, *words]), {"output": bytes_in(out), "error": bytes_in(err),
                                                    "status": 2 if err.exists() else 0}))
         self.are(rows)
@@ -268,13 +269,13 @@ class Streams(InNode):
             process.stdin.flush()
             self.same("a run answers " + given.decode(), taken(process.stdout, len(wanted)), wanted)
         self.holds("it ends before its input does", process.wait(patience()) == 0)
-        process = self.begun(["debug", TOP / "examples" / "first.trac"])
+        process = self.begun(["debug", EXAMPLES / "first.trac"])
         for given, wanted in (b"s 5\n", b"forward 5\n"), (b"b 2\n", b"back 2\n"), (b"q\n", b""):
             process.stdin.write(given)
             process.stdin.flush()
             self.same("a session answers", taken(process.stdout, len(wanted)), wanted)
         self.holds("q ends it", process.wait(patience()) == 0)
-        process = self.begun(["walk", TOP / "examples" / "first.trac"])
+        process = self.begun(["walk", EXAMPLES / "first.trac"])
         process.stdin.write(b"s\n  quit\n")
         process.stdin.flush()
         self.holds("quit ends a walk", process.wait(patience()) == 0)
@@ -305,7 +306,7 @@ class Streams(InNode):
         begun = b"trac: reading from the terminal: ' and Enter end a text, Ctrl-D ends the input\r\n"
         for words, typed, seen in (
                 (["run"], ((begun, b"#(ad,2,3)'\n"), (b"5", b"\x04")), begun + b"5"),
-                (["walk", TOP / "examples" / "first.trac"], ((b"0> ", b"s\n"), (b"1> ", b"q\n")),
+                (["walk", EXAMPLES / "first.trac"], ((b"0> ", b"s\n"), (b"1> ", b"q\n")),
                  b"h lists the commands, q ends\r\n0> 1  ")):
             status, text = self.typed(words, typed)
             self.holds("{} at a terminal: status {}, {}".format(words[0], status, text), status == 0 and seen in text)

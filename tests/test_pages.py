@@ -1,5 +1,5 @@
-"""The pages that ./trac page makes: each program of tests/programs opens at the step that was asked for, or else where
-`trac walk` comes to an end, in the state that `trac debug` prints there. The page's own scripts say so, in Node
+"""The pages that ./trac page makes: each program of tests/data/programs opens at the step that was asked for, or else
+where `trac walk` comes to an end, in the state that `trac debug` prints there. The page's own scripts say so, in Node
 (tests/support/pages.mjs), from version 18 on; without that, these tests are skipped. And command lines."""
 import base64
 import json
@@ -9,7 +9,7 @@ import re
 import shutil
 import sys
 
-from support.cases import TESTS, TOP, TRAC, WALK, Case, near, ran, scratch, stems
+from support.cases import DATA, EXAMPLES, TESTS, TOP, TRAC, WALK, Case, near, ran, scratch, stems
 from support.paging import GIVEN, MAKER, PAGE, a_checkout, made, opened
 from support.strange import ASKING, ENDLESS, HOSTILE, HOSTILE_NAME, VARIOUS
 
@@ -62,7 +62,7 @@ class Pages(Case):
     def test_programs(self):
         """Each program, at its end and at some step."""
         room = scratch(self)
-        programs = [Program(TESTS / "programs" / (name + ".trac"), room) for name in stems(TESTS / "programs")]
+        programs = [Program(DATA / "programs" / (name + ".trac"), room) for name in stems(DATA / "programs")]
         for name, text in ((HOSTILE_NAME, HOSTILE), (b"various.trac", VARIOUS)):
             place = os.path.join(os.fsencode(room), name)
             with open(place, "wb") as out:
@@ -72,8 +72,8 @@ class Pages(Case):
 
     def test_narrow(self):
         """Those that differ with numbers of 64 bits."""
-        names = stems(TESTS / "programs", ".64")
-        self.compare([Program(TESTS / "programs" / (name + ".trac"), None) for name in names], NARROW)
+        names = stems(DATA / "programs", ".64")
+        self.compare([Program(DATA / "programs" / (name + ".trac"), None) for name in names], NARROW)
 
     def compare(self, programs, words):
         """Each page opens where it was asked to, with all bytes of its program. Its states there and at two other steps
@@ -128,7 +128,7 @@ class Lines(Case):
 
     def test_words(self):
         """What is wrong with a command line is said, of an option that there was also what is so instead."""
-        file, none = TOP / "examples" / "wrong-factorial.trac", scratch(self) / "none"
+        file, none = EXAMPLES / "wrong-factorial.trac", scratch(self) / "none"
         rows = [(["--step", "-1", file], 2), (["--step", "100000001", file], 2), (["--step", "x", file], 2),
                 (["--budget", "0", file], 2), (["--decimals", "32", file], 2), (["--input", none, file], 6),
                 ([none], 6), ([TESTS], 6), ([], 2)]
@@ -152,7 +152,7 @@ class Lines(Case):
     def test_damaged(self):
         """No page is made of a trac.html that is not there, not whole, or has a program."""
         room, whole = scratch(self), PAGE.read_bytes()
-        copy, file = a_checkout(room), TOP / "examples" / "first.trac"
+        copy, file = a_checkout(room), EXAMPLES / "first.trac"
         place = room / "release" / "trac.html"
         missing, wrong = b"trac page: trac.html is missing: ", b" takes no program: it is not whole, or not of this "
         for what, damaged, said in (("that is missing", None, missing), ("that is a folder", 0, b"html is no file\n"),
@@ -170,7 +170,7 @@ class Lines(Case):
 
     def test_same(self):
         """The same program makes the same page, from a pipe too."""
-        file = TOP / "examples" / "wrong-factorial.trac"
+        file = EXAMPLES / "wrong-factorial.trac"
         page = made(self, [file])
         self.holds("a second page is the same", made(self, [file]) == page)
         piped = ran([*MAKER, "/dev/stdin"], file.read_bytes(), 100).output

@@ -1,11 +1,11 @@
-"""Whole programs, and what they print: each NAME.trac of tests/programs is the standard input of a run, and after it
-NAME.in, where there is one; so is each of examples/ that has an output beside it.
+"""Whole programs, and what they print: each NAME.trac of tests/data/programs is the standard input of a run, and after
+it NAME.in, where there is one; so is each of programs/examples/ that has an output beside it.
 
 Standard output must be NAME.out, the exit status that of NAME.status (0 where there is none), and standard error the
 line that docs/running.md has for that status. Each is run with numbers of 128 bits, which are the default, and of 64
 bits: then it must print NAME.64, where there is one. And each is run twice: with the input as a file, and byte by
 byte through a pipe."""
-from support.cases import TESTS, TOP, TRAC, Case, Place, bytes_in, each, near, ran, stems, tests, words_in
+from support.cases import DATA, EXAMPLES, TRAC, Case, Place, bytes_in, each, near, ran, stems, tests, words_in
 
 # The line on standard error for each exit status.
 ENDINGS = {0: b"", 3: b"trac: budget spent\n", 4: b"trac: limit passed\n", 5: b"trac: no memory\n",
@@ -39,14 +39,14 @@ def strays(folder, endings):
 
 @tests
 class Programs(Case):
-    """The programs of tests/programs."""
+    """The programs of tests/data/programs."""
 
-    @each(stems(TESTS / "programs"))
+    @each(stems(DATA / "programs"))
     def test(self, name):
-        run_both_ways(self, TESTS / "programs" / (name + ".trac"))
+        run_both_ways(self, DATA / "programs" / (name + ".trac"))
 
     def test_no_file_without_a_program(self):
-        left = strays(TESTS / "programs", {".out", ".64", ".status", ".in"})
+        left = strays(DATA / "programs", {".out", ".64", ".status", ".in"})
         self.holds("each file belongs to a program: {}".format(left), not left)
 
     def test_single_bytes(self):
@@ -62,10 +62,10 @@ class Examples(Case):
 
     suite = "examples"
 
-    @each(name for name in stems(TOP / "examples") if (TOP / "examples" / (name + ".out")).exists())
+    @each(name for name in stems(EXAMPLES) if (EXAMPLES / (name + ".out")).exists())
     def test(self, name):
-        run_both_ways(self, TOP / "examples" / (name + ".trac"))
+        run_both_ways(self, EXAMPLES / (name + ".trac"))
 
     def test_no_file_without_a_program(self):
-        left = strays(TOP / "examples", {".out", ".64", ".status", ".in"})
+        left = strays(EXAMPLES, {".out", ".64", ".status", ".in"})
         self.holds("each output belongs to a program: {}".format(left), not left)

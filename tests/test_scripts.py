@@ -11,8 +11,8 @@ import subprocess
 from support.cases import TESTS, Case, each, tests
 
 # Each script, and about how many seconds it takes: the longest begin first.
-SCRIPTS = {"building": 60, "releasing": 30, "installing": 20, "endings": 20, "hostile": 60, "streams": 40,
-           "playing": 20, "editors": 30, "web/run": 60, "webpage/run": 240}
+SCRIPTS = {"building": 60, "releasing": 30, "installing": 20, "endings": 20, "hostile": 70, "streams": 60,
+           "playing": 25, "editors": 30, "web/run": 60, "webpage/run": 240}
 COUNTS = re.compile(r"(?:([0-9]+) skipped, )?([0-9]+) passed, ([0-9]+) failed")
 # How much is shown of what a script says that failed.
 SHOWN = 40
@@ -47,8 +47,6 @@ class Script(Case):
         super().__init__(method)
         self.skips = []
         name = method.replace("test_", "", 1)
-        # (building looks at how far a build is while time passes)
-        self.is_alone = name == "building"
         self.seconds = next((seconds for script, seconds in SCRIPTS.items() if name_of(script) == name), 0)
 
     def run_script(self, script):

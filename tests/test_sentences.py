@@ -1,13 +1,13 @@
-"""What the page says of each step, by its own scripts in Node: tests/sentences/NAME.out, written by hand from
+"""What the page says of each step, by its own scripts in Node: tests/data/sentences/NAME.out, written by hand from
 docs/language.md and from what the rules come to. Of primitives.trac the sentences of calls alone are compared, and how
 they begin is left out. It needs Node, from version 18 on; else it is skipped."""
 import re
 
-from support.cases import TESTS, Case, Place, near, scratch
+from support.cases import DATA, Case, Place, near, scratch
 from support.paging import made, opened
 from support.readers import PROGRAM, READERS
 
-HERE = TESTS / "sentences"
+HERE = DATA / "sentences"
 # A call in a sentence, and what is said of it; not the one by which the idle program reads.
 CALL = re.compile(r"^\d+: \)(?: of the idle program)? ends the function, and (?!#\(rs\))(.* is performed: .*\n)", re.M)
 
@@ -23,7 +23,7 @@ class Sentences(Case):
         """The lines are those of a file."""
         wanted = HERE / (name + ".out")
         text, place = wanted.read_text(encoding="utf-8"), Place(near(wanted))
-        self.same("tests/sentences/{}.trac".format(name), said, text, place, "said by the page")
+        self.same("tests/data/sentences/{}.trac".format(name), said, text, place, "said by the page")
 
     def test_rules(self):
         """Each rule by which a step is taken."""

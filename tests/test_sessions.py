@@ -1,17 +1,17 @@
 """Sessions of the debugger, and what they print.
 
-Each NAME.trac of tests/sessions is the FILE of one session, NAME.in its standard input, and NAME.options, where it is
-there, has further words of its command line. Standard output must be NAME.out, the exit status that of NAME.status,
-and standard error NAME.err (0, and null, where there is none). Each is run twice: with the commands as a file, and
-byte by byte through a pipe. Each not-understood/NAME.in takes a step, and has an empty line, a third line that is not
-understood, and one after it."""
+Each NAME.trac of tests/data/sessions is the FILE of one session, NAME.in its standard input, and NAME.options, where
+it is there, has further words of its command line. Standard output must be NAME.out, the exit status that of
+NAME.status, and standard error NAME.err (0, and null, where there is none). Each is run twice: with the commands as a
+file, and byte by byte through a pipe. Each not-understood/NAME.in takes a step, and has an empty line, a third line
+that is not understood, and one after it."""
 import os
 import pathlib
 
-from support.cases import TESTS, TRAC, Case, Place, bytes_in, each, lined, near, ran, scratch, stems, tests, words_in
+from support.cases import DATA, TRAC, Case, Place, bytes_in, each, lined, near, ran, scratch, stems, tests, words_in
 from support.pages import walks_of
 
-HERE = TESTS / "sessions"
+HERE = DATA / "sessions"
 # What sessions over `AB'` reply to some commands, all of which they take.
 REPLIES = (
     (b"s 0", b"forward 0\n"),

@@ -174,6 +174,9 @@ class Endings(Walker):
         self.status("no FILE", run, 6)
         wanted = "trac-walk: {} cannot be read".format(self.room / "none")
         self.holds("and which one: {}".format(run.error), wanted in run.error.decode().splitlines())
+        run = ran([WALK, ""])
+        self.status("a FILE of an empty name", run, 6)
+        self.holds("and which one", b"trac-walk: '' cannot be read" in run.error.splitlines())
 
     def test_long_file(self):
         self.status("a long FILE", self.walk(bytes(33554433), b""), 4)

@@ -1,6 +1,6 @@
 """Walks through programs with `trac walk`, and what they print.
 
-Each NAME.trac of tests/walks is a program, NAME.in what is typed, and NAME.options, where it is there, has further
+Each NAME.trac of tests/data/walks is a program, NAME.in what is typed, and NAME.options, where it is there, has further
 words of the command line. Standard output must be NAME.out, the exit status 0, and standard error empty. Each is run
 twice: with the lines as a file, and byte by byte through a pipe. Five of the programs have a planted bug, and their
 lines find it: these are at most five. NAME.found.in finds it by `y`, in at most three lines beside those that feed
@@ -8,11 +8,12 @@ and run the program, and its output names the bug. Five more programs have one t
 the walks that README and docs/walking.md show, and the launcher at a pseudo-terminal, ended by Ctrl-C too."""
 import re
 
-from support.cases import TESTS, TOP, TRAC, WALK, Case, Place, each, lined, near, ran, scratch, stems, tests, words_in
+from support.cases import (DATA, EXAMPLES, TESTS, TOP, TRAC, WALK, Case, Place, each, lined, near, ran, scratch,
+                           stems, tests, words_in)
 from support.pages import walks_of
 
-HERE = TESTS / "walks"
-FACTORIAL, DAYS = TOP / "examples" / "wrong-factorial.trac", TOP / "examples" / "long-way-back.trac"
+HERE = DATA / "walks"
+FACTORIAL, DAYS = EXAMPLES / "wrong-factorial.trac", EXAMPLES / "long-way-back.trac"
 # By each way to a bug: the call with the wrong arguments, or the place in the program.
 BUGS = {
     "hanoi": b"#(cl,hanoi,1,B,A,C)",  # the third and the fourth argument are exchanged
@@ -260,7 +261,7 @@ class Kept(Walker):
 
     def test_searches_that_are_spent(self):
         """`u` goes on by an empty line, and `n` and `o` would be about another call then."""
-        endless = TOP / "examples" / "endless.trac"
+        endless = EXAMPLES / "endless.trac"
         for lines, count, wanted in (
                 (b"s end\n\n", 2, b"the program goes on after 10000000 steps; an empty line goes on"),
                 (b"u none\n\n", 2, b"not met after 10000000 steps; an empty line goes on"),
@@ -272,7 +273,7 @@ class Kept(Walker):
     def test_search_that_is_spent_stays(self):
         """So it does where as many steps are kept as can be; an empty line goes on from where it ended, and meets
         what comes later."""
-        run = self.walk(TOP / "examples" / "endless.trac", b"g 45\nu none\n\nm\n", "--journal", "1048576")
+        run = self.walk(EXAMPLES / "endless.trac", b"g 45\nu none\n\nm\n", "--journal", "1048576")
         self.finds("a search that is spent stays", run, rb"^([0-9]+)  .*$", b"45\n45\n45\n20000045\n")
         program = b"#(ds,L,(#(eq,N,0,(#(ps,end)),(#(cl,L,#(su,N,1))))))'\n#(ss,L,N)'\n#(cl,L,300000)'\n"
         run = self.walk(program, b"u ps end\n\ni #(ps,A)'\nu ps end\np\n")
@@ -282,7 +283,7 @@ class Kept(Walker):
 
     def test_as_many_steps_as_can_be_kept(self):
         """Then no option is named that keeps more."""
-        run = self.walk(TOP / "examples" / "endless.trac", b"s 1048577\n", "--journal", "1048576")
+        run = self.walk(EXAMPLES / "endless.trac", b"s 1048577\n", "--journal", "1048576")
         self.same("the first line", run.output.split(b"\n")[0], b"steps before 524288 are forgotten")
         self.same("standard error", run.error, b"")
 
@@ -304,12 +305,13 @@ class Terminal(Walker):
         """A tab is a key of the line editor."""
         file = HERE / (name + ".trac")
         lines, wanted = (file.with_suffix(it) for it in (".in", ".out"))
-        run = ran([HERE / "at-a-terminal", TOP / "trac", "walk", file], lines.read_bytes().replace(b"\t", b" "))
+        typed = lines.read_bytes().replace(b"\t", b" ")
+        run = ran([TESTS / "support" / "at-a-terminal", TOP / "trac", "walk", file], typed)
         self.ends(name + ", at a terminal", run, wanted.read_bytes(), place=Place(near(wanted)))
 
     @each(("at-the-prompt", "during-a-long-move"))
     def test_interrupted(self, when):
         """Ctrl-C ends all that the launcher has begun."""
         line = ["--line", "s 999999999999"] if when == "during-a-long-move" else []
-        run = ran([HERE / "interrupted", *line, TOP / "trac", "walk", TOP / "examples" / "endless.trac"])
+        run = ran([TESTS / "support" / "interrupted", *line, TOP / "trac", "walk", EXAMPLES / "endless.trac"])
         self.status("Ctrl-C {}".format(when), run, 0)

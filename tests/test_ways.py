@@ -1,17 +1,17 @@
 """What `y` of trac-walk says of where bytes come from.
 
-Each byte that the programs of tests/programs print is followed back, and the replies are read alone: a byte that was
-read is that byte of FILE, what makes bytes makes digits or bits, or names that it lists, and the first line of a way
-is of a call that prints. A way of one line, of a byte that the call which prints it makes, is of `pf`, or of a
-program that turns the trace on. Of 400 random programs the replies must be those of the model, byte for byte. Then
-one byte through a block, one through a form with a long name, one over a way of as many lines as are shown, and two
-over longer ones."""
+Each byte that the programs of tests/data/programs print is followed back, and the replies are read alone: a byte that
+was read is that byte of FILE, what makes bytes makes digits or bits, or names that it lists, and the first line of a
+way is of a call that prints. A way of one line, of a byte that the call which prints it makes, is of `pf`, or of a
+program that turns the trace on. Of 400 random programs the replies must be those of the model, byte for byte. Then one
+byte through a block, one through a form with a long name, one over a way of as many lines as are shown, and two over
+longer ones."""
 import re
 
 from model import ways
 from model.machine import GAP
 from model.random_ways import Programs, questions
-from support.cases import TESTS, WALK, each, lined, ran, stems, tests
+from support.cases import DATA, WALK, each, lined, ran, stems, tests
 from test_walks import Walker
 
 # What these make, where the trace is off.
@@ -99,9 +99,9 @@ class EachByte(Walker):
 
     suite = "ways"
 
-    @each(stems(TESTS / "programs"))
+    @each(stems(DATA / "programs"))
     def test(self, name):
-        program = TESTS / "programs" / (name + ".trac")
+        program = DATA / "programs" / (name + ".trac")
         file, printed = program.read_bytes(), program.with_suffix(".out").read_bytes()
         lines = ["s 1000000", "e", "s 1000000"]
         for number in range(1, len(printed) + 1):

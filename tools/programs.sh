@@ -90,10 +90,11 @@ for name in "trac", "trac-walk":
     fi >/dev/null 2>&1
 }
 
-# Makes a folder in out/ for what is new there, `making`, which goes if a signal ends this.
+# Makes a folder in out/ for what is new there, `making`, which goes if a signal ends this. Nobody else may write there,
+# whatever the umask.
 make_folder() {
     local it
-    mkdir -p "$out" 2>/dev/null && making=$(mktemp -d "$out/.new.XXXXXX" 2>/dev/null) || return 1
+    (umask go-w && mkdir -p "$out") 2>/dev/null && making=$(mktemp -d "$out/.new.XXXXXX" 2>/dev/null) || return 1
     for it in INT TERM HUP; do
         trap 'rm -rf "$making"; trap - '$it'; kill -s '$it' $$' $it
     done
@@ -125,7 +126,7 @@ take_released() {
         unpack "$making" || status=$?
         [ $status = 0 ] && is_sum "$making/trac" "$(released_sum trac)" &&
             is_sum "$making/trac-walk" "$(released_sum trac-walk)" &&
-            made "$(released_sums)" 2>/dev/null >"$making/made.txt"
+            (umask go-w && made "$(released_sums)" 2>/dev/null >"$making/made.txt")
         keep_folder
     } && return
     if [ $status = 9 ]; then
@@ -145,14 +146,15 @@ make_ready() {
 
 # The program of this name as rt has built it.
 built() {
-    local crate=${1/-walk/_walker}
+    local crate=${1/-walk/_walk_program}
     printf '%s' "$top/crates/$crate/out/$crate"
 }
 
 # Keeps the programs that rt has built, in out/. These are the sums of the sources that they were built from.
 keep_built() {
     make_folder || return
-    cp "$(built trac)" "$making/trac" && cp "$(built trac-walk)" "$making/trac-walk" && made "$1" >"$making/made.txt"
+    cp "$(built trac)" "$making/trac" && cp "$(built trac-walk)" "$making/trac-walk" &&
+        (umask go-w && made "$1" >"$making/made.txt")
     keep_folder
 }
 

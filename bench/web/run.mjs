@@ -9,7 +9,7 @@ import { Engine } from '../../tests/web/engine.mjs'
 
 const top = path.join(path.dirname(fileURLToPath(import.meta.url)), '..', '..')
 const rounds = Number(process.argv[2] ?? 15), page = process.argv[3] ?? path.join(top, 'release', 'trac.html')
-const toll = fs.readFileSync(path.join(top, 'examples', 'long-way-back.trac'))
+const toll = fs.readFileSync(path.join(top, 'programs', 'examples', 'long-way-back.trac'))
 const steps = 1_000_000
 
 function timed(what, task, judge) {

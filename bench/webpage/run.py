@@ -4,8 +4,8 @@ milliseconds: the least, the median and the most of all rounds, as the page itse
 
     python3 bench/webpage/run.py [ROUNDS [PAGE]]
 
-PAGE is release/trac.html if none is given. The run is examples/long-way-back.trac, of 1,024,773 steps. A click is timed until the
-calls on the way are shown; `move` goes out of a call, to where one begins, and to calls, and `who` to the one that changed a form last;
+PAGE is release/trac.html if none is given. The run is programs/examples/long-way-back.trac, of 1,024,773 steps. A click
+is timed until the calls on the way are shown; `move` goes out of a call, to where one begins, and to calls, and `who` to the one that changed a form last;
 `tree` lists all calls of the run after a search, until they are painted; `stop` ends the Worker of a run without end.
 """
 import json
@@ -21,8 +21,8 @@ sys.path.insert(0, str(ROOT / "tests" / "support"))
 sys.dont_write_bytecode = True
 import browser  # noqa: E402
 
-PROGRAM = (ROOT / "examples" / "long-way-back.trac").read_text()
-ENDLESS = (ROOT / "examples" / "endless.trac").read_text()
+PROGRAM = (ROOT / "programs" / "examples" / "long-way-back.trac").read_text()
+ENDLESS = (ROOT / "programs" / "examples" / "endless.trac").read_text()
 GOALS = {"ready": 300, "run": 500, "step": 100, "jump": 100, "move": 100, "click": 100, "who": 100, "tree": 300, "stop": 200}
 END = 1_024_773
 READY = "new MutationObserver(() => { if (document.documentElement.dataset.ready) window.readyAt ??= performance.now(); })" \

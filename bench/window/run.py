@@ -33,7 +33,7 @@ WIDE_WINDOW = b"c 60000\n"
 # the debugger reads 1,048,576 lines at most, so no more pairs of them
 STEPS = 500_000
 LONG = 8_000_000
-ENDLESS = (ROOT / "examples" / "endless.trac").read_bytes()
+ENDLESS = (ROOT / "programs" / "examples" / "endless.trac").read_bytes()
 APPENDING = b"#(ds,acc,)'#(ds,L,(#(eq,N,%d,,(#(ds,acc,##(cl,acc)line N;)#(cl,L,#(ad,N,1))))))'#(ss,L,N)'#(cl,L,0)'"
 READING = b"#(ds,L,(#(rc)#(cl,L)))'#(cl,L)'"
 PRINT = b"#(ps,.)"

@@ -5,19 +5,19 @@
     trac course N.K                shows exercise N.K; so `hint N.K` and `solution N.K`
     trac course check N.K FILE     runs FILE on each given input, and says what differs
 
-The lessons and exercises are the files of course/, whose README.md says how they are kept.
+The lessons and exercises are the files of programs/course/, whose README.md says how they are kept; installed, of
+share/trac/course/.
 """
 import argparse
 import os
 import re
-import resource
 import select
 import shutil
 import subprocess
 import textwrap
 import time
 
-from trac_tools.dialogue import passed_on
+from trac_tools.dialogue import bound, passed_on
 from trac_tools.tool import (Fault, Place, ShowVersion, Words, begin, found, legible, printable, program, read_file,
                              shown, write)
 
@@ -52,7 +52,7 @@ check N.K FILE    run FILE on each given input, and say what differs
 def own_name():
     """This command as it was called."""
     called = os.path.basename(Place.called)
-    on_path = os.path.realpath(shutil.which(called) or "") == Place.launcher
+    on_path = is_on_path(called)
     return (called if on_path else shown(Place.called)) + (" course" if called != "trac-course" else "")
 
 
@@ -65,7 +65,7 @@ class Course:
     """The lessons in a folder."""
 
     def __init__(self):
-        self.folder = os.path.normpath(found("the course", "course", "share/trac/course"))
+        self.folder = os.path.normpath(found("the course", "programs/course", "share/trac/course"))
         self.lessons = sorted(int(name) for name in os.listdir(self.folder) if re.fullmatch("[0-9]{2}", name))
 
     def file(self, *parts):
@@ -128,6 +128,20 @@ class Course:
         return number_of(later[0]) if later else str(after[0]) if after else None
 
 
+def is_on_path(name):
+    """Whether a command of this name is the launcher."""
+    found = shutil.which(name)
+    return found is not None and os.path.realpath(found) == Place.launcher
+
+
+def here():
+    """The folder that the command was given in; empty if that is gone."""
+    try:
+        return os.getcwd()
+    except OSError:
+        return ""
+
+
 def number_of(exercise):
     """An exercise as a user names it."""
     lesson, number = os.path.split(exercise)
@@ -148,13 +162,16 @@ class Page:
 
     def command(self, line):
         """A line of a block, with its files and programs as they are found from here."""
-        if os.path.normpath(os.getcwd()) == os.path.dirname(self.course.folder) and os.path.exists("trac"):
+        if os.path.join(here(), "programs", "course") == self.course.folder and os.path.exists("trac"):
             return line
-        folder = os.path.relpath(self.course.folder)
-        folder = folder if len(folder) < len(self.course.folder) else self.course.folder
-        on_path = os.path.realpath(shutil.which("trac") or "") == Place.launcher
+        on_path = is_on_path("trac")
         line = re.sub(r"(?<![^\s`])\./trac\b", lambda _: "trac" if on_path else legible(Place.launcher), line)
-        return re.sub(r"(?<![\w/.])course/", lambda _: legible(folder) + "/", line)
+        return re.sub(r"(?<![\w/.])programs/(course|library)/", lambda it: self.folder(it[1]) + "/", line)
+
+    def folder(self, name):
+        """A folder that stands where the course does, by its shorter path."""
+        path = os.path.join(os.path.dirname(self.course.folder), name)
+        return legible(min(os.path.relpath(path), path, key=len) if here() else path)
 
     def inline(self, text):
         """A text without its marks, and with no place to break within a piece of code."""
@@ -299,10 +316,8 @@ def tried(command, tape, most, **how):
 
 def run_program(tape):
     """What a program prints, and what is wrong with its end, if that is."""
-    def bound():
-        resource.setrlimit(resource.RLIMIT_AS, (MEMORY, MEMORY))
-
-    printed, status = tried([program("trac"), "run", "--budget", str(STEPS)], tape, PRINTED, preexec_fn=bound)
+    printed, status = tried([program("trac"), "run", "--budget", str(STEPS)], tape, PRINTED,
+                            preexec_fn=lambda: bound(MEMORY))
     if len(printed) > PRINTED:
         return printed, "it prints more than {:,} bytes".format(PRINTED)
     if status is None:

@@ -12,25 +12,26 @@ class NoMemory(Exception):
     """There was no memory. The session is of no use any more."""
 
 
+def bound(memory):
+    """Bounds the memory of the process that is begun. (Nobody but root may raise a bound that there is.)"""
+    with contextlib.suppress(OSError):
+        most = resource.getrlimit(resource.RLIMIT_AS)[1]
+        least = memory if most == resource.RLIM_INFINITY else min(memory, most)
+        resource.setrlimit(resource.RLIMIT_AS, (least, most))
+
+
 class Debugger:
     """A session of a debugger over a tape, begun by a command without FILE. What it takes of memory is bounded."""
 
     def __init__(self, command, memory, tape):
-        self.memory = memory
         with passed_on(tape) as (file, give):
+            # (what it says of itself, such as of an option that is wrong, the run beside it says too)
             self.process = begin(command + [file.name], stdin=subprocess.PIPE, stdout=subprocess.PIPE,
-                                 preexec_fn=self.bound, pass_fds=[file.number])
+                                 stderr=subprocess.DEVNULL, preexec_fn=lambda: bound(memory), pass_fds=[file.number])
             file.close()
             give()
         # replies that are read and not taken
         self.replies = b""
-
-    def bound(self):
-        """Bounds the memory of the process that is begun."""
-        with contextlib.suppress(OSError):
-            most = resource.getrlimit(resource.RLIMIT_AS)[1]
-            memory = self.memory if most == resource.RLIM_INFINITY else min(self.memory, most)
-            resource.setrlimit(resource.RLIMIT_AS, (memory, most))
 
     def read(self):
         """Some more bytes of its replies."""

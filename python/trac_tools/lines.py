@@ -38,9 +38,13 @@ class History:
             readline.set_completer(self.completion)
             readline.set_completer_delims(" ")
             readline.parse_and_bind("tab: complete")
+            # (in the locale C a byte of a letter would be taken for a command)
+            for setting in ("input-meta on", "output-meta on", "convert-meta off"):
+                readline.parse_and_bind("set " + setting)
             readline.set_history_length(KEPT)
             with contextlib.suppress(OSError):
-                readline.read_history_file(self.place())
+                if os.path.isfile(self.place()):
+                    readline.read_history_file(self.place())
             self.before = readline.get_current_history_length()
         return self
 
@@ -62,8 +66,10 @@ class History:
         with contextlib.suppress(OSError):
             os.makedirs(folder(), 0o700, exist_ok=True)
             # (answers are for nobody else)
-            os.close(os.open(self.place(), os.O_CREAT | os.O_WRONLY, 0o600))
-            # (of two sessions at once neither takes away what the other has kept)
+            os.close(os.open(self.place(), os.O_CREAT | os.O_WRONLY | os.O_NONBLOCK, 0o600))
+            # (of two sessions at once neither takes away what the other has kept; what is no file keeps nothing)
+            if not os.path.isfile(self.place()):
+                return
             if hasattr(readline, "append_history_file"):
                 readline.append_history_file(max(typed, 0), self.place())
             else:
@@ -75,6 +81,8 @@ def ask(prompt):
     terminal, the prompt is told on standard error."""
     if not os.isatty(1):
         tell(prompt, "")
+        # (as the line editor does: else a terminal that does not wait for a line would seem to have ended)
+        os.set_blocking(0, True)
         return sys.stdin.buffer.readline()
     try:
         return input(prompt).encode(sys.stdin.encoding, "surrogateescape") + b"\n"

@@ -5,20 +5,28 @@
 `trac run` runs it. What it is given is FILE, and then of each answer what the program reads. That is what `trac walk`
 says, which goes through the program beside it and is fed each answer once: that the program waits, and for what; or
 that it has ended, where the processor would read a text that FILE does not have, by itself and not by a call of the
-program.
+program. (Only a line that is too long for a command of the walk has it go through the program anew. What `i` feeds ends
+with a line end, so it cannot be fed in parts.)
 """
 import os
 import re
 import select
-import threading
+import socket
+import sys
 from subprocess import PIPE
 
 from trac_tools import lines
 from trac_tools.dialogue import Debugger, NoMemory, bytes_of
-from trac_tools.tool import Fault, ShowVersion, Words, begin, program, read_file, shown, tell, write
+from trac_tools.tool import Fault, ShowVersion, Words, begin, beside, program, read_file, shown, tell, write
 
-# The most memory that the walk may take.
-MEMORY = 1_073_741_824
+# The most memory that the walk may take, where --memory does not say it. The system bounds it too: then with some
+# room for the program itself, and for what the heap of the C library cannot use again.
+MEMORY, ROOM = 1_073_741_824, 67_108_864
+# A word of --memory, how many bytes each unit counts, and what it may say.
+SIZE, UNITS = re.compile(r"\+?([0-9]{1,40})([KMG]?)", re.I), {"": 1, "K": 1 << 10, "M": 1 << 20, "G": 1 << 30}
+LEAST, MOST = 1 << 20, 1 << 40
+# The walk may keep steps of so many bytes of its memory: a fourth, as by itself it keeps 256 MiB.
+KEPT = 4
 # How many steps the idle program has before its read, from where nothing is to be done.
 IDLE = 8
 # How many steps the walk keeps: it forgets half of them at a time. So far it goes at once where it may pass the end of
@@ -54,11 +62,12 @@ class Place:
 class Walk:
     """A walk through the program with all input so far: where it stands, what comes next there, and what is said."""
 
-    def __init__(self, words, tape):
-        self.command = [program("trac-walk"), "--journal", str(JOURNAL), *words]
+    def __init__(self, words, memory, tape):
+        self.memory, allowed = bounds(memory)
+        self.command = [program("trac-walk"), "--journal", str(JOURNAL), *allowed, *words]
         self.fed = bytearray(tape)
         self.at, self.next, self.read, self.meta, self.screen = 0, "", 0, b"'", []
-        self.debugger = Debugger(self.command, MEMORY, self.fed)
+        self.debugger = Debugger(self.command, self.memory, self.fed)
 
     def move(self, command):
         """Carries out a command; returns what is said beside where the walk stands then; none where it is refused."""
@@ -84,7 +93,7 @@ class Walk:
         if text.endswith(b"\n") and len(command) <= COMMAND:
             return self.move(command) is not None
         self.debugger.end()
-        self.debugger = Debugger(self.command, MEMORY, self.fed)
+        self.debugger = Debugger(self.command, self.memory, self.fed)
         return not self.move("g {}".format(self.at))
 
     def is_idle(self):
@@ -108,6 +117,16 @@ class Walk:
         return NOT_YET not in said
 
 
+def bounds(memory):
+    """What the system may give a walk of memory, and its own options for that, by the word of --memory, if there is
+    one. (That `trac run` does not understand it is for that to say.)"""
+    parts = SIZE.fullmatch(memory or "")
+    size = int(parts[1]) * UNITS[parts[2].upper()] if parts else 0
+    if not LEAST <= size <= MOST:
+        return MEMORY, []
+    return size + ROOM, ["--memory", memory, "--keep", str(max(size // KEPT // UNITS["M"], 1))]
+
+
 def quoted(byte):
     """A byte of a line as the walk takes it in quotes."""
     return chr(byte) if 32 <= byte <= 126 and byte not in b'"\\' else "\\x{:02x}".format(byte)
@@ -116,16 +135,15 @@ def quoted(byte):
 class Look:
     """Looks where an input leads to, beside what runs. It goes on from where the input before has led to."""
 
-    def __init__(self, words, tape):
-        self.size, self.walk = len(tape), Walk(words, tape)
+    def __init__(self, words, memory, tape):
+        self.size, self.walk = len(tape), Walk(words, memory, tape)
         self.place, self.stopped, self.thread = None, False, None
         self.told, self.tells = os.pipe()
 
     def start(self, text):
         """Begins to look, with more input, if there is any."""
         self.place = None
-        self.thread = threading.Thread(target=self.look, args=(text,), daemon=True)
-        self.thread.start()
+        self.thread = beside(self.look, text)
 
     def look(self, text):
         """Finds the place, and says that it is found."""
@@ -202,7 +220,8 @@ class Screen:
         """What stands before an answer: the line that the program has begun, so that the line editor knows where it
         stands, and a sign that the program waits."""
         try:
-            line = self.line.decode()
+            # (as the line editor is given it, which gives the terminal the same bytes)
+            line = self.line.decode(sys.stdout.encoding)
         except UnicodeDecodeError:
             line = ""
         columns = os.get_terminal_size(1).columns or 80
@@ -230,7 +249,7 @@ class Screen:
 class Play:
     """A program that runs, and is given what is typed."""
 
-    def __init__(self, words, tape):
+    def __init__(self, words, memory, tape):
         self.tape = tape
         widths = words[words.index("--decimals"):][:2] if "--decimals" in words else []
         self.run = begin([program("trac"), "run", *words], stdin=PIPE, stdout=PIPE, stderr=PIPE)
@@ -238,7 +257,7 @@ class Play:
         os.set_blocking(self.to, False)
         # how much of the input it is given, and what of that is on its way
         self.given, self.sending = 0, memoryview(b"")
-        self.screen, self.look = Screen(), Look(widths, tape)
+        self.screen, self.look = Screen(), Look(widths, memory, tape)
 
     def give(self, end):
         """Gives it the input up to here."""
@@ -297,13 +316,15 @@ class Play:
         place = self.follow()
         while place and place.kind == "waits":
             place = self.answer(place)
-        if place and place.kind == "unknown":
-            raise Fault("there is too little memory to see where the program waits; cat FILE - | trac run runs it", 5)
-        if place and place.kind == "ended":
+        if place and place.kind != "stops":
+            # (also where it is not known whether it waits: then it says by itself how it ends)
             self.close()
         while self.copy():
             pass
-        return tell_ending(self.run)
+        status = tell_ending(self.run)
+        if status == 0 and place and place.kind == "unknown":
+            raise Fault("there is too little memory to see where the program waits; cat FILE - | trac run runs it", 5)
+        return status
 
     def answer(self, place):
         """Gives the program that waits what it waits for; returns where that leads to."""
@@ -336,20 +357,24 @@ def tell_ending(runs):
 
 def pass_on(words, tape):
     """Runs it on FILE and then standard input; returns its exit status."""
-    runs = begin([program("trac"), "run", *words], stdin=PIPE, stdout=PIPE, stderr=PIPE)
+    ours, theirs = socket.socketpair()
+    runs = begin([program("trac"), "run", *words], stdin=theirs, stdout=PIPE, stderr=PIPE)
 
     def feed():
         data = tape
         try:
             while data:
-                write(data, runs.stdin.fileno())
+                write(data, ours.fileno())
                 select.select([0], [], [])
                 data = os.read(0, 65536)
-        except (Fault, OSError):
+        except Fault:
             pass
-        runs.stdin.close()
+        except OSError:
+            # (a socket that is closed with something unread has the other end's reads fail, after what was written)
+            theirs.send(b".")
+        ours.close()
 
-    threading.Thread(target=feed, daemon=True).start()
+    beside(feed)
     printed = b" "
     while printed:
         printed = os.read(runs.stdout.fileno(), 65536)
@@ -370,7 +395,8 @@ def options(given):
     words.add_argument("--budget", metavar="N", help="how many steps the run may take, as of trac run")
     words.add_argument("--journal", metavar="N", help="write output after N steps at the latest, as of trac run")
     words.add_argument("--decimals", metavar="BITS", help="how wide numbers are: 64 or 128 bits, as of trac run")
-    words.add_argument("--memory", metavar="SIZE", help="the most memory that the run may take, as of trac run")
+    words.add_argument("--memory", metavar="SIZE",
+                       help="the most memory for the run, as of trac run, and for the walk beside it")
     words.add_argument("-V", "--version", action=ShowVersion, help="show the version of the processor")
     return words.parse_args(given)
 
@@ -384,7 +410,7 @@ def main(given):
     if not os.isatty(0):
         return pass_on(words, tape)
     with lines.History("play"):
-        play = Play(words, tape)
+        play = Play(words, chosen.memory, tape)
         try:
             return play.play()
         finally:

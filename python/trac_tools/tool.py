@@ -8,6 +8,7 @@ import select
 import signal
 import subprocess
 import sys
+import threading
 
 # The most bytes of FILE that the programs take.
 TAPE = 33_554_432
@@ -102,9 +103,24 @@ def tell(words, end="\n"):
 
 def begin(command, **how):
     """Begins a process, which ends with the tool."""
-    process = subprocess.Popen(command, **how)
+    try:
+        process = subprocess.Popen(command, **how)
+    except subprocess.SubprocessError:
+        # (what is done there before the program begins fails only where it has no memory)
+        raise MemoryError
     begun.append(process)
     return process
+
+
+def beside(does, *words):
+    """Does something in a thread of its own, which ends with the tool."""
+    thread = threading.Thread(target=does, args=words, daemon=True)
+    try:
+        thread.start()
+    except RuntimeError:
+        # (so Python says that the system has no thread to give)
+        raise OSError(errno.EAGAIN, os.strerror(errno.EAGAIN))
+    return thread
 
 
 class Words(argparse.ArgumentParser):
@@ -128,12 +144,13 @@ class Words(argparse.ArgumentParser):
 
 
 def hold_streams():
-    """Opens each standard stream that is closed so that its use fails: else the next file would take its place."""
-    for number, other in ((0, os.O_WRONLY), (1, os.O_RDONLY), (2, os.O_RDONLY)):
+    """Has each standard stream that is closed be one of which each use fails: else the next file would take its
+    place. (It is the name of a folder alone: a device could be opened anew, as /dev/stdin.)"""
+    for number in range(3):
         try:
             os.fstat(number)
         except OSError:
-            place = os.open(os.devnull, other)
+            place = os.open("/", os.O_PATH)
             if place != number:
                 os.dup2(place, number)
                 os.close(place)

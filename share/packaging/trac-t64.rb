@@ -18,7 +18,7 @@ class TracT64 < Formula
         exec node "#{libexec}/trac.mjs" "$@"
       SH
       man1.install "share/man/trac.1"
-      doc.install "LICENSE", "README.md", "docs", "library", "examples"
+      doc.install "LICENSE", "README.md", "docs", "programs"
     else
       ENV["DESTDIR"] = "/"
       system "./install", prefix

@@ -16,6 +16,8 @@ from support.differing import Place, difference
 
 TOP = pathlib.Path(__file__).resolve().parent.parent.parent
 TESTS = TOP / "tests"
+# The stored programs with what is wanted of them, and the examples.
+DATA, EXAMPLES = TESTS / "data", TOP / "programs" / "examples"
 TRAC, WALK = TOP / "out" / "trac", TOP / "out" / "trac-walk"
 # So many seconds a program may be silent, where a machine has no more to do than it has processors.
 SILENCE = 60
@@ -66,9 +68,10 @@ def ran(words, given=b"", piece=None, folder=TOP, **more):
         return Ran(output, error, process.returncode, command_of(words))
 
 
-def patience():
-    """How many seconds a program may be silent now."""
-    return SILENCE * max(1, os.getloadavg()[0] / len(os.sched_getaffinity(0)))
+def patience(seconds=SILENCE):
+    """How many seconds a program may be silent now; or take, that may take so many where the machine has no more to
+    do."""
+    return seconds * max(1, os.getloadavg()[0] / len(os.sched_getaffinity(0)))
 
 
 def exchanged(process, given, piece):
@@ -119,8 +122,8 @@ class Case(unittest.TestCase):
     suite = None
     # about how many seconds it takes, if these are many: the longest begin first
     seconds = 0
-    # whether it is to run while no other test does, and whether it takes the programs
-    is_alone, takes_programs = False, True
+    # whether it takes the programs
+    takes_programs = True
 
     def __init__(self, method="runTest"):
         super().__init__(method)

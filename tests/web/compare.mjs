@@ -247,14 +247,14 @@ function searchStatus(status, said) {
 
 // The doubts of all programs that are here: the lines of trac-lint, for the program and what it reads in one file, without its name.
 function doubts() {
-    const top = path.join(programs, '..', '..')
-    for (const folder of ['tests/lint', 'tests/lint/mistakes', 'tests/lint/parentheses', 'tests/programs', 'examples']) {
+    const top = path.join(programs, '..', '..', '..')
+    for (const folder of ['tests/data/lint', 'tests/data/lint/mistakes', 'tests/data/lint/parentheses', 'tests/data/programs', 'programs/examples']) {
         const names = fs.readdirSync(path.join(top, folder)).filter((it) => it.endsWith('.trac'))
         holds(`${folder} has programs`, names.length > 0)
         for (const name of names) {
             const it = path.join(top, folder, name.slice(0, -5)), options = read(`${it}.options`, '').toString()
             const input = /--input (\S+)/.exec(options), decimals = /--decimals (\d+)/.exec(options)
-            const tape = Buffer.concat([fs.readFileSync(`${it}.trac`), input && folder === 'tests/lint' ? fs.readFileSync(path.join(top, folder, input[1])) : Buffer.of()])
+            const tape = Buffer.concat([fs.readFileSync(`${it}.trac`), input && folder === 'tests/data/lint' ? fs.readFileSync(path.join(top, folder, input[1])) : Buffer.of()])
             const file = inFile(tape), width = decimals ? decimals[1] : '128'
             const linted = spawnSync(tracWalk, ['--lint', '--decimals', width, file], { encoding: 'latin1', maxBuffer: 1 << 28 })
             const lines = linted.stdout.split('\n').map((line) => (line.startsWith(`${file}:`) ? line.slice(file.length) : line))

@@ -7,8 +7,8 @@ import os
 
 from pages import TOP, check
 
-LONG = os.path.join(TOP, "examples", "long-way-back.trac")
-ENDLESS = os.path.join(TOP, "examples", "endless.trac")
+LONG = os.path.join(TOP, "programs", "examples", "long-way-back.trac")
+ENDLESS = os.path.join(TOP, "programs", "examples", "endless.trac")
 # Counts how many Workers are ended. Those that are left running then tell of their late answers.
 WATCH = """(() => {{
   const end = Worker.prototype.terminate;
@@ -67,7 +67,7 @@ def check_programs(page):
     """Whole programs, with what they print, by both widths of numbers."""
     page.script(MODULE)
     wrong = []
-    for path in sorted(glob.glob(os.path.join(TOP, "tests", "programs", "*.trac"))):
+    for path in sorted(glob.glob(os.path.join(TOP, "tests", "data", "programs", "*.trac"))):
         name = path[:-len(".trac")]
         wanted = [int(read(name + ".status", b"0")), read(name + ".out")]
         for decimals, output in ((128, wanted[1]), (64, read(name + ".64", wanted[1]))):

@@ -4,7 +4,7 @@ import os
 
 from pages import FACTORIAL, IS_FOLLOWED, IS_GATHERED, TOP, check, opened
 
-ENDLESS = os.path.join(TOP, "examples", "endless.trac")
+ENDLESS = os.path.join(TOP, "programs", "examples", "endless.trac")
 # A program that takes long.
 SLOW = ("#(ds,A,0123456789abcdef)'#(ds,D,(#(ds,A,##(cl,A)##(cl,A))))'" + "#(cl,D)" * 15 + "#(ds,L,(#(ds,B,##(cl,A)##(cl,A))#(cl,L)))'"
         "#(cl,L)'")

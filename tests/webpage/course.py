@@ -5,7 +5,7 @@ import os
 
 from pages import TOP, check
 
-COURSE = os.path.join(TOP, "course")
+COURSE = os.path.join(TOP, "programs", "course")
 # A check that is stopped after a minute tells no more than how slow the machine is: so it may take an hour.
 PATIENT = """(() => {
   const set = window.setTimeout;

@@ -3,7 +3,7 @@ import os
 
 from pages import TOP, check, opened
 
-LONG = os.path.join(TOP, "examples", "long-way-back.trac")
+LONG = os.path.join(TOP, "programs", "examples", "long-way-back.trac")
 PRESSED = "document.getElementById('idle').getAttribute('aria-pressed')"
 ROWS = "[...document.querySelectorAll('#tree .row .number')].map((it) => it.textContent)"
 
@@ -41,7 +41,7 @@ def check_idle(page):
 
 def check_listed(page):
     """Of a run with more calls than are listed, those around the cursor are listed anew."""
-    page.put(open(os.path.join(TOP, "examples", "endless.trac")).read())
+    page.put(open(os.path.join(TOP, "programs", "examples", "endless.trac")).read())
     page.tab("tree")
     page.run()
     page.until("document.getElementById('tree-count').textContent.endsWith(', the last of the run')", "the last calls are listed")

@@ -14,7 +14,7 @@ from waiting import Missed  # noqa: E402
 KEPT = os.path.join(TOP, "out", "webpage")
 
 # A program with a fault that a newcomer looks for: it prints 0.
-FACTORIAL = os.path.join(TOP, "examples", "wrong-factorial.trac")
+FACTORIAL = os.path.join(TOP, "programs", "examples", "wrong-factorial.trac")
 # All is told of its run: its calls as they stood when they were performed, and what it prints.
 IS_GATHERED = ("document.querySelector('#tree .quote') !== null && document.querySelectorAll('#marks [role=option]').length === 3 "
                "&& document.getElementById('stop').hidden")

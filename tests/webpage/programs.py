@@ -1,4 +1,4 @@
-"""All programs of tests/programs in the page: each prints there what it is to print."""
+"""All programs of tests/data/programs in the page: each prints there what it is to print."""
 import glob
 import os
 import unicodedata
@@ -40,7 +40,7 @@ def shown(data):
 
 def check_programs(page):
     """Each with its input at an end, by a link."""
-    wrong, paths = [], sorted(glob.glob(os.path.join(TOP, "tests", "programs", "*.trac")))
+    wrong, paths = [], sorted(glob.glob(os.path.join(TOP, "tests", "data", "programs", "*.trac")))
     for path in paths:
         with open(path, "rb") as program, open(path[:-len("trac")] + "out", "rb") as out:
             tape, wanted = program.read(), shown(out.read())

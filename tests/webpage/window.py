@@ -190,7 +190,7 @@ def check_lesson(kind, file):
 
 def check_timeline(page):
     """Over the slider of a run of millions of steps there is something everywhere, as soon as its doubts are listed."""
-    with open(os.path.join(TOP, "examples", "endless.trac")) as program:
+    with open(os.path.join(TOP, "programs", "examples", "endless.trac")) as program:
         page.put("#(pr)'" + program.read())
     page.run()
     page.until("document.querySelector('#doubts .doubt') !== null", "a doubt is listed")

@@ -14,7 +14,7 @@ use Rattle.trac_session.proofs.Walked.{GoesOn, Back_answered, Back_refused_same,
 use Rattle.trac_streams.specs.declared.ending.Ending.{Ending}
 use Rattle.trac_streams.specs.declared.ending.Ending.TheVariants as endings
 use Rattle.trac_debug.specs.Commands.{LineCommand, Forward, Back, Until, Return, Print, Commit, Quit}
-use Rattle.trac_show.specs.StateLines.{state_text}
+use Rattle.trac_state_lines.specs.StateLines.{state_text}
 use Rattle.trac_streams.specs.Escapes.{text_line}
 use Rattle.trac_debug.specs.Replies.{Replies, RepliesWithMemory, walk_line}
 use Rattle.trac_debug.specs.Debugging.{Turn, Passes, Does, Ends, TakesBy, WritesBy, MayWrite, turn_at}

@@ -4,4 +4,3 @@ pub mod Existing
 pub mod OneText
 pub mod ToldOutput
 pub mod Debugged
-pub mod Unreplied

@@ -7,7 +7,7 @@ use Rattle.trac_rules.specs.Session as session
 use Rattle.trac_rules.specs.Session.{PlainSession, IsWalk, answer, done, first_kept, no_goal}
 use Rattle.trac_session.specs.Goals.{IsSearch, is_call_of}
 use Rattle.trac_debug.specs.Commands.{LineCommand, Forward, Back, Until, Return, Print, Commit, Quit}
-use Rattle.trac_show.specs.StateLines.{state_text}
+use Rattle.trac_state_lines.specs.StateLines.{state_text}
 use Rattle.trac_streams.specs.Escapes.{feed, text_line}
 
 -- ---- walks
@@ -76,12 +76,6 @@ SaysMemory reply = (word : List ℕ) × (steps : ℕ) × (reply ≡ walk_line wo
 abbrev pub HasMemoryReply : List ℕ → Type 0
 HasMemoryReply text =
     (before : List ℕ) × (reply : List ℕ) × (after : List ℕ) × SaysMemory reply × (text ≡ before ++ (reply ++ after))
-
--- what stands if memory is refused for the reply to this command: it is carried out, and there is a reply to that; but
--- nothing is committed
-abbrev pub StandsUnreplied : LineCommand → PlainSession → PlainSession → Type 0
-StandsUnreplied (Commit keep) old new = new ≡ old
-StandsUnreplied command old new = (reply : List ℕ) × Replies command old reply new
 
 -- the command is a walk. No memory is requested for the reply to it, but it is for the state and for what was released
 abbrev pub is_walk : LineCommand → Bool

@@ -111,7 +111,8 @@ fn count(word: &[u8]) -> Option<u64>
     Some(number)
 }
 
-/// The limit on the digits of a count is that of this project's profile.
-pub fn digits_are_as_stated()
-    ensures { DIGIT_LIMIT ≡ 9 }
+/// What stands between two words, a blank, and the limit on the digits of a count are those of this project's profile.
+pub fn words_are_as_stated()
+    ensures space { SPACE ≡ 32 }
+    ensures digits { DIGIT_LIMIT ≡ 9 }
 {}

@@ -11,7 +11,7 @@ ghost use Rattle.trac_streams.specs.Tape.{MayRefuseTape};
 ghost use Rattle.trac_streams.specs.Written.{WritesFront};
 
 use crate::command::{LineCommand, command_in};
-use crate::replies::{reply_to, reply_to_walk};
+use crate::replies::{reply_to_other, reply_to_walk};
 use std::alloc::Allocator;
 use std::io::{Read, Write};
 use trac_rules::limit::{JOURNAL_LIMIT, TAPE_LIMIT};
@@ -220,7 +220,7 @@ fn reply<W: Write, A: Allocator + Copy>(
     if let Some(line) = reply_to_walk(session, command) {
         return write_reply(output, line.as_slice());
     }
-    let Ok(reply) = reply_to(alloc, session, command) else {
+    let Ok(reply) = reply_to_other(alloc, session, command) else {
         return Err(Ending::Memory);
     };
     write_reply(output, reply.as_slice())

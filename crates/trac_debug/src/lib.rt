@@ -7,7 +7,7 @@ mod debugging;
 mod one_text;
 mod replies;
 
-pub use command::{LineCommand, command_in, digits_are_as_stated};
+pub use command::{LineCommand, command_in, words_are_as_stated};
 pub use debugging::{DebugReport, debug, debug_session};
 pub use one_text::one_text_has_no_refused_memory;
-pub use replies::{reply_to, state_lines};
+pub use replies::state_lines;

@@ -1,8 +1,8 @@
 //! The reply to a command.
 ghost use Rattle.std.specs.Prelude.{◌≡◌, ◌+◌, ◌≤◌, ◌++◌, false, true, length, IfOk, IfNone, IfSome, OnErr, OnOk, codes};
 ghost use Rattle.trac_debug.specs.Commands.{Commit};
-ghost use Rattle.trac_debug.specs.Replies.{Replies, StandsUnreplied, is_walk, reason, refusal_name, walk_line};
-ghost use Rattle.trac_show.specs.StateLines.{state_text};
+ghost use Rattle.trac_debug.specs.Replies.{Replies, is_walk, reason, refusal_name, walk_line};
+ghost use Rattle.trac_state_lines.specs.StateLines.{state_text};
 ghost use Rattle.trac_streams.specs.Escapes.{text_line};
 ghost use Rattle.trac_debug.specs.Views.{command_seen};
 
@@ -12,7 +12,7 @@ use itoa::Buffer;
 use std::alloc::{AllocError, Allocator};
 use trac_rules::byte::LINE_FEED;
 use trac_session::{Refusal, Session, Walk};
-use trac_show::machine_lines;
+use trac_state_lines::machine_lines;
 use trac_streams::text_line_into;
 
 /// No reply to a walk has more bytes.
@@ -21,29 +21,9 @@ const WALK_LINE_LIMIT: usize = 64;
 /// The reply to a walk. It stands here, so that no memory is requested for it.
 pub(crate) type WalkLine = ArrayVec<u8, WALK_LINE_LIMIT>;
 
-/// Carries out a command, and gives the reply to it, which is exact: a word, how many steps were taken, and why no more
-/// were; or what was released; or the state. To `Quit` nothing is replied. The error is that memory was refused for the
-/// reply: the command is carried out then, but for `Commit`, which changes nothing.
-pub fn reply_to<A: Allocator + Copy>(
-    alloc: A,
-    session: &mut Session<A>,
-    command: LineCommand<'_>,
-) -> Result<Vec<u8, A>, AllocError>
-    ensures replied { IfOk result (λ reply. Replies (command_seen command.entry) session.old reply.items session.new) }
-    ensures unreplied { OnErr result (StandsUnreplied (command_seen command.entry) session.old session.new) }
-{
-    if let Some(line) = reply_to_walk(session, command) {
-        return Vec::from_slice(alloc, line.as_slice());
-    }
-    match command {
-        LineCommand::Print => state_lines(alloc, session),
-        LineCommand::Commit(keep) => commit_reply(alloc, session, keep as usize),
-        _ => Ok(Vec::new(alloc)),
-    }
-}
-
-/// Carries out a command that is a walk, and gives the reply to it. No memory is requested for that, so it cannot be
-/// refused. None if the command is another one: then nothing is done.
+/// Carries out a command that is a walk, and gives the reply to it: a word, how many steps were taken, and why no more
+/// were. No memory is requested for that, so it cannot be refused. None if the command is another one: then nothing is
+/// done.
 pub(crate) fn reply_to_walk<A: Allocator + Copy>(
     session: &mut Session<A>,
     command: LineCommand<'_>,
@@ -59,6 +39,25 @@ pub(crate) fn reply_to_walk<A: Allocator + Copy>(
         LineCommand::Until(name, count) => Some(walk_reply(b"until", session.until(name, count))),
         LineCommand::Return(name) => Some(walk_reply(b"return", session.back_until(name))),
         LineCommand::Print | LineCommand::Commit(_) | LineCommand::Quit => None,
+    }
+}
+
+/// Carries out a command that is no walk, and gives the reply to it: the state, or what was released. To `Quit` nothing
+/// is replied. The error is that memory was refused for the reply: then nothing has changed.
+pub(crate) fn reply_to_other<A: Allocator + Copy>(
+    alloc: A,
+    session: &mut Session<A>,
+    command: LineCommand<'_>,
+) -> Result<Vec<u8, A>, AllocError>
+    requires { is_walk (command_seen command) ≡ false }
+    ensures replied { IfOk result (λ reply. Replies (command_seen command.entry) session.old reply.items session.new) }
+    ensures unreplied { OnErr result (session.new ≡ session.old) }
+{
+    match command {
+        LineCommand::Print => state_lines(alloc, session),
+        LineCommand::Commit(keep) => commit_reply(alloc, session, keep as usize),
+        LineCommand::Quit => Ok(Vec::new(alloc)),
+        _ => unreachable!(),
     }
 }
 

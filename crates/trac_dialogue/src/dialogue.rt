@@ -3,9 +3,9 @@ ghost use Rattle.std.specs.Prelude.{◌≡◌, true, IfErr, OnOk};
 ghost use Rattle.std.specs.Io.KnownBytes.{IsAtEnd};
 ghost use Rattle.trac_dialogue.specs.Talks.{Gives, IsFault, IsStop, Takes};
 
+use crate::order::NOT_UNDERSTOOD;
 use std::alloc::{AllocError, Allocator};
 use std::io::{Read, Write};
-use trac_orders::NOT_UNDERSTOOD;
 use trac_streams::writing::{flush, write_whole};
 use trac_streams::{Ending, LINE_LIMIT, Lines, NextLine, number_into};
 

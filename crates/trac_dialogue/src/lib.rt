@@ -1,7 +1,11 @@
-//! A dialogue with a person at a terminal: lines are read, and a reply is written to each, whoever replies. All
-//! of it is this project's profile.
+//! A dialogue with a person at a terminal: lines are read, and a reply is written to each, whoever replies. A line is
+//! split into its words, and these say an order. All of it is this project's profile.
 #![tactic(auto)]
 
 mod dialogue;
+mod order;
+mod splitting;
 
 pub use dialogue::{Replier, converse};
+pub use order::{HELP, Move, NOT_UNDERSTOOD, Order, Spot, UNQUOTED, misunderstood, order_of};
+pub use splitting::{Word, has_words, is_second_quoted, texts_of, words_of};

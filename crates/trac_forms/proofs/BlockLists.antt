@@ -10,14 +10,14 @@ use Rattle.std.proofs.lemmas.Option.{slice_get-get_or, slice_get-map}
 use Rattle.trac_rules.specs.Form.{Form}
 use Rattle.trac_rules.specs.State.{Block, Held}
 use Rattle.trac_forms.specs.Stored.{AreApart, Gathered, Stored}
-use Rattle.trac_forms.specs.Table.{forms_of, kept_in, known_of, named, places_left, stored}
+use Rattle.trac_forms.specs.Table.{first_of, forms_of, kept_in, known_of, named, places_left, stored}
 
 -- another block, or none, in a place of the list
-pub replaced : {A : Type 0} (entries : List (List ℕ × Option Form)) (blocks : Vec (Option Gathered) A) (s : Stored) (i : ℕ) (block : Option Gathered) →
-    stored entries (kept_in blocks) ≡ s →
-    stored entries (kept_in (with_item blocks i block)) ≡ record s { blocks = slice_set s.blocks i (option_map (λ b. b.held) block) }
-replaced entries blocks s i block is =
-    ap (λ (bs : List Block). let t : Stored = record { forms = forms_of entries; blocks = bs; spare = places_left blocks; known = known_of entries } in t)
+pub replaced : {A : Type 0} (entries : List (List ℕ × Option Form)) (first : ℕ) (blocks : Vec (Option Gathered) A) (s : Stored) (i : ℕ) (block : Option Gathered) →
+    stored entries (kept_in first blocks) ≡ s →
+    stored entries (kept_in first (with_item blocks i block)) ≡ record s { blocks = slice_set s.blocks i (option_map (λ b. b.held) block) }
+replaced entries first blocks s i block is =
+    ap (λ (bs : List Block). let t : Stored = record { forms = forms_of entries; blocks = bs; spare = places_left blocks; known = known_of entries; recent = first_of first entries } in t)
     (map-set (option_map (λ (b : Gathered). b.held)) blocks.items i block)
     ∙ ap (λ (t : Stored). let u : Stored = record t { blocks = slice_set t.blocks i (option_map (λ b. b.held) block) } in u) is
 

@@ -8,7 +8,8 @@ use Rattle.trac_rules.specs.declared.item.Item.{Item}
 use Rattle.trac_rules.specs.declared.item.Item.TheVariants.{Byte}
 use Rattle.trac_rules.specs.declared.limit.TheConstants.{FORM_LIMIT}
 use Rattle.trac_rules.specs.Form.{Form, IsWide, all_items, as_items, defined, extent, pointed_at}
-use Rattle.trac_forms.specs.Layout.{IsEither, IsHeld, IsKept, divided, with_text}
+use Rattle.trac_forms.specs.Layout.{IsHeld, IsKept, divided, with_text}
+use Rattle.trac_items.specs.Either.{IsEither}
 use Rattle.trac_rules.proofs.Cutting.{count_within_extent, extent-append, extent-as_items, wide-as_items}
 
 -- items that are no more than a form may have, in places for all bytes that they stand for

@@ -1,15 +1,14 @@
 pub mod BlockLists
-pub mod Cuts
-pub mod RunGaps
 pub mod CutWalks
 pub mod Divided
+pub mod Entries
 pub mod Extents
 pub mod Going
 pub mod Tables
 pub mod Names
 pub mod Parted
+pub mod Recents
 pub mod Passing
-pub mod ByteRuns
 pub mod RunLengths
 pub mod Searching
 pub mod TextsAlone

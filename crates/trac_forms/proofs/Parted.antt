@@ -1,5 +1,5 @@
 -- Tables of which the entries with a value come first.
-use Rattle.std.proofs.Common.{◌≡◌, ℕ, zero, suc, ◌+◌, ◌-◌, ◌<◌, ◌≤◌, Bool, true, false, cond, ltb, eqb, List, [], ◌∷◌, ◌++◌, length, map, get_or, set, swap, take, position, refl, sym, ap, subst, ◌∙◌, arith, is_some, filter, ⊎_elim, Result, Ok, Err, OnOk, OnErr}
+use Rattle.std.proofs.Common.{◌≡◌, ℕ, zero, suc, ◌+◌, ◌-◌, ◌<◌, ◌≤◌, Bool, true, false, cond, ltb, eqb, List, [], ◌∷◌, ◌++◌, length, map, get_or, set, swap, take, position, refl, sym, ap, subst, ◌∙◌, arith, is_some, filter, ⊎_elim}
 use Rattle.std.specs.Prelude.{Option, None, Some}
 use Rattle.std.specs.Map.{keys_of, values_of, set_value}
 use Rattle.std.specs.List.{position_or_len}
@@ -145,16 +145,30 @@ module _ {K X : Type 0} (es : List (K × Option X)) (n : ℕ) (parted : IsParted
       pushed (v ∷ vs) zero = refl
       pushed (v ∷ vs) (suc j) = pushed vs j
 
-  -- the first ones alone
-  pub parted_cut : IsParted (take n es) n
-  parted_cut k =
-      ap (λ (vs : List (Option X)). is_some (get_or vs k None)) (sym (take-map (λ e. e.1) n es))
+  -- the first ones alone, with all that have a value among them
+  pub parted_front : (m : ℕ) → n ≤ m → IsParted (take m es) n
+  parted_front m less k =
+      ap (λ (vs : List (Option X)). is_some (get_or vs k None)) (sym (take-map (λ e. e.1) m es))
       ∙ ⊎_elim
-      (λ (t : ltb k n ≡ true). ap is_some (get_or-take n (values_of es) k None (grind (arith, nat_tests))) ∙ parted k)
-      (λ (t : ltb k n ≡ false).
-      let past : n ≤ k = grind (arith, nat_tests) in
-      ap is_some (get_or_past (take n (values_of es)) k None (omega (arith, length-take n (values_of es)))) ∙ sym t)
-      (cases_Bool (ltb k n))
+      (λ (t : ltb k m ≡ true). ap is_some (get_or-take m (values_of es) k None (grind (arith, nat_tests))) ∙ parted k)
+      (λ (t : ltb k m ≡ false).
+      let past : m ≤ k = grind (arith, nat_tests) in
+      let above : ltb k n ≡ false = grind (arith, nat_tests) in
+      ap is_some (get_or_past (take m (values_of es)) k None (omega (arith, length-take m (values_of es)))) ∙ sym above)
+      (cases_Bool (ltb k m))
+
+  pub parted_cut : IsParted (take n es) n
+  parted_cut = parted_front n (omega arith)
+
+  -- two without a value change places
+  pub parted_swapped : (i j : ℕ) → i < length es → j < length es → n ≤ i → n ≤ j → IsParted (swap es i j) n
+  parted_swapped i j within below past above k =
+      let there : is_some (get_or (values_of es) (exchange i j k) None) ≡ ltb (exchange i j k) n = parted (exchange i j k) in
+      let same : ltb (exchange i j k) n ≡ ltb k n = grind (arith, nat_tests) in
+      ap (λ (vs : List (Option X)). is_some (get_or vs k None)) (map-swap (λ e. e.1) es i j)
+      ∙ ap is_some (get_or-swap (values_of es) i j None (omega (arith, length-values_of es)) (omega (arith, length-values_of es)) k)
+      ∙ there
+      ∙ same
 
 below_none : (i : ℕ) → ltb i 0 ≡ false
 below_none i = grind (arith, nat_tests)
@@ -188,8 +202,3 @@ parted_none {K} {X} es new same i = ap (λ (xs : List (K × Option X)). is_some 
     none [] j = refl
     none (x ∷ xs) zero = refl
     none (x ∷ xs) (suc j) = none xs j
-
--- after a call that puts an entry without a value after the others, or changes nothing
-pub parted_added : {K X E : Type 0} (r : Result Unit E) (es new : List (K × Option X)) (n : ℕ) (k : K) → IsParted es n → OnOk r (new ≡ es ++ (k, None) ∷ []) → OnErr r (new ≡ es) → IsParted new n
-parted_added {K} {X} (Ok u) es new n k parted added unchanged = subst (λ (xs : List (K × Option X)). IsParted xs n) (sym added) (parted_push es n parted k)
-parted_added {K} {X} (Err e) es new n k parted added unchanged = subst (λ (xs : List (K × Option X)). IsParted xs n) (sym unchanged) parted

@@ -12,7 +12,7 @@ use Rattle.trac_rules.specs.Form.{as_items}
 use Rattle.trac_rules.specs.Pieces.{begin_with, is_gap, place_of_text}
 use Rattle.trac_rules.proofs.Balanced.{first_place_none, first_place_some}
 use Rattle.trac_forms.specs.declared.piece.Reached.{Reached}
-use Rattle.trac_forms.proofs.Cuts.{occurs_in}
+use Rattle.trac_items.proofs.Cuts.{occurs_in}
 use Rattle.trac_forms.proofs.Passing.{count, count-append, count_gap, count_next}
 
 -- items that begin with no byte, as they stand after a run

@@ -1,5 +1,5 @@
 -- Entries of a table, and the forms and names that they stand for.
-use Rattle.std.proofs.Common.{◌≡◌, ℕ, zero, suc, ◌+◌, ◌-◌, ◌<◌, get_or, Bool, true, false, cond, ◌||◌, List, [], ◌∷◌, ◌++◌, length, map, position, refl, sym, ap, subst, ◌∙◌, arith, ⊎_elim, is_some, filter, IsSome}
+use Rattle.std.proofs.Common.{◌≡◌, ℕ, zero, suc, ◌+◌, ◌-◌, ◌<◌, ◌≤◌, get_or, take, Bool, true, false, cond, ◌||◌, List, [], ◌∷◌, ◌++◌, length, map, position, refl, sym, ap, subst, ◌∙◌, arith, ⊎_elim, is_some, filter, IsSome}
 use Rattle.std.specs.Prelude.{Option, None, Some, IfNone, IfSome, option_map, slice_get}
 use Rattle.std.specs.Cmp.Lexicographic.{slice_cmp, nat_list_cmp_total, nat_list_eq_equiv}
 use Rattle.std.specs.FinMap as finite
@@ -20,15 +20,19 @@ use Rattle.std.proofs.lemmas.Map.Made.{is_some-lookup}
 use Rattle.std.proofs.lemmas.Map.Text.{is_eq-slice_cmp}
 use Rattle.std.proofs.lemmas.Slice.Eq.{bytes_eq-Decides}
 use Rattle.indexmap.specs.IndexMap.{set_value_at}
-use Rattle.indexmap.proofs.MapLemmas.{lookup_permutation, some_index}
+use Rattle.indexmap.specs.Layout.{length-set_value_at}
+use Rattle.indexmap.proofs.MapLemmas.{distinct-take, lookup_permutation, some_index}
 use Rattle.trac_rules.specs.Form.{Form}
 use Rattle.trac_rules.proofs.NamedForms.{only_equal_tie, ties_itself}
 use Rattle.trac_rules.specs.Listing.{names_of}
 use Rattle.trac_rules.specs.State.{Forms}
-use Rattle.trac_forms.specs.Stored.{KnowsAll, Names, Stored, changed_at, changing, swept}
-use Rattle.trac_forms.specs.Table.{IsParted, Kept, with_entry, forms_of, known_of, stored}
-use Rattle.trac_forms.proofs.Parted.{parted_kept, written_first}
-use Rattle.std.proofs.lemmas.List.{map_push}
+use Rattle.trac_forms.specs.Stored.{KnowsAll, Names, Stored, changed_at, changing, swept, swept_aged}
+use Rattle.trac_forms.specs.Table.{IsInOrder, IsParted, Kept, with_entry, first_of, forms_of, known_of, stored}
+use Rattle.trac_forms.proofs.Parted.{parted_front, parted_full, parted_kept, written_first}
+use Rattle.std.proofs.lemmas.List.{map_push, take-append-le, take-map}
+use Rattle.std.proofs.lemmas.List.Sorted.{list_any-IsPermutation}
+use Rattle.std.proofs.lemmas.Map.Entries.{length-keys_of}
+use Rattle.trac_forms.proofs.Entries.{take-take-le}
 
 -- entries of a table of forms
 abbrev pub Entries : Type 0
@@ -92,12 +96,24 @@ forms_alike es fs same = finite.same_map nat_list_cmp_total only_equal_tie (form
 known_alike : (es fs : Entries) → ((q : List ℕ) → is_some (lookup (bytes_eq q) es) ≡ is_some (lookup (bytes_eq q) fs)) → known_of es ≡ known_of fs
 known_alike es fs same = set.same_set nat_list_cmp_total only_equal_tie (known_of es) (known_of fs) (λ q. contains-known_of es q ∙ same q ∙ sym (contains-known_of fs q))
 
--- the order of the entries is of no account
-pub stored_moved : (es fs : Entries) (bs : Kept) → IsDistinct bytes_eq (keys_of es) → IsPermutation es fs → stored fs bs ≡ stored es bs
-stored_moved es fs bs apart moves =
+-- the first names, where they are the same in some order, or where the keys are the same
+pub first_moved : (n : ℕ) (es fs : Entries) → IsPermutation (take n (keys_of es)) (take n (keys_of fs)) → first_of n fs ≡ first_of n es
+first_moved n es fs moves =
+    set.same_set nat_list_cmp_total only_equal_tie (first_of n fs) (first_of n es) (λ q.
+    set.contains-from_list nat_list_cmp_total (take n (keys_of fs)) q
+    ∙ sym (list_any-IsPermutation (eq_by_cmp (slice_cmp nat_cmp) q) (take n (keys_of es)) (take n (keys_of fs)) moves)
+    ∙ sym (set.contains-from_list nat_list_cmp_total (take n (keys_of es)) q))
+
+pub first_same : (n : ℕ) (es fs : Entries) → keys_of fs ≡ keys_of es → first_of n fs ≡ first_of n es
+first_same n es fs same = ap (λ (ks : List (List ℕ)). let s : Names = set.from_list (take n ks) in s) same
+
+-- the order of the entries is of no account, but for the first names
+pub stored_moved : (es fs : Entries) (bs : Kept) (n : ℕ) → IsDistinct bytes_eq (keys_of es) → IsPermutation es fs →
+    stored fs (record bs { first = n }) ≡ record (stored es bs) { recent = first_of n fs }
+stored_moved es fs bs n apart moves =
     let same = λ (q : List ℕ). lookup_permutation nat_list_eq_equiv fs es (IsPermutation-sym es fs moves) apart (bytes_eq q) (nat_list_eq_equiv.congr q) in
-    ap (λ (f : Forms). let t : Stored = record { forms = f; blocks = bs.blocks; spare = bs.spare; known = known_of fs } in t) (forms_alike fs es (λ q. ap option_flatten (sym (same q))))
-    ∙ ap (λ (n : Names). let t : Stored = record { forms = forms_of es; blocks = bs.blocks; spare = bs.spare; known = n } in t) (known_alike fs es (λ q. ap is_some (sym (same q))))
+    ap (λ (f : Forms). let t : Stored = record { forms = f; blocks = bs.blocks; spare = bs.spare; known = known_of fs; recent = first_of n fs } in t) (forms_alike fs es (λ q. ap option_flatten (sym (same q))))
+    ∙ ap (λ (k : Names). let t : Stored = record { forms = forms_of es; blocks = bs.blocks; spare = bs.spare; known = k; recent = first_of n fs } in t) (known_alike fs es (λ q. ap is_some (sym (same q))))
 
 -- ---- what the calls do
 
@@ -143,7 +159,7 @@ with_changed name change forms = found (finite.get forms name) refl
     found (Some form) e = refl
 
 -- a change of an entry's form, if it has one, leaves the entries with forms first
-pub kept_parted : (es : Entries) (live : ℕ) → IsParted es live → (i : ℕ) (change : Form → Form) (new : Entries) → i < length es →
+kept_parted : (es : Entries) (live : ℕ) → IsParted es live → (i : ℕ) (change : Form → Form) (new : Entries) → i < length es →
     new ≡ set_value_at es i (option_map change (option_flatten (slice_get (values_of es) i))) → IsParted new live
 kept_parted es live parted i change new within written_there =
     subst (λ entries. IsParted entries live) (sym written_there) (parted_kept es live parted i (option_map change (option_flatten (slice_get (values_of es) i))) within (full_still (values_of es) i))
@@ -156,6 +172,14 @@ kept_parted es live parted i change new within written_there =
     full_still [] k = refl
     full_still (v ∷ vs) zero = as_full v
     full_still (v ∷ vs) (suc k) = full_still vs k
+
+pub kept_order : (es : Entries) (live recent : ℕ) → IsInOrder es live recent → (i : ℕ) (change : Form → Form) (new : Entries) → i < length es →
+    new ≡ set_value_at es i (option_map change (option_flatten (slice_get (values_of es) i))) → IsInOrder new live recent
+kept_order es live recent order i change new within written_there = record {
+  parted = kept_parted es live order.parted i change new within written_there;
+  forms_recent = order.forms_recent;
+  within = omega (arith, order.within, ap length written_there, length-set_value_at es i (option_map change (option_flatten (slice_get (values_of es) i))));
+}
 
 -- a new name without a form leaves the forms
 flatten-new : (es : Entries) (name q : List ℕ) → option_flatten (lookup (bytes_eq q) (es ++ (name, None) ∷ [])) ≡ option_flatten (lookup (bytes_eq q) es)
@@ -185,6 +209,14 @@ known_again s name there =
     ap (λ b. b || set.contains s q) t ∙ sym (ap (set.contains s) same ∙ there))
     (λ (t : eq_by_cmp (slice_cmp nat_cmp) q name ≡ false). ap (λ b. b || set.contains s q) t)
     (cases_Bool (eq_by_cmp (slice_cmp nat_cmp) q name)))
+
+-- a new name, which has no form, after as many as are recent or more
+pub added_known : (es : Entries) (bs : Kept) (q : List ℕ) → bs.first ≤ length es → stored (es ++ (q, None) ∷ []) bs ≡ record (stored es bs) { known = set.insert (known_of es) q }
+added_known es bs q within =
+    ap (λ (f : Forms). let t : Stored = record { forms = f; blocks = bs.blocks; spare = bs.spare; known = known_of (es ++ (q, None) ∷ []); recent = first_of bs.first (es ++ (q, None) ∷ []) } in t) (forms_known es q)
+    ∙ ap (λ (n : Names). let t : Stored = record { forms = forms_of es; blocks = bs.blocks; spare = bs.spare; known = n; recent = first_of bs.first (es ++ (q, None) ∷ []) } in t) (known_more es q)
+    ∙ ap (λ (ks : List (List ℕ)). let t : Stored = record { forms = forms_of es; blocks = bs.blocks; spare = bs.spare; known = set.insert (known_of es) q; recent = set.from_list ks } in t)
+    (ap (take bs.first) (map_push (λ e. e.0) es (q, None)) ∙ take-append-le bs.first (keys_of es) (q ∷ []) (omega (arith, within, length-keys_of es)))
 
 -- ---- names with forms
 
@@ -220,6 +252,56 @@ known_swept es apart =
     ∙ lookup_swept es q apart
     ∙ finite.contains_key-keys (forms_of es) q
     ∙ sym (set.contains-from_list nat_list_cmp_total (names_of (forms_of es)) q))
+
+-- the first entries with all forms among them
+module _ (es : Entries) (live n : ℕ) (parted : IsParted es live) (less : live ≤ n) (apart : IsDistinct bytes_eq (keys_of es)) where
+  first_full : filter (λ e. is_some e.1) (take n es) ≡ filter (λ e. is_some e.1) es
+  first_full =
+      parted_full (take n es) live (parted_front es live parted n less)
+      ∙ take-take-le live n es less
+      ∙ sym (parted_full es live parted)
+
+  apart_first : IsDistinct bytes_eq (keys_of (take n es))
+  apart_first = subst (λ (ks : List (List ℕ)). IsDistinct bytes_eq ks) (take-map (λ e. e.0) n es) (distinct-take nat_list_eq_equiv n (keys_of es) apart)
+
+  -- they hold all forms
+  forms_first : forms_of (take n es) ≡ forms_of es
+  forms_first = sym (forms_swept (take n es) apart_first) ∙ ap forms_of first_full ∙ forms_swept es apart
+
+  known_first : known_of (take n es) ≡ first_of n es
+  known_first = ap (λ (ks : List (List ℕ)). let s : Names = set.from_list ks in s) (sym (take-map (λ e. e.0) n es))
+
+  -- so the name of each form is one of the first
+  pub form_recent : (bs : Kept) (s : Stored) → stored es (record bs { first = n }) ≡ s → KnowsAll s.recent s.forms
+  form_recent bs s view =
+      subst (λ (t : Stored). KnowsAll t.recent t.forms) view
+      (subst (λ (names : Names). KnowsAll names (forms_of es)) known_first
+      (subst (λ (forms : Forms). KnowsAll (known_of (take n es)) forms) forms_first (form_known (take n es) bs (stored (take n es) bs) refl)))
+
+  -- the first that have a form are the names of all forms
+  first_named : first_of live (take n es) ≡ set.from_list (names_of (forms_of es))
+  first_named =
+      ap (λ (ks : List (List ℕ)). let s : Names = set.from_list ks in s)
+      (take-map (λ e. e.0) live (take n es) ∙ ap keys_of (take-take-le live n es less ∙ sym (parted_full es live parted)))
+      ∙ known_swept es apart
+
+  -- the first entries alone
+  pub cut_to : (bs : Kept) (s : Stored) → stored es (record bs { first = n }) ≡ s → stored (take n es) (record bs { first = live }) ≡ swept_aged s
+  cut_to bs s view =
+      ap (λ (f : Forms). let t : Stored = record { forms = f; blocks = bs.blocks; spare = bs.spare; known = known_of (take n es); recent = first_of live (take n es) } in t) forms_first
+      ∙ ap (λ (k : Names). let t : Stored = record { forms = forms_of es; blocks = bs.blocks; spare = bs.spare; known = k; recent = first_of live (take n es) } in t) known_first
+      ∙ ap (λ (k : Names). let t : Stored = record { forms = forms_of es; blocks = bs.blocks; spare = bs.spare; known = first_of n es; recent = k } in t) first_named
+      ∙ ap swept_aged view
+
+-- those with a form alone
+pub cut_to_forms : (es : Entries) (live : ℕ) → IsParted es live → IsDistinct bytes_eq (keys_of es) → (bs : Kept) (s : Stored) → stored es bs ≡ s → stored (take live es) (record bs { first = live }) ≡ swept s
+cut_to_forms es live parted apart bs s view =
+    let e : live ≤ live = omega arith in
+    let named : first_of live es ≡ set.from_list (names_of (forms_of es)) =
+    sym (known_first es live live parted e apart) ∙ ap known_of (sym (parted_full es live parted)) ∙ known_swept es apart in
+    cut_to es live live parted e apart bs (stored es (record bs { first = live })) refl
+    ∙ ap (λ (k : Names). let t : Stored = record (stored es bs) { known = k; recent = set.from_list (names_of (forms_of es)) } in t) named
+    ∙ ap swept view
 
 -- no entry where no key is equal
 lookup_none : (q : List ℕ) (es : Entries) → AllByRecursion (λ y. bytes_eq q y ≡ false) (keys_of es) → lookup (bytes_eq q) es ≡ None
@@ -292,18 +374,23 @@ module _ (es : Entries) (bs : Kept) (s : Stored) (is : stored es bs ≡ s) where
       stored new bs ≡ record s { forms = with_entry q w s.forms }
   written q w new e some =
       ap (λ xs. stored xs bs) e
-      ∙ ap (λ (f : Forms). let t : Stored = record { forms = f; blocks = bs.blocks; spare = bs.spare; known = known_of (set_value (bytes_eq q) es w) } in t) (forms_written es q w some)
-      ∙ ap (λ (n : Names). let t : Stored = record { forms = with_entry q w (forms_of es); blocks = bs.blocks; spare = bs.spare; known = n } in t) (known_written es q w)
+      ∙ ap (λ (f : Forms). let t : Stored = record { forms = f; blocks = bs.blocks; spare = bs.spare; known = known_of (set_value (bytes_eq q) es w); recent = first_of bs.first (set_value (bytes_eq q) es w) } in t) (forms_written es q w some)
+      ∙ ap (λ (n : Names). let t : Stored = record { forms = with_entry q w (forms_of es); blocks = bs.blocks; spare = bs.spare; known = n; recent = first_of bs.first (set_value (bytes_eq q) es w) } in t) (known_written es q w)
+      ∙ ap (λ (n : Names). let t : Stored = record { forms = with_entry q w (forms_of es); blocks = bs.blocks; spare = bs.spare; known = known_of es; recent = n } in t)
+      (first_same bs.first es (set_value (bytes_eq q) es w) (keys-set_value (bytes_eq q) es w))
       ∙ ap (λ (t : Stored). let u : Stored = record t { forms = with_entry q w t.forms } in u) is
 
-  -- what is written at a name's place, wherever the entries stand then
+  -- what is written at a name's place, wherever the entries stand then, the same names first
   pub written_at : (q : List ℕ) (i : ℕ) (w : Option Form) (new : Entries) → position (bytes_eq q) (keys_of es) ≡ Some i →
-      IsDistinct bytes_eq (keys_of es) → IsPermutation (set_value_at es i w) new → stored new bs ≡ record s { forms = with_entry q w s.forms }
-  written_at q i w new found apart moves =
+      IsDistinct bytes_eq (keys_of es) → IsPermutation (set_value_at es i w) new → IsPermutation (take bs.first (keys_of es)) (take bs.first (keys_of new)) →
+      stored new bs ≡ record s { forms = with_entry q w s.forms }
+  written_at q i w new found apart moves first =
       let there : set_value_at es i w ≡ set_value (bytes_eq q) es w = written_first (bytes_eq q) es i w found in
+      let keys : keys_of (set_value_at es i w) ≡ keys_of es = ap keys_of there ∙ keys-set_value (bytes_eq q) es w in
       let distinct : IsDistinct bytes_eq (keys_of (set_value_at es i w)) =
-      subst (λ (ks : List (List ℕ)). IsDistinct bytes_eq ks) (sym (ap keys_of there ∙ keys-set_value (bytes_eq q) es w)) apart in
-      stored_moved (set_value_at es i w) new bs distinct moves
+      subst (λ (ks : List (List ℕ)). IsDistinct bytes_eq ks) (sym keys) apart in
+      stored_moved (set_value_at es i w) new bs bs.first distinct moves
+      ∙ ap (λ (n : Names). let t : Stored = record (stored (set_value_at es i w) bs) { recent = n } in t) (first_moved bs.first es new first ∙ sym (first_same bs.first es (set_value_at es i w) keys))
       ∙ written q w (set_value_at es i w) there (sym (some_index (bytes_eq q) es) ∙ ap is_some found)
 
   -- where a name has no entry, it has no form, none is taken and none is changed
@@ -323,32 +410,18 @@ module _ (es : Entries) (bs : Kept) (s : Stored) (is : stored es bs ≡ s) where
       new ≡ set_value_at es i (option_map change (option_flatten r)) → stored new bs ≡ record s { forms = changed_at q change s.forms }
   changed_in_place q i change r new at apart found written_there =
       let w = option_map change (option_flatten r) in
+      let keys : keys_of new ≡ keys_of es = ap keys_of (written_there ∙ written_first (bytes_eq q) es i w at) ∙ keys-set_value (bytes_eq q) es w in
       written_at q i w new at apart (subst (IsPermutation (set_value_at es i w)) (sym written_there) (IsPermutation-refl (set_value_at es i w)))
+      (subst (λ (ks : List (List ℕ)). IsPermutation (take bs.first (keys_of es)) (take bs.first ks)) (sym keys) (IsPermutation-refl (take bs.first (keys_of es))))
       ∙ ap (λ (o : Option Form). let t : Stored = record s { forms = with_entry q (option_map change o) s.forms } in t) (sym (form_found q r found))
       ∙ ap (λ (forms : Forms). let t : Stored = record s { forms = forms } in t) (with_changed q change s.forms)
-
-  -- a new name, which has no form
-  pub made_known : (q : List ℕ) (new : Entries) → new ≡ es ++ (q, None) ∷ [] → stored new bs ≡ record s { known = set.insert s.known q }
-  made_known q new e =
-      ap (λ xs. stored xs bs) e
-      ∙ ap (λ (f : Forms). let t : Stored = record { forms = f; blocks = bs.blocks; spare = bs.spare; known = known_of (es ++ (q, None) ∷ []) } in t) (forms_known es q)
-      ∙ ap (λ (n : Names). let t : Stored = record { forms = forms_of es; blocks = bs.blocks; spare = bs.spare; known = n } in t) (known_more es q)
-      ∙ ap (λ (t : Stored). let u : Stored = record t { known = set.insert t.known q } in u) is
-
-  -- entries without a form dropped
-  pub emptied : (new : Entries) → new ≡ filter (λ e. is_some e.1) es → IsDistinct bytes_eq (keys_of es) → stored new bs ≡ swept s
-  emptied new e apart =
-      ap (λ xs. stored xs bs) e
-      ∙ ap (λ (f : Forms). let t : Stored = record { forms = f; blocks = bs.blocks; spare = bs.spare; known = known_of (filter (λ x. is_some x.1) es) } in t) (forms_swept es apart)
-      ∙ ap (λ (n : Names). let t : Stored = record { forms = forms_of es; blocks = bs.blocks; spare = bs.spare; known = n } in t) (known_swept es apart)
-      ∙ ap swept is
 
   -- all forms taken away
   pub cleared : (new : Entries) → new ≡ taken es → stored new bs ≡ record s { forms = finite.empty }
   cleared new e =
       ap (λ xs. stored xs bs) e
-      ∙ ap (λ (f : Forms). let t : Stored = record { forms = f; blocks = bs.blocks; spare = bs.spare; known = known_of (taken es) } in t) (no_forms es)
-      ∙ ap (λ (ks : List (List ℕ)). let t : Stored = record { forms = finite.empty; blocks = bs.blocks; spare = bs.spare; known = set.from_list ks } in t) (keys-taken es)
+      ∙ ap (λ (f : Forms). let t : Stored = record { forms = f; blocks = bs.blocks; spare = bs.spare; known = known_of (taken es); recent = first_of bs.first (taken es) } in t) (no_forms es)
+      ∙ ap (λ (ks : List (List ℕ)). let t : Stored = record { forms = finite.empty; blocks = bs.blocks; spare = bs.spare; known = set.from_list ks; recent = set.from_list (take bs.first ks) } in t) (keys-taken es)
       ∙ ap (λ (t : Stored). let u : Stored = record t { forms = finite.empty } in u) is
 
   -- how many forms there are

@@ -1,11 +1,12 @@
 -- How a form is kept: its items as two lists, before and after the pointer, and a text right after the pointer.
 -- And what that says of each form.
-use Rattle.std.specs.Prelude.{◌≡◌, ◌⊎◌, ◌≤◌, ◌++◌, List, [], ℕ}
+use Rattle.std.specs.Prelude.{◌≤◌, ◌++◌, List, ℕ}
 use Rattle.std.specs.List.{All}
 use Rattle.trac_gap.specs.Ends.{Ends}
 use Rattle.trac_rules.specs.declared.item.Item.{Item}
 use Rattle.trac_rules.specs.declared.limit.TheConstants.{FORM_LIMIT}
 use Rattle.trac_rules.specs.Form.{Form, IsWide, all_items, as_items, extent}
+use Rattle.trac_items.specs.Either.{IsEither}
 
 -- the form that two lists are: the pointer is between them
 abbrev pub divided : Ends Item → Form
@@ -14,10 +15,6 @@ divided items = record { before = items.left; after = items.right }
 -- the two lists with the bytes of a text, which stand right after the pointer
 abbrev pub with_text : List ℕ → Ends Item → Ends Item
 with_text text items = record items { right = as_items text ++ items.right }
-
--- there is a text or there are items, but not both
-abbrev pub IsEither : List ℕ → List Item → Type 0
-IsEither text items = (text ≡ []) ⊎ (items ≡ [])
 
 -- what is true of every form of the code: it stands for no more bytes than a form may, and each of
 -- its items for one at least

@@ -4,10 +4,7 @@ pub mod Stored
 -- What a measured piece of a form says.
 pub mod Taken
 pub mod Listed
--- How gaps are made in a run of bytes.
-pub mod RunGaps
 -- How forms and stores are kept.
 pub mod Layout
-pub mod Packed
 pub mod Table
 pub mod Names

@@ -32,32 +32,47 @@ gathered_code =
     code_by (Held × ℕ) (coded× (coded_list (coded× text_code form_code)) coded_ℕ)
     (λ b. (b.held, b.room)) (λ p. record { held = p.0; room = p.1 }) (λ _. refl)
 
--- the forms by their names, the blocks, how many more of them have a place without memory, and the names that have a
--- place, with a form or without one
+-- the forms by their names, the blocks, how many more of them have a place without memory, the names that have a place,
+-- with a form or without one, and those of them that the next sweep of aged names leaves
 pub record Stored : Type 0 where
   pub forms : Forms
   pub blocks : List Block
   pub spare : ℕ
   pub known : Names
+  pub recent : Names
 
 -- the code of what a store holds, by which a proof tells two of them apart
 abbrev pub stored_code : Coded Stored
-stored_code = code_by (Forms × (List Block × (ℕ × Names)))
-    (coded× forms_code (coded× (coded_list block_code) (coded× coded_ℕ (set.code text_code))))
-    (λ s. (s.forms, (s.blocks, (s.spare, s.known))))
-    (λ p. record { forms = p.0; blocks = p.1.0; spare = p.1.1.0; known = p.1.1.1 }) (λ _. refl)
+stored_code = code_by (Forms × (List Block × (ℕ × (Names × Names))))
+    (coded× forms_code
+    (coded× (coded_list block_code) (coded× coded_ℕ (coded× (set.code text_code) (set.code text_code)))))
+    (λ s. (s.forms, (s.blocks, (s.spare, (s.known, s.recent))))) (λ p. record {
+      forms = p.0;
+      blocks = p.1.0;
+      spare = p.1.1.0;
+      known = p.1.1.1.0;
+      recent = p.1.1.1.1;
+    }) (λ _. refl)
 
 -- no form, no block, and no name
 abbrev pub nothing_stored : Stored
-nothing_stored = record { forms = finite.empty; blocks = []; spare = 0; known = set.empty }
+nothing_stored = record { forms = finite.empty; blocks = []; spare = 0; known = set.empty; recent = set.empty }
 
 -- forms and blocks, as a state has them
 abbrev pub storage_in : Stored → Storage
 storage_in s = record { forms = s.forms; blocks = s.blocks }
 
+-- the same with a name that is known, and recent
+abbrev pub made_known : List ℕ → Stored → Stored
+made_known name s = record s { known = set.insert s.known name; recent = set.insert s.recent name }
+
 -- the same forms and blocks, and of the names those of the forms alone
 abbrev pub swept : Stored → Stored
-swept s = record s { known = set.from_list (names_of s.forms) }
+swept s = record s { known = set.from_list (names_of s.forms); recent = set.from_list (names_of s.forms) }
+
+-- the same forms and blocks, and of the names the recent ones; of those, the ones of the forms alone are recent then
+abbrev pub swept_aged : Stored → Stored
+swept_aged s = record s { known = s.recent; recent = set.from_list (names_of s.forms) }
 
 -- a form with the gaps of a cut filled again, and its pointer at a place
 abbrev pub unsegmented : List (List ℕ) → List CutGap → ℕ → Form → Form

@@ -8,18 +8,16 @@ ghost use Rattle.trac_rules.specs.Form.{all_items, as_items, at_start};
 ghost use Rattle.trac_rules.specs.Segmenting.{segmented};
 ghost use Rattle.trac_rules.specs.declared.item.Item.TheVariants.{Gap};
 ghost use Rattle.trac_forms.specs.Layout.{IsKept, divided};
-ghost use Rattle.trac_forms.specs.RunGaps.{AreWithin, IsOld, gapped};
+ghost use Rattle.trac_items.specs.RunGaps.{AreWithin, IsOld, gapped};
 
-use crate::byte_runs::put_text;
 use crate::error::FormError;
 use crate::filling::text;
 use crate::form::{Form, Items, pack};
-use crate::packed::PackedItem;
-use crate::run_gaps::{RunGap, cut_run};
-use crate::text_lists::Texts;
+use crate::packing::put_text;
 use std::alloc::{Allocator, Global};
 use std::marker::Model;
 use trac_gap::TwoEnds;
+use trac_items::{PackedItem, RunGap, Texts, cut_run};
 use trac_rules::item::{CutGap, Item};
 use trac_rules::limit::{FORM_LIMIT, MARK_LIMIT};
 

@@ -3,13 +3,10 @@ ghost use Rattle.std.specs.Prelude.{◌≡◌, ◌++◌, ◌≤◌, length, OnOk
 ghost use Rattle.trac_rules.specs.Fronts.{IsFrontOf};
 ghost use Rattle.trac_rules.specs.Filling.{all_filled, called, filled, text_numbered};
 
-use crate::after::text_within;
-use crate::byte_runs::{run_into, run_len};
 use crate::error::FormError;
 use crate::form::Form;
-use crate::packed::PackedItem;
-use crate::text_lists::Texts;
 use std::alloc::Allocator;
+use trac_items::{PackedItem, Texts, run_into, run_len, text_within};
 use trac_rules::item::Item;
 use trac_rules::limit::TEXT_LIMIT;
 

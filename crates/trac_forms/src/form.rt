@@ -8,22 +8,21 @@ ghost use Rattle.trac_rules.specs.Pieces.{is_gap};
 ghost use Rattle.trac_forms.specs.Layout.{IsSound, divided, with_text};
 ghost use Rattle.trac_forms.specs.Outcomes.{MayRefuseForm};
 
-use crate::after::After;
-use crate::byte_runs::{put_text, run_len};
 use crate::error::FormError;
-use crate::packed::PackedItem;
+use crate::packing::put_text;
 use std::alloc::{Allocator, Global};
 use std::marker::Model;
 use trac_gap::{GapBuf, TwoEnds};
+use trac_items::{After, PackedItem, run_len};
 use trac_rules::item::Item;
 use trac_rules::limit::FORM_LIMIT;
-
-/// What holds items of a form: those before its pointer on the left, those after it on the right.
-pub(crate) type Items<A> = GapBuf<PackedItem, A>;
 
 // From how many bytes on a form keeps its text as one, until it is pointed or cut: for a shorter one a second block of
 // memory would cost more than it takes to pack all bytes as items.
 const LONG: usize = 16;
+
+// What holds the items of a form: those before its pointer on the left, those after it on the right.
+pub(crate) type Items<A> = GapBuf<PackedItem, A>;
 
 /// A text in which gaps may stand, with a pointer before one of its items or at its end.
 /// It is seen as the items before and after its pointer. Lengths and places count items.

@@ -3,20 +3,16 @@
 //! name are this project's profile.
 #![tactic(auto)]
 
-mod after;
 pub mod block;
-mod byte_runs;
 pub mod cut;
 pub mod error;
 mod filling;
 pub mod form;
 mod name;
-mod packed;
+mod packing;
 pub mod piece;
-mod run_gaps;
 mod showing;
 pub mod store;
-pub mod text_lists;
 
 pub use block::Block;
 pub use cut::Cut;
@@ -24,5 +20,5 @@ pub use error::FormError;
 pub use form::Form;
 pub use piece::Piece;
 pub use store::Store;
-pub use text_lists::Texts;
+pub use trac_items::Texts;
 pub use trac_rules::item::{CutGap, Item};

@@ -9,14 +9,12 @@ ghost use Rattle.trac_rules.specs.Pieces.{place_before, place_after, place_of_te
 ghost use Rattle.trac_rules.specs.Pieces.{until_read};
 ghost use Rattle.trac_forms.specs.Taken.{IsThere, taken};
 
-use crate::after::After;
-use crate::byte_runs::run_len;
 use crate::error::FormError;
 use crate::form::Form;
-use crate::packed::PackedItem;
 use memchr::memmem::{Finder, find};
 use std::alloc::Allocator;
 use trac_gap::TwoEnds;
+use trac_items::{After, PackedItem, run_len};
 use trac_rules::item::Item;
 
 /// What a call reads of a form, measured: its bytes are the first `len` from the lesser of the form's and the piece's

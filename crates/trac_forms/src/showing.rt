@@ -3,12 +3,11 @@ ghost use Rattle.std.specs.Prelude.{◌≡◌, ◌++◌, ◌≤◌, length, OnOk
 ghost use Rattle.trac_rules.specs.Fronts.{IsFrontOf};
 ghost use Rattle.trac_rules.specs.Showing.{shown, shown_item, shown_items};
 
-use crate::after::text_within;
 use crate::error::FormError;
 use crate::form::Form;
-use crate::packed::PackedItem;
 use itoa::Buffer;
 use std::alloc::Allocator;
+use trac_items::{PackedItem, text_within};
 use trac_rules::item::Item;
 use trac_rules::limit::OUTPUT_LIMIT;
 

@@ -2,8 +2,10 @@
 ghost use Rattle.std.specs.Prelude.{◌≡◌, ◌+◌, ◌-◌, ◌^◌, ◌<◌, ◌≤◌, ◌++◌, ◌∷◌, [], is_some, length, map, nat_lt};
 ghost use Rattle.std.specs.Prelude.{option_map, slice_get, slice_set, take, true, vec_capacity, vec_len, IfNone, IfOk};
 ghost use Rattle.std.specs.Prelude.{IfSome, IsOk, IsOkUnless, IsTrue, MatchOption, None, OnErr, OnOk, Some};
+ghost use Rattle.std.specs.Prelude.{ℕ, max, min};
 ghost use Rattle.std.specs.FinMap as finite;
 ghost use Rattle.std.specs.FinSet as set;
+ghost use Rattle.std.specs.List.{swap};
 ghost use Rattle.std.specs.List.Sorted.{IsPermutation};
 ghost use Rattle.std.specs.Option.{option_copied, option_flatten};
 ghost use Rattle.std.specs.Arc.{arc_slice_items};
@@ -16,49 +18,54 @@ ghost use Rattle.trac_rules.specs.Listing.{names_of};
 ghost use Rattle.trac_rules.specs.Segmenting.{segmented};
 ghost use Rattle.trac_forms.specs.Layout.{IsSound};
 ghost use Rattle.trac_forms.specs.Listed.{IsListed, listed_len};
-ghost use Rattle.trac_forms.specs.Stored.{KnowsAll, changed_at, nothing_stored, swept, unsegmented};
-ghost use Rattle.trac_forms.specs.Table.{IsParted, full_keys};
+ghost use Rattle.trac_forms.specs.Stored.{KnowsAll, changed_at, made_known, nothing_stored, swept, swept_aged};
+ghost use Rattle.trac_forms.specs.Stored.{unsegmented};
+ghost use Rattle.trac_forms.specs.Table.{IsParted, IsRecentAt, Kept, KeepsFirst, full_keys, stored};
 
 use crate::block::Block;
 use crate::cut::Cut;
 use crate::error::FormError;
 use crate::form::Form;
 use crate::name::Name;
-use crate::text_lists::Texts;
 use indexmap::IndexMap;
 use std::alloc::{Allocator, Global};
 use std::hash::{BuildHasher, BuildHasherDefault, FoldHasher, Hash};
 use std::marker::Model;
 use std::sync::ArcSlice;
+use trac_items::Texts;
 
-/// The table of a store: a name has an entry from the call of `know` on until
-/// `sweep`, and a form in it while it names one. The entries with a form come first.
+/// The table of a store: a name has an entry from the call of `know` on until it is swept, and a form in it while it
+/// names one. The entries with a form come first, and after them those of other recent names.
 pub(crate) type Table<A> = IndexMap<Name<A>, Option<Form<A>>, BuildHasherDefault<FoldHasher>, A>;
 
 /// Forms by their names, which are any bytes, and blocks by their numbers, an erased one having none. It is seen
-/// as the map of its forms, the list of its blocks and the set of the names that it knows, with the number of
-/// places that are spare for blocks.
+/// as the map of its forms, the list of its blocks, the set of the names that it knows and the set of those of them
+/// that are recent, with the number of places that are spare for blocks.
 ///
-/// A form can be put under a known name without memory. A name stays known when its form is taken, until `sweep`.
+/// A form can be put under a known name without memory. A name stays known when its form is taken, until it is swept.
+/// `sweep` forgets all names without a form, and `sweep_aged` those that are not recent. A name becomes recent when it
+/// becomes known or a form is put under it. A name without a form stays recent until the next sweep.
 #[derive(Drop)]
 pub struct Store<A: Allocator + Copy = Global> {
     pub(crate) table: Table<A>,
     // How many entries have a form: a commit then looks at no name that stays.
     live: usize,
+    // How many entries are of recent names.
+    recent: usize,
     pub(crate) blocks: Vec<Option<Block<A>>, A>,
 }
 
 impl<A: Allocator + Copy> Model for Store<A> {
     ghost use Rattle.trac_forms.specs.Stored.{Stored, stored_code};
-    ghost use Rattle.trac_forms.specs.Table.{kept_in, stored, IsParted};
+    ghost use Rattle.trac_forms.specs.Table.{kept_in, stored, IsInOrder};
 
     ghost Value = { Stored };
 
     ghost coded = { stored_code };
 
-    ghost view = { λ s. stored s.table.entries (kept_in s.blocks) };
+    ghost view = { λ s. stored s.table.entries (kept_in s.recent s.blocks) };
 
-    ghost invariant = { λ s. IsParted s.table.entries s.live };
+    ghost invariant = { λ s. IsInOrder s.table.entries s.live s.recent };
 }
 
 impl<A: Allocator + Copy> Store<A> {
@@ -69,15 +76,19 @@ impl<A: Allocator + Copy> Store<A> {
         Store {
             table: IndexMap::new(alloc),
             live: 0,
+            recent: 0,
             blocks: Vec::new(alloc),
         }
     }
 
-    /// Says that the store knows the name of each of its forms. It takes no memory, and changes nothing.
+    /// Says that the store knows the name of each of its forms, and that these names are recent. It takes no memory,
+    /// and changes nothing.
     pub fn knows_its_forms(&self)
-        ensures { KnowsAll self.now.known self.now.forms }
+        ensures known { KnowsAll self.now.known self.now.forms }
+        ensures recent { KnowsAll self.now.recent self.now.forms }
     {
-        let _ = &self.table;
+        // The contract of `len` says that no key stands twice.
+        let _len = self.table.len();
     }
 
     /// How many forms there are. It takes no memory, and no time for each.
@@ -134,42 +145,12 @@ impl<A: Allocator + Copy> Store<A> {
         Ok(names)
     }
 
-    /// Makes a place for a form of this name, so that `put` needs no memory. The forms stay as they are. Refused with
-    /// `Memory` if the allocator refuses, and then nothing has changed.
+    /// Makes a place for a form of this name, so that `put` needs no memory. The name is recent then, and the forms
+    /// stay as they are. Refused with `Memory` if the allocator refuses, and then nothing has changed.
     pub fn know(&mut self, name: &[u8]) -> Result<(), FormError>
-        ensures known { OnOk result (self.new ≡ record self.old { known = set.insert self.old.known name.now }) }
-        ensures unchanged { OnErr result (self.new ≡ self.old) }
-        ensures err { IsOkUnless result FormError.Memory }
-
-        // Of a name that is known already nothing is asked of the allocator.
-        ensures again { IsTrue (set.contains self.old.known name.now) → IsOk result }
-    {
-        if self.table.contains_key(name) {
-            return Ok(());
-        }
-        add_name(&mut self.table, name)
-    }
-
-    /// Puts a form under a name that is known, and returns the one that it replaces. It takes no memory.
-    pub fn put(&mut self, name: &[u8], form: Form<A>) -> Option<Form<A>>
-        requires { IsTrue (set.contains self.old.known name.now) }
-        ensures replaced { result ≡ finite.get self.old.forms name.now }
-        ensures put { self.new ≡ record self.old { forms = finite.insert self.old.forms name.now form } }
-    {
-        match self.table.get_index_of(name) {
-            Some(i) => put_at(&mut self.table, &mut self.live, i, form),
-            None => return None,
-        }
-    }
-
-    /// Puts a form under a name, known or not, and returns the one that it replaces. It takes memory only if the name
-    /// is not known.
-    /// Refused with `Memory` if the allocator refuses, and then nothing has changed.
-    pub fn insert(&mut self, name: &[u8], form: Form<A>) -> Result<Option<Form<A>>, FormError>
-        ensures replaced { IfOk result (λ replaced. replaced ≡ finite.get self.old.forms name.now) }
-        ensures put { OnOk result (self.new ≡ record self.old {
-          forms = finite.insert self.old.forms name.now form;
+        ensures known { OnOk result (self.new ≡ record self.old {
           known = set.insert self.old.known name.now;
+          recent = set.insert self.old.recent name.now;
         }) }
         ensures unchanged { OnErr result (self.new ≡ self.old) }
         ensures err { IsOkUnless result FormError.Memory }
@@ -177,13 +158,43 @@ impl<A: Allocator + Copy> Store<A> {
         // Of a name that is known already nothing is asked of the allocator.
         ensures again { IsTrue (set.contains self.old.known name.now) → IsOk result }
     {
-        // A known name is looked up once, and a new one twice.
-        if let Some(i) = self.table.get_index_of(name) {
-            return Ok(put_at(&mut self.table, &mut self.live, i, form));
-        }
-        add_name(&mut self.table, name)?;
-        let last = self.table.len() - 1;
-        Ok(put_at(&mut self.table, &mut self.live, last, form))
+        know_at(&mut self.table, &mut self.recent, name)?;
+        Ok(())
+    }
+
+    /// Puts a form under a name that is known, and returns the one that it replaces. The name is recent then. It takes
+    /// no memory.
+    pub fn put(&mut self, name: &[u8], form: Form<A>) -> Option<Form<A>>
+        requires { IsTrue (set.contains self.old.known name.now) }
+        ensures replaced { result ≡ finite.get self.old.forms name.now }
+        ensures put { self.new ≡ record self.old {
+          forms = finite.insert self.old.forms name.now form;
+          recent = set.insert self.old.recent name.now;
+        } }
+    {
+        let i = self.table.get_index_of(name)?;
+        let place = make_recent(&mut self.table, &mut self.recent, i);
+        put_at(&mut self.table, &mut self.live, place, form)
+    }
+
+    /// Puts a form under a name, known or not, and returns the one that it replaces. The name is known and recent then.
+    /// It takes memory only if the name was not known.
+    /// Refused with `Memory` if the allocator refuses, and then nothing has changed.
+    pub fn insert(&mut self, name: &[u8], form: Form<A>) -> Result<Option<Form<A>>, FormError>
+        ensures replaced { IfOk result (λ replaced. replaced ≡ finite.get self.old.forms name.now) }
+        ensures put { OnOk result (self.new ≡ record self.old {
+          forms = finite.insert self.old.forms name.now form;
+          known = set.insert self.old.known name.now;
+          recent = set.insert self.old.recent name.now;
+        }) }
+        ensures unchanged { OnErr result (self.new ≡ self.old) }
+        ensures err { IsOkUnless result FormError.Memory }
+
+        // Of a name that is known already nothing is asked of the allocator.
+        ensures again { IsTrue (set.contains self.old.known name.now) → IsOk result }
+    {
+        let place = know_at(&mut self.table, &mut self.recent, name)?;
+        Ok(put_at(&mut self.table, &mut self.live, place, form))
     }
 
     /// Takes the form of this name away, if there is one, and returns it. The name stays known. It takes no memory.
@@ -253,6 +264,18 @@ impl<A: Allocator + Copy> Store<A> {
         // The contract of `len` says that no key stands twice.
         let _len = self.table.len();
         self.table.truncate(self.live);
+        self.recent = self.live;
+    }
+
+    /// Forgets the names that are not recent, none of which has a form. Of the others those with a form alone are
+    /// recent then. It takes no memory, and time for those that it forgets alone.
+    pub fn sweep_aged(&mut self)
+        ensures { self.new ≡ swept_aged self.old }
+    {
+        // The contract of `len` says that no key stands twice.
+        let _len = self.table.len();
+        self.table.truncate(self.recent);
+        self.recent = self.live;
     }
 }
 
@@ -343,6 +366,53 @@ fn add_name<A: Allocator + Copy>(table: &mut Table<A>, name: &[u8]) -> Result<()
     }
 }
 
+// The place of the entry of this name, which is recent then. A name that has no entry gets one without a form.
+fn know_at<A: Allocator + Copy>(
+    table: &mut Table<A>,
+    recent: &mut usize,
+    name: &[u8],
+) -> Result<usize, FormError>
+    requires { recent.old ≤ index_map_len table.old }
+    ensures known { OnOk result ((kept : Kept) → stored table.new.entries (record kept { first = recent.new })
+        ≡ made_known name.now (stored table.old.entries (record kept { first = recent.old }))) }
+    ensures place { IfOk result (λ i. IsRecentAt name.now table.new.entries recent.new i) }
+    ensures mark { (recent.old ≤ recent.new) × (recent.new ≤ index_map_len table.new) }
+    ensures parted { (live : ℕ) → live ≤ recent.old → IsParted table.old.entries live →
+        IsParted table.new.entries live }
+    ensures unchanged { OnErr result ((table.new.entries ≡ table.old.entries) × (recent.new ≡ recent.old)) }
+    ensures err { IsOkUnless result FormError.Memory }
+    ensures again { IsTrue (is_some (get_by (λ k. bytes_eq name.now k) table.old)) → IsOk result }
+{
+    // A known name is looked up once, and a new one twice.
+    if let Some(i) = table.get_index_of(name) {
+        return Ok(make_recent(table, recent, i));
+    }
+    add_name(table, name)?;
+    let last = table.len() - 1;
+    Ok(make_recent(table, recent, last))
+}
+
+// Makes the name of an entry recent, if it is not, and returns the entry's place then: that after all recent names.
+fn make_recent<K: Eq + Hash, V, S: BuildHasher, A: Allocator>(
+    table: &mut IndexMap<K, Option<V>, S, A>,
+    recent: &mut usize,
+    i: usize,
+) -> usize
+    requires within { i < index_map_len table.old }
+    requires mark { recent.old ≤ index_map_len table.old }
+    ensures moved { table.new.entries ≡ swap table.old.entries i (min i recent.old) }
+    ensures place { result ≡ min i recent.old }
+    ensures mark { recent.new ≡ max recent.old (result + 1) }
+    ensures unique { IsUnique K.eq table.old }
+{
+    // The contract of `len` says that the table is small.
+    let _len = table.len();
+    let place = i.min(*recent);
+    table.swap_indices(i, place);
+    *recent = (*recent).max(place + 1);
+    place
+}
+
 // Puts a value into an entry, and returns the one that it replaces. An entry that had none takes the
 // place after those that have one.
 fn put_at<K: Eq + Hash, V, S: BuildHasher, A: Allocator>(
@@ -356,6 +426,8 @@ fn put_at<K: Eq + Hash, V, S: BuildHasher, A: Allocator>(
     ensures replaced { slice_get (values table.old) i ≡ Some result }
     ensures put { IsPermutation (set_value_at table.old.entries i (Some value)) table.new.entries }
     ensures parted { IsParted table.new.entries live.new }
+    ensures first { (n : ℕ) → i < n → live.old ≤ n → n ≤ index_map_len table.old →
+        KeepsFirst n table.old.entries table.new.entries live.new }
 {
     // The contract of `len` says that the table is small.
     let _len = table.len();
@@ -379,6 +451,8 @@ fn take_at<K: Eq + Hash, V, S: BuildHasher, A: Allocator>(
     ensures taken { slice_get (values table.old) i ≡ Some result }
     ensures gone { IsPermutation (set_value_at table.old.entries i None) table.new.entries }
     ensures parted { IsParted table.new.entries live.new }
+    ensures first { (n : ℕ) → live.old ≤ n → n ≤ index_map_len table.old →
+        KeepsFirst n table.old.entries table.new.entries live.new }
 {
     let taken = table[i].take();
     if taken.is_some() {
@@ -448,6 +522,8 @@ fn take_values<K: Eq + Hash + Drop, V: Drop, S: BuildHasher, A: Allocator>(
     live: &mut usize,
 )
     ensures taken { table.new.entries ≡ map (λ e. (e.0, None)) table.old.entries }
+    ensures long { index_map_len table.new ≡ index_map_len table.old }
+    ensures none { live.new ≡ 0 }
     ensures parted { IsParted table.new.entries live.new }
 {
     table.retain(

@@ -12,4 +12,4 @@ mod track;
 mod ways;
 
 pub use linting::{Settings, lint};
-pub use trac_findings::{Found, Halt, PLACE_LIMIT, Sources};
+pub use trac_places::{Found, Halt, PLACE_LIMIT, Sources};

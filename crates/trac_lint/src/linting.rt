@@ -1,7 +1,7 @@
 //! The doubts of a program that is run to its end.
 ghost use Rattle.std.specs.Prelude.{◌≡◌, ◌≤◌, ◌<◌};
-ghost use Rattle.trac_findings.specs.Findings.{IsWritten};
-ghost use Rattle.trac_findings.specs.declared.report.TheConstants.{PLACE_LIMIT};
+ghost use Rattle.trac_places.specs.Findings.{IsWritten};
+ghost use Rattle.trac_places.specs.declared.report.TheConstants.{PLACE_LIMIT};
 
 use crate::memory::{Meeting, Memory, kind_of, number_of};
 use crate::near::{definition_of, near_name};
@@ -10,13 +10,14 @@ use crate::scout::Run;
 use crate::texts::{read_number, text_before, text_read};
 use std::alloc::{AllocError, Allocator};
 use std::io::Write;
-use trac_findings::{Found, Halt, Report, Sources, advice_on, write_found};
+use trac_moves::{Aim, Walker};
+use trac_person_lines::{ScreenLine, doubt_into};
+use trac_places::{Found, Halt, Report, Sources, advice_on, write_found};
 use trac_rules::refusal::Refusal;
 use trac_rules::width::Width;
-use trac_screen::{Glance, ScreenLine, doubt_into};
 use trac_session::Doubt;
+use trac_sight::Glance;
 use trac_streams::Ending;
-use trac_walk::{Aim, Walker};
 
 // What is said beside a doubt of which no place is known, after its words.
 const UNPLACED: &[u8] = b"; its place is not known: this text was read last";
@@ -114,14 +115,19 @@ fn look_on<A: Allocator + Copy>(
         advised: None,
         more: 0,
     };
-    let halt = linter.go(steps, report);
-    match report.tell_more(alloc, linter.more) {
-        Ok(()) => halt,
-        Err(AllocError) => Halt::Memory,
-    }
+    linter.look(steps, report)
 }
 
 impl<'s, A: Allocator + Copy> Linter<'s, A> {
+    // Goes on to the end of the program, and tells at last at how many places more there were doubts.
+    fn look(&mut self, steps: u64, report: &mut Report<A>) -> Halt {
+        let halt = self.go(steps, report);
+        match report.tell_more(self.alloc, self.more) {
+            Ok(()) => halt,
+            Err(AllocError) => Halt::Memory,
+        }
+    }
+
     // Goes on until the program ends, by so many steps at most, and tells the doubts that it meets.
     fn go(&mut self, steps: u64, report: &mut Report<A>) -> Halt {
         let aim = Aim::Doubtful(self.walker.width());
@@ -144,20 +150,30 @@ impl<'s, A: Allocator + Copy> Linter<'s, A> {
     fn tell_all(&mut self, report: &mut Report<A>) -> Result<(), Refusal> {
         let doubts = self.walker.doubts(self.alloc)?;
         for doubt in doubts.iter() {
-            let words = said_of(self.alloc, &self.walker, *doubt)?;
-            let meeting = self.meeting(*doubt, words.bytes());
-            let is_new = self.memory.is_new(meeting)?;
-            if !is_new && !self.origins.is_free() {
-                continue;
-            }
-            if report.is_full() && !self.origins.is_counting() {
-                // its place is not looked for any more: each meeting counts for one
-                self.more = self.more.saturating_add(1);
-            } else {
-                self.tell(*doubt, words, report)?;
-            }
+            let mut words = said_of(self.alloc, &self.walker, *doubt)?;
+            self.meet(*doubt, &mut words, report)?;
         }
         Ok(())
+    }
+
+    // Tells one of them in these words, unless it was met before, or as many are told as are.
+    fn meet(
+        &mut self,
+        doubt: Doubt,
+        words: &mut ScreenLine<A>,
+        report: &mut Report<A>,
+    ) -> Result<(), Refusal> {
+        let meeting = self.meeting(doubt, words.bytes());
+        let is_new = self.memory.is_new(meeting)?;
+        if !is_new && !self.origins.is_free() {
+            return Ok(());
+        }
+        if report.is_full() && !self.origins.is_counting() {
+            // its place is not looked for any more: each meeting counts for one
+            self.more = self.more.saturating_add(1);
+            return Ok(());
+        }
+        self.tell(doubt, words, report)
     }
 
     // Where scanning stands, at a doubt of these words.
@@ -177,7 +193,7 @@ impl<'s, A: Allocator + Copy> Linter<'s, A> {
     fn tell(
         &mut self,
         doubt: Doubt,
-        mut words: ScreenLine<A>,
+        words: &mut ScreenLine<A>,
         report: &mut Report<A>,
     ) -> Result<(), Refusal> {
         let number = self.origins.number(&mut self.walker, doubt)?;
@@ -195,7 +211,7 @@ impl<'s, A: Allocator + Copy> Linter<'s, A> {
             }
             None => {
                 self.memory.keep_unplaced(doubt)?;
-                words.say(UNPLACED)?;
+                words.say(UNPLACED);
                 self.text()
             }
         };
@@ -321,6 +337,7 @@ fn said_of<A: Allocator + Copy>(
     doubt: Doubt,
 ) -> Result<ScreenLine<A>, AllocError> {
     let mut line = ScreenLine::uncut(alloc);
-    doubt_into(&walker.sight(), doubt, &mut line)?;
+    doubt_into(&walker.sight(), doubt, &mut line);
+    line.check()?;
     Ok(line)
 }

@@ -4,7 +4,7 @@ ghost use Rattle.std.specs.Prelude.{◌≤◌, length};
 use crate::texts::is_blank;
 use std::alloc::{AllocError, Allocator};
 use trac_follow::Place;
-use trac_walk::Walker;
+use trac_moves::Walker;
 
 // So many calls are gone back to at most, each of which changed a form, for the one that defined it.
 const CHANGE_LIMIT: u32 = 1_000;
@@ -27,6 +27,15 @@ pub(crate) fn near_name<A: Allocator + Copy>(
         return Ok(None);
     }
     let wanted = bare(wanted.as_slice(), Vec::new(alloc))?;
+    nearest(alloc, walker, wanted.as_slice())
+}
+
+// The name of a form that is nearly this one, without blanks and in small letters.
+fn nearest<A: Allocator + Copy>(
+    alloc: A,
+    walker: &Walker<A>,
+    wanted: &[u8],
+) -> Result<Option<Vec<u8, A>>, AllocError> {
     let Ok(names) = walker.sight().store.names() else {
         return Err(AllocError);
     };
@@ -37,10 +46,10 @@ pub(crate) fn near_name<A: Allocator + Copy>(
             continue;
         }
         other = bare(*name, other)?;
-        if other.as_slice() == wanted.as_slice() {
+        if other.as_slice() == wanted {
             return Ok(Some(Vec::from_slice(alloc, *name)?));
         }
-        if near.is_none() && is_slip(wanted.as_slice(), other.as_slice()) {
+        if near.is_none() && is_slip(wanted, other.as_slice()) {
             near = Some(Vec::from_slice(alloc, *name)?);
         }
     }

@@ -4,11 +4,11 @@ use crate::scout::{Run, Scout};
 use crate::track::{Next, Track};
 use crate::ways::{Post, Ways};
 use std::alloc::Allocator;
-use trac_findings::Sources;
 use trac_follow::Place;
+use trac_moves::{Walker, place_of};
+use trac_places::Sources;
 use trac_rules::doubt::Doubt;
 use trac_rules::refusal::Refusal;
-use trac_walk::{Walker, place_of};
 
 // So many steps are gone over at most to find where doubts come from, all ways together.
 const WAYS_LIMIT: u64 = 200_000_000;

@@ -2,12 +2,12 @@
 //! first one keeps no more.
 
 use std::alloc::Allocator;
-use trac_findings::Sources;
+use trac_moves::Walker;
+use trac_places::Sources;
 use trac_rules::limit::JOURNAL_LIMIT;
 use trac_rules::refusal::Refusal;
 use trac_rules::width::Width;
 use trac_streams::Ending;
-use trac_walk::Walker;
 
 /// How the program is run.
 #[derive(Clone, Copy)]

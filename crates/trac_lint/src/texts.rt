@@ -1,8 +1,8 @@
 //! The texts that a program reads from its files.
 
 use std::alloc::Allocator;
+use trac_moves::Walker;
 use trac_rules::byte::{CARRIAGE_RETURN, LINE_FEED, TAB};
-use trac_walk::Walker;
 
 /// The number of the first byte of a text that is read from this one of the files on: blanks, tabs and line ends may
 /// stand before it.

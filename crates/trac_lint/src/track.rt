@@ -4,10 +4,10 @@ use crate::memory::number_of;
 use crate::texts::{read_number, text_from};
 use crate::ways::{Post, Since, Span, Ways};
 use std::alloc::{AllocError, Allocator};
-use trac_findings::Sources;
-use trac_follow::{Nameless, Place, Source, parts, with_name};
+use trac_follow::{Nameless, Place, Source, follow, parts, with_name};
+use trac_moves::{Walker, place_of};
+use trac_places::Sources;
 use trac_rules::doubt::Doubt;
-use trac_walk::{Walker, place_of};
 
 // So many places of a track are kept.
 const POST_LIMIT: usize = 65_536;
@@ -211,7 +211,7 @@ fn leg_of<A: Allocator + Copy>(
     place: Place<'_>,
     most: u64,
 ) -> Result<Leg, AllocError> {
-    match walker.follow(place, most).source {
+    match follow(&mut walker.window.session, place, most).source {
         Source::Here(there) => Ok(Leg::Here(parts(there).0)),
         Source::Passed(there) => Ok(Leg::On(parts(there).0)),
         Source::OfForm(item) => Ok(Leg::OfForm(item)),

@@ -1,18 +1,15 @@
 //! Each read, write and flush fails in turn, in runs, in sessions of the debugger and in walks: what is written by
 //! then, and how it ends. And input that comes in pieces of any size.
-use crate::faulty::{Failing, Fault, KINDS, NO_FAULT};
 use crate::programs::{DEBUG, Program, RUN, WALK, outcome};
 use std::alloc::Global;
 use std::process::Abort;
+use trac_machine_tests::INPUT;
+use trac_machine_tests::faulty::{Failing, Fault, KINDS, NO_FAULT};
 use trac_rules::width::Width;
 use trac_run::Ending;
 
 // A fault, what is written by then, and the ending.
 type Row = (Fault, &'static [u8], Ending);
-
-// Prints `AB` in two parts, read one byte a call: `A` before the ninth read, and `B` before the eleventh, which finds
-// the end. Output is written and flushed before each read, and before the end.
-pub(crate) const INPUT: &[u8; 10] = b"#(ps,A)'B'";
 
 const IN_A_RUN: &[Row] = &[
     (Fault::Read(1), b"", Ending::Read),

@@ -1,9 +1,9 @@
 //! When something is written: the calls of a reader and a writer that share a log. What is pending is written
 //! and flushed before more is read.
-use crate::faults::INPUT;
 use crate::programs::{debug_over, run_over, walk_over};
 use std::process::Abort;
 use trac_faults::{CallLog, FaultyReader, FaultyWriter, Logged, LoggedCall};
+use trac_machine_tests::INPUT;
 use trac_rules::width::Width;
 use trac_run::Ending;
 

@@ -1,11 +1,11 @@
 //! What the programs do, each over a reader and a writer: how it ends, and what it has written.
 ghost use Rattle.std.specs.Prelude.{◌≡◌, ◌≤◌};
 
-use crate::faulty::{Failing, reader_of, writer_of};
 use std::alloc::{Allocator, Global};
 use std::io::{Read, Write};
 use std::process::Abort;
 use trac_debug::debug;
+use trac_machine_tests::faulty::{Failing, reader_of, writer_of};
 use trac_rules::limit::JOURNAL_LIMIT;
 use trac_rules::width::Width;
 use trac_run::{Ending, Options, run};

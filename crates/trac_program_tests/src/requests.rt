@@ -1,12 +1,11 @@
 //! Each request for memory is refused in turn, in runs, in sessions of the debugger and in walks.
-use crate::faults::INPUT;
-use crate::faulty::NO_FAULT;
 use crate::programs::{DEBUG, Program, RUN, outcome};
 use std::process::Abort;
 use trac_faults::Refusing;
+use trac_machine_tests::faulty::NO_FAULT;
+use trac_machine_tests::{EACH_PRIMITIVE, INPUT};
 use trac_rules::width::Width;
 use trac_run::Ending;
-use trac_session_tests::EACH_PRIMITIVE;
 
 const TAPE: &[u8] = b"#(ds,A,(x,y))'#(ss,A,x)'#(ps,##(cl,A,1))'";
 
@@ -98,11 +97,12 @@ fn may_end(row: &Row, ending: Ending, written: &[u8], is_refused: bool) -> bool 
     }
 }
 
-// A program with this request refused: whether a request was refused.
-fn expect_row(rt: &(impl Abort + AllocGlobal), row: &Row, nth: u64) -> bool {
+// A program with this request refused, of whose input at most so many bytes come at a time: whether a request was
+// refused.
+fn expect_row(rt: &(impl Abort + AllocGlobal), row: &Row, most: usize, nth: u64) -> bool {
     let memory = Refusing::new(rt.alloc());
     memory.refuse_nth(nth);
-    let (ending, written) = outcome(rt, rt.alloc(), &memory, row.0, row.1.0, 4096, NO_FAULT);
+    let (ending, written) = outcome(rt, rt.alloc(), &memory, row.0, row.1.0, most, NO_FAULT);
     let is_refused = memory.refusals() > 0;
     let is_met = may_write(row, written.as_slice(), is_refused)
         && may_end(row, ending, written.as_slice(), is_refused);
@@ -111,9 +111,9 @@ fn expect_row(rt: &(impl Abort + AllocGlobal), row: &Row, nth: u64) -> bool {
 }
 
 // How many requests the program makes.
-fn requests_of(rt: &(impl Abort + AllocGlobal), row: &Row) -> u64 {
+fn requests_of(rt: &(impl Abort + AllocGlobal), row: &Row, most: usize) -> u64 {
     for nth in 1..10_000 {
-        if !expect_row(rt, row, nth) {
+        if !expect_row(rt, row, most, nth) {
             return nth - 1;
         }
     }
@@ -160,7 +160,9 @@ fn replies_to_walks_take_no_memory(rt: HostRuntime) {
 #[test]
 fn each_request(rt: HostRuntime) {
     for row in ROWS.iter() {
-        let requests = requests_of(&rt, row);
-        assert!(rt; requests > 18, "{requests} requests");
+        for most in [4096, 1] {
+            let requests = requests_of(&rt, row, most);
+            assert!(rt; requests > 16, "{requests} requests");
+        }
     }
 }

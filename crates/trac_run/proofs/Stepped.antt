@@ -4,14 +4,14 @@ use Rattle.std.specs.Io.KnownBytes.{Consumes, IsAtEnd}
 use Rattle.std.specs.Prelude.{◌⊎◌}
 use Rattle.std.proofs.lemmas.List.{append-nil, append_assoc}
 use Rattle.std.proofs.lemmas.Option.{option_and_then_some}
-use Rattle.std.specs.Prelude.{Option, Some}
+use Rattle.std.specs.Prelude.{Option, Some, Result, Ok, Err}
 use Rattle.trac_rules.specs.declared.refusal.Refusal.{Refusal}
 use Rattle.trac_rules.specs.Session.{PlainSession, Command, Feed, End, Step, Back, Commit, done, accepted_by, answer, repeated, no_goal}
 use Rattle.trac_rules.proofs.Replies.{accepted_done}
 use Rattle.trac_session.specs.Within.{IsWalkWithin}
 use Rattle.trac_streams.specs.declared.ending.Ending.{Ending}
 use Rattle.trac_streams.proofs.Known.{Consumes-both, Consumes-nothing}
-use Rattle.trac_run.specs.Runs.{AreDone, FeedsSteps, IsOfRead, TakesMore, TakesNone, TakesSteps, Waits, fed_by, step_count}
+use Rattle.trac_run.specs.Runs.{AreDone, FeedsAsFar, FeedsSteps, FeedsToLast, IsOfRead, TakesMore, TakesNone, TakesSteps, Waits, fed_by, step_count}
 
 -- ---- lists of commands
 
@@ -71,69 +71,100 @@ steps_many (suc k) p q h =
 -- ---- with what is fed
 
 -- a session that stays was fed nothing
-pub feeds_none : (input : Option (List ℕ)) (p q : PlainSession) → q ≡ p → FeedsSteps input input 0 p q
+pub feeds_none : (input : Option (List ℕ)) (p q : PlainSession) → q ≡ p → FeedsSteps input input 0 [] p q
 unfolding steps_none
-feeds_none input p q same = record { takes = steps_none p q same; took = Consumes-nothing input }
+feeds_none input p q same = record { takes = steps_none p q same; took = Consumes-nothing input; unfed = inl refl }
 
-pub feeds_commit : (input : Option (List ℕ)) (p q : PlainSession) → answer (Commit 0) p ≡ done q → FeedsSteps input input 0 p q
-feeds_commit input p q h = record { takes = record { commands = Commit 0 ∷ []; are_done = (q, h, refl); count = refl }; took = Consumes-nothing input }
-
-pub feeds_both : {in_old in_now in_new : Option (List ℕ)} (m n : ℕ) (p q r : PlainSession) → FeedsSteps in_old in_now m p q → FeedsSteps in_now in_new n q r → FeedsSteps in_old in_new (m + n) p r
-unfolding steps_both
-feeds_both {in_old} {in_now} {in_new} m n p q r first second = record {
-  takes = steps_both m n p q r first.takes second.takes;
-  took = subst (Consumes in_old in_new) (sym (fed_both first.takes.commands second.takes.commands))
-      (Consumes-both in_old in_now in_new (fed_by first.takes.commands) (fed_by second.takes.commands) first.took second.took);
+pub feeds_commit : (input : Option (List ℕ)) (p q : PlainSession) → answer (Commit 0) p ≡ done q → FeedsSteps input input 0 [] p q
+feeds_commit input p q h = record {
+  takes = record { commands = Commit 0 ∷ []; are_done = (q, h, refl); count = refl };
+  took = Consumes-nothing input;
+  unfed = inl refl;
 }
 
+-- a part of which all is fed, and the next
+pub feeds_both : {in_old in_now in_new : Option (List ℕ)} {rest : List ℕ} (m n : ℕ) (p q r : PlainSession) → FeedsSteps in_old in_now m [] p q → FeedsSteps in_now in_new n rest q r → FeedsSteps in_old in_new (m + n) rest p r
+unfolding steps_both
+feeds_both {in_old} {in_now} {in_new} {rest} m n p q r first second =
+    let one : List ℕ = fed_by first.takes.commands in
+    let two : List ℕ = fed_by second.takes.commands in
+    record {
+      takes = steps_both m n p q r first.takes second.takes;
+      took = subst (Consumes in_old in_new) (sym (append_assoc one two rest) ∙ ap (λ text. text ++ rest) (sym (fed_both first.takes.commands second.takes.commands)))
+          (Consumes-both in_old in_now in_new one (two ++ rest) (subst (Consumes in_old in_now) (append-nil one) first.took) second.took);
+      unfed = second.unfed;
+    }
+
 -- many steps
-feeds_many : (input : Option (List ℕ)) (k : ℕ) (p q : PlainSession) → repeated Step k p ≡ Some q → FeedsSteps input input k p q
+feeds_many : (input : Option (List ℕ)) (k : ℕ) (p q : PlainSession) → repeated Step k p ≡ Some q → FeedsSteps input input k [] p q
 unfolding steps_one
 feeds_many input zero p q h = let same : q ≡ p = cc in feeds_none input p q same
 feeds_many input (suc k) p q h =
     option_and_then_some (λ m. accepted_by (answer Step m)) (repeated Step k p) q h
     (λ m walked last.
     let count : k + 1 ≡ suc k = omega arith in
-    let one : FeedsSteps input input 1 m q = record { takes = steps_one m q (accepted_done (answer Step m) q last); took = Consumes-nothing input } in
-    subst (λ n. FeedsSteps input input n p q) count (feeds_both k 1 p m q (feeds_many input k p m walked) one))
+    let one : FeedsSteps input input 1 [] m q = record { takes = steps_one m q (accepted_done (answer Step m) q last); took = Consumes-nothing input; unfed = inl refl } in
+    subst (λ n. FeedsSteps input input n [] p q) count (feeds_both k 1 p m q (feeds_many input k p m walked) one))
 
 -- what a read gave
-feeds_fed : (in_old in_new : Option (List ℕ)) (bytes : List ℕ) (p q : PlainSession) → Waits p → IsOfRead bytes → (answer (Feed bytes) p ≡ done q) ⊎ (q ≡ p) → Consumes in_old in_new bytes → FeedsSteps in_old in_new 0 p q
-feeds_fed in_old in_new bytes p q waits read how took = record {
-  takes = record { commands = Feed bytes ∷ []; are_done = (waits, read, (q, how, refl)); count = refl };
-  took = subst (Consumes in_old in_new) (sym (append-nil bytes)) took;
+feeds_fed : (in_old in_new : Option (List ℕ)) (bytes : List ℕ) (p q : PlainSession) → Waits p → IsOfRead bytes → answer (Feed bytes) p ≡ done q → Consumes in_old in_new bytes → FeedsSteps in_old in_new 0 [] p q
+feeds_fed in_old in_new bytes p q waits read fed took = record {
+  takes = record { commands = Feed bytes ∷ []; are_done = (waits, read, (q, fed, refl)); count = refl };
+  took = subst (Consumes in_old in_new) (sym (append-nil bytes) ∙ sym (append-nil (bytes ++ []))) took;
+  unfed = inl refl;
 }
 
--- what a read gave, if anything, is lost
-feeds_lost : (in_old in_new : Option (List ℕ)) (bytes : List ℕ) (p q : PlainSession) → Waits p → length bytes ≤ 4096 → q ≡ p → Consumes in_old in_new bytes → FeedsSteps in_old in_new 0 p q
+-- what a read gave, if anything, is the rest
+feeds_left : (in_old in_new : Option (List ℕ)) (bytes : List ℕ) (p q : PlainSession) → Waits p → length bytes ≤ 4096 → q ≡ p → Consumes in_old in_new bytes → FeedsSteps in_old in_new 0 bytes p q
 unfolding steps_none
-feeds_lost in_old in_new [] p q waits few same took = record { takes = steps_none p q same; took = took }
-feeds_lost in_old in_new (b ∷ bs) p q waits few same took = feeds_fed in_old in_new (b ∷ bs) p q waits (omega arith, few) (inr same) took
+feeds_left in_old in_new bytes p q waits few same took = record { takes = steps_none p q same; took = took; unfed = some_or_none bytes few }
+  where
+    some_or_none : (read : List ℕ) → length read ≤ 4096 → (read ≡ []) ⊎ (Waits q × IsOfRead read)
+    some_or_none [] few = inl refl
+    some_or_none (b ∷ bs) few = inr (subst Waits (sym same) waits, (omega arith, few))
 
 -- the end of the input
-feeds_end : (in_old in_new : Option (List ℕ)) (p q : PlainSession) → Waits p → answer End p ≡ done q → Consumes in_old in_new [] → FeedsSteps in_old in_new 0 p q
-feeds_end in_old in_new p q waits h took = record { takes = record { commands = End ∷ []; are_done = (waits, (q, h, refl)); count = refl }; took = took }
+feeds_end : (in_old in_new : Option (List ℕ)) (p q : PlainSession) → Waits p → answer End p ≡ done q → Consumes in_old in_new [] → FeedsSteps in_old in_new 0 [] p q
+feeds_end in_old in_new p q waits h took = record {
+  takes = record { commands = End ∷ []; are_done = (waits, (q, h, refl)); count = refl };
+  took = took;
+  unfed = inl refl;
+}
 
 -- ---- a turn
 
 -- a walk, and what comes after it, which takes no step
-pub feeds_turn : {in_old in_new : Option (List ℕ)} {most n m k : ℕ} {why : Option Refusal} {p q : PlainSession} (r : PlainSession) → k ≤ m → IsWalkWithin most no_goal n p k why q → FeedsSteps in_old in_new 0 q r → FeedsSteps in_old in_new (m - (m - k)) p r
-feeds_turn {in_old} {in_new} {most} {n} {m} {k} {why} {p} {q} r within walk rest =
+pub feeds_turn : {in_old in_new : Option (List ℕ)} {rest : List ℕ} {most n m k : ℕ} {why : Option Refusal} {p q : PlainSession} (r : PlainSession) → k ≤ m → IsWalkWithin most no_goal n p k why q → FeedsSteps in_old in_new 0 rest q r → FeedsSteps in_old in_new (m - (m - k)) rest p r
+feeds_turn {in_old} {in_new} {rest} {most} {n} {m} {k} {why} {p} {q} r within walk after =
     let count : k + 0 ≡ m - (m - k) = omega arith in
-    subst (λ l. FeedsSteps in_old in_new l p r) count (feeds_both k 0 p q r (feeds_many in_old k p q walk.walk.walked) rest)
+    subst (λ l. FeedsSteps in_old in_new l rest p r) count (feeds_both k 0 p q r (feeds_many in_old k p q walk.walk.walked) after)
 
 -- nothing comes after it
-pub feeds_walk : {input : Option (List ℕ)} {most n m k : ℕ} {why : Option Refusal} {p q : PlainSession} → k ≤ m → IsWalkWithin most no_goal n p k why q → FeedsSteps input input (m - (m - k)) p q
+pub feeds_walk : {input : Option (List ℕ)} {most n m k : ℕ} {why : Option Refusal} {p q : PlainSession} → k ≤ m → IsWalkWithin most no_goal n p k why q → FeedsSteps input input (m - (m - k)) [] p q
 feeds_walk {input} {most} {n} {m} {k} {why} {p} {q} within walk = feeds_turn {m = m} q within walk (feeds_none input q q refl)
 
 -- a commit, and a read that gave more, or the end
-pub feeds_taken : (in_old in_new : Option (List ℕ)) (q r s : PlainSession) → Waits r → answer (Commit 0) q ≡ done r → TakesMore in_old in_new r s → FeedsSteps in_old in_new 0 q s
+pub feeds_taken : (in_old in_new : Option (List ℕ)) (q r s : PlainSession) → Waits r → answer (Commit 0) q ≡ done r → TakesMore in_old in_new r s → FeedsSteps in_old in_new 0 [] q s
 feeds_taken in_old in_new q r s waits e taken = feeds_both 0 0 q r s (feeds_commit in_old q r e)
     (⊎_elim
     (λ (end : (taken.got ≡ []) × IsAtEnd in_new × (answer End r ≡ done s)). feeds_end in_old in_new r s waits end.2 (subst (Consumes in_old in_new) end.0 taken.took))
-    (λ (fed : (0 < length taken.got) × (answer (Feed taken.got) r ≡ done s)). feeds_fed in_old in_new taken.got r s waits (fed.0, taken.few) (inl fed.1) taken.took)
+    (λ (fed : (0 < length taken.got) × (answer (Feed taken.got) r ≡ done s)). feeds_fed in_old in_new taken.got r s waits (fed.0, taken.few) fed.1 taken.took)
     taken.fed)
 
 -- a commit, and a read that changed nothing
-pub feeds_untaken : (in_old in_new : Option (List ℕ)) (q r s : PlainSession) (ending : Ending) → Waits r → answer (Commit 0) q ≡ done r → TakesNone in_old in_new r s ending → FeedsSteps in_old in_new 0 q s
-feeds_untaken in_old in_new q r s ending waits e taken = feeds_both 0 0 q r s (feeds_commit in_old q r e) (feeds_lost in_old in_new taken.got r s waits taken.few taken.same taken.took)
+pub feeds_untaken : (in_old in_new : Option (List ℕ)) (q r s : PlainSession) (ending : Ending) → Waits r → answer (Commit 0) q ≡ done r → TakesNone in_old in_new r s ending → FeedsToLast in_old in_new 0 q s
+feeds_untaken in_old in_new q r s ending waits e taken =
+    (taken.got, feeds_both 0 0 q r s (feeds_commit in_old q r e) (feeds_left in_old in_new taken.got r s waits taken.few taken.same taken.took))
+
+-- ---- parts that go on or end
+
+-- all is fed, whether the run goes on or ends
+pub feeds_either : {T : Type 0} {in_old in_new : Option (List ℕ)} {n : ℕ} {p q : PlainSession} (result : Result T Ending) → FeedsSteps in_old in_new n [] p q → FeedsAsFar result in_old in_new n p q
+feeds_either (Ok x) all = all
+feeds_either (Err ending) all = ([], all)
+
+-- a part after a walk
+pub as_far_turn : {T : Type 0} (in_old in_new : Option (List ℕ)) {most n m k : ℕ} {why : Option Refusal} {p q : PlainSession} (r : PlainSession) (result : Result T Ending) → k ≤ m → IsWalkWithin most no_goal n p k why q →
+    FeedsAsFar result in_old in_new 0 q r → FeedsAsFar result in_old in_new (m - (m - k)) p r
+as_far_turn in_old in_new {m = m} r (Ok x) within walk rest = feeds_turn {m = m} r within walk rest
+as_far_turn in_old in_new {m = m} r (Err ending) within walk rest = (rest.0, feeds_turn {m = m} r within walk rest.1)

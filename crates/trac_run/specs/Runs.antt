@@ -1,6 +1,6 @@
 -- What a run reads and writes.
 use Rattle.std.specs.Prelude.{◌≡◌, ℕ, ◌+◌, ◌-◌, ◌*◌, ◌<◌, ◌≤◌, Bool, true, if◌then◌else◌, List, [], ◌∷◌, ◌++◌, length}
-use Rattle.std.specs.Prelude.{Option, ◌⊎◌}
+use Rattle.std.specs.Prelude.{Option, Result, Ok, Err, ◌⊎◌}
 use Rattle.std.specs.Io.KnownBytes.{Appends, Consumes, IsAtEnd}
 use Rattle.trac_rules.specs.declared.limit.TheConstants.{TEXT_LIMIT, TAPE_LIMIT}
 use Rattle.trac_rules.specs.declared.refusal.Refusal.{Refusal}
@@ -96,12 +96,12 @@ abbrev pub IsOfRead : List ℕ → Type 0
 IsOfRead bytes = (0 < length bytes) × (length bytes ≤ READ_SIZE)
 
 -- each of these commands is done, one after another, and none of them is a step back. Input comes only while the next
--- step waits for it: what one read gave, or the end. If a feed is refused, the session is as it was
+-- step waits for it: what one read gave, or the end
 abbrev pub AreDone : List Command → PlainSession → PlainSession → Type 0
 AreDone [] p q = q ≡ p
 AreDone (Back ∷ commands) p q = ⊥
-AreDone (Feed bytes ∷ commands) p q = Waits p × IsOfRead bytes
-    × ((r : PlainSession) × ((answer (Feed bytes) p ≡ done r) ⊎ (r ≡ p)) × AreDone commands r q)
+AreDone (Feed bytes ∷ commands) p q =
+    Waits p × IsOfRead bytes × ((r : PlainSession) × (answer (Feed bytes) p ≡ done r) × AreDone commands r q)
 AreDone (End ∷ commands) p q = Waits p × ((r : PlainSession) × (answer End p ≡ done r) × AreDone commands r q)
 AreDone (command ∷ commands) p q = (r : PlainSession) × (answer command p ≡ done r) × AreDone commands r q
 
@@ -117,18 +117,31 @@ fed_by [] = []
 fed_by (Feed bytes ∷ commands) = bytes ++ fed_by commands
 fed_by (command ∷ commands) = fed_by commands
 
--- the same, and what the feeds between the steps were is all that was read: so no byte was read but while a step waited
-pub record FeedsSteps (in_old in_new : Option (List ℕ)) (steps : ℕ) (p q : PlainSession) : Type 0 where
+-- the same, and what was read is what the feeds between the steps were, and a rest: nothing, or what the last read gave
+-- while the next step waited, whose feed was refused. So no byte was read but while a step waited
+pub record FeedsSteps (in_old in_new : Option (List ℕ)) (steps : ℕ) (rest : List ℕ) (p q : PlainSession)
+    : Type 0 where
   pub takes : TakesSteps steps p q
-  pub took : Consumes in_old in_new (fed_by takes.commands)
+  pub took : Consumes in_old in_new (fed_by takes.commands ++ rest)
+  pub unfed : (rest ≡ []) ⊎ (Waits q × IsOfRead rest)
+
+-- the same, whatever the rest is
+abbrev pub FeedsToLast : Option (List ℕ) → Option (List ℕ) → ℕ → PlainSession → PlainSession → Type 0
+FeedsToLast in_old in_new steps p q = (rest : List ℕ) × FeedsSteps in_old in_new steps rest p q
+
+-- a part of a run took so many steps: if the run goes on after it, all that it read is fed
+abbrev pub FeedsAsFar :
+    {T : Type 0} → Result T Ending → Option (List ℕ) → Option (List ℕ) → ℕ → PlainSession → PlainSession → Type 0
+FeedsAsFar (Ok x) in_old in_new steps p q = FeedsSteps in_old in_new steps [] p q
+FeedsAsFar (Err ending) in_old in_new steps p q = FeedsToLast in_old in_new steps p q
 
 -- a whole run: its session began new, and may keep so many states. What was read is what was fed to it while the next
--- of its steps waited for input: so no byte was read once the program halted
+-- of its steps waited for input, and perhaps what a last such read gave: so no byte was read once the program halted
 pub record RunsAnew (in_old in_new out_old out_new : Option (List ℕ)) (journal : ℕ) (width : Width) (budget : ℕ)
     (ending : Ending) : Type 0 where
   pub runs : Runs in_old in_new out_old out_new width budget ending
   pub session : PlainSession
-  pub feeds : FeedsSteps in_old in_new runs.steps (new_session journal width) session
+  pub feeds : FeedsToLast in_old in_new runs.steps (new_session journal width) session
 
 -- ---- parts of a run
 

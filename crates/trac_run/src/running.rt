@@ -1,10 +1,11 @@
 //! A run: a program's input from a reader, its output to a writer.
-ghost use Rattle.std.specs.Prelude.{◌≡◌, ℕ, ◌+◌, ◌-◌, ◌*◌, ◌<◌, ◌≤◌, true, false, List, length, Option};
+ghost use Rattle.std.specs.Prelude.{◌≡◌, ℕ, ◌+◌, ◌-◌, ◌*◌, ◌<◌, ◌≤◌, true, false, List, [], length, Option};
 ghost use Rattle.std.specs.Prelude.{OnOk, IfOk, IfErr};
 ghost use Rattle.std.specs.Io.KnownBytes.{Appends, IsAtEnd};
 ghost use Rattle.trac_rules.specs.Session.{PlainSession, Feed, Step, Commit, done, new_session, refused, answer};
 ghost use Rattle.trac_streams.specs.Written.{WritesFront};
-ghost use Rattle.trac_run.specs.Runs.{RunsAnew, RunsBy, FeedsSteps, TakesSteps, ending_of_feed as ending_of};
+ghost use Rattle.trac_run.specs.Runs.{RunsAnew, RunsBy, FeedsAsFar, FeedsSteps, FeedsToLast, TakesSteps};
+ghost use Rattle.trac_run.specs.Runs.{ending_of_feed as ending_of};
 ghost use Rattle.trac_run.specs.Runs.{most_reads, IsFresh, GoesOn, Finishes, TakesMore, TakesNone, StillWaits};
 ghost use Rattle.trac_run.specs.Runs.{turns_left};
 
@@ -80,7 +81,7 @@ pub fn run_session<R: Read, W: Write, A: Allocator + Copy>(
         session.old.width budget result.steps result.reads result.ending }
     ensures within { result.steps ≤ budget }
     ensures steps { TakesSteps result.steps session.old session.new }
-    ensures feeds { FeedsSteps (R.remaining input.old) (R.remaining input.new) result.steps session.old session.new }
+    ensures feeds { FeedsToLast (R.remaining input.old) (R.remaining input.new) result.steps session.old session.new }
 {
     let mut left = budget;
     let mut reads = 0;
@@ -113,7 +114,7 @@ fn take_turn<R: Read, W: Write, A: Allocator + Copy>(
     ensures err { IfErr result (Finishes (R.remaining input.old) (R.remaining input.new) (W.contents output.old)
         (W.contents output.new) reads.old reads.new session.old left.old left.new) }
     ensures within { left.new ≤ left.old }
-    ensures steps { FeedsSteps (R.remaining input.old) (R.remaining input.new) (left.old - left.new)
+    ensures steps { FeedsAsFar result (R.remaining input.old) (R.remaining input.new) (left.old - left.new)
         session.old session.new }
     ensures fresh { OnOk result (IsFresh session.new) }
     ensures fewer { OnOk result (turns_left session.new left.new < turns_left session.old left.old) }
@@ -146,7 +147,7 @@ fn release<W: Write, A: Allocator + Copy>(
     ensures committed { OnOk result (answer (Commit 0) session.old ≡ done session.new) }
     ensures err { IfErr result (λ ending.
         (ending ≡ Ending.Write) × WritesFront (W.contents output.old) (W.contents output.new) session.old.last.output) }
-    ensures steps { (input : Option (List ℕ)) → FeedsSteps input input 0 session.old session.new }
+    ensures steps { (input : Option (List ℕ)) → FeedsSteps input input 0 [] session.old session.new }
 {
     write_whole(output, session.pending())?;
     session.commit(0);
@@ -170,7 +171,7 @@ fn take_input<R: Read, W: Write, A: Allocator + Copy>(
         (W.contents output.new) reads.old reads.new session.old n session.new n) }
     ensures err { (n : ℕ) → IfErr result (Finishes (R.remaining input.old) (R.remaining input.new)
         (W.contents output.old) (W.contents output.new) reads.old reads.new session.old (n + 1) (n + 1)) }
-    ensures steps { FeedsSteps (R.remaining input.old) (R.remaining input.new) 0 session.old session.new }
+    ensures steps { FeedsAsFar result (R.remaining input.old) (R.remaining input.new) 0 session.old session.new }
     ensures fresh { OnOk result (IsFresh session.new) }
     ensures fewer { (n : ℕ) → session.old.last.position ≡ 0 →
         OnOk result (turns_left session.new n < turns_left session.old n) }
@@ -197,7 +198,7 @@ fn take_piece<R: Read, W: Write, A: Allocator + Copy>(
         (W.contents output.new) reads.old reads.new session.old n session.new n) }
     ensures err { (n : ℕ) → IfErr result (Finishes (R.remaining input.old) (R.remaining input.new)
         (W.contents output.old) (W.contents output.new) reads.old reads.new session.old (n + 1) (n + 1)) }
-    ensures steps { FeedsSteps (R.remaining input.old) (R.remaining input.new) 0 session.old session.new }
+    ensures steps { FeedsAsFar result (R.remaining input.old) (R.remaining input.new) 0 session.old session.new }
     ensures fresh { OnOk result (IsFresh session.new) }
     ensures fewer { (n : ℕ) → session.old.last.position ≡ 0 →
         OnOk result (turns_left session.new n < turns_left session.old n) }

@@ -14,3 +14,5 @@ pub mod Returned
 pub mod Looked
 pub mod Doubted
 pub mod Released
+pub mod Aged
+pub mod Swept

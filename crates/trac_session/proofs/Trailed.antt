@@ -13,40 +13,43 @@ use Rattle.trac_rules.proofs.TakenAgain.{answered_trail, repeated_trail}
 use Rattle.trac_step.specs.Layout.{Shown}
 use Rattle.trac_step.specs.Room.{HasRoom}
 use Rattle.trac_session.specs.Journal.{earlier_of, AreRecords, IsSession, IsSound, IsWithinReach, plain_of}
-use Rattle.trac_session.specs.Knowing.{KnowsItsOwn}
+use Rattle.trac_session.specs.Knowing.{AreRecent, KnowsItsOwn}
 use Rattle.trac_session.proofs.Journaled.{led_on-Some}
 
 -- they stay so after a command
-pub answered : (command : Command) (reply : Reply) {limit : ℕ} {width : Width} {bytes after : List ℕ} {ended over : Bool} {old new : List Record} {m n : Shown} →
-    IsSession limit width bytes ended old m → n.width ≡ m.width → IsSound limit after new n →
-    Answers command (plain_of limit m.width bytes ended old m.state) reply (plain_of limit n.width after over new n.state) → KnowsItsOwn new n → IsSession limit width after over new n
-answered command reply {limit} {bytes = bytes} {after = after} {ended = ended} {over = over} {old = old} {new = new} {m = m} {n = n} session still sound h names = record {
+pub answered : (command : Command) (reply : Reply) {limit : ℕ} {width : Width} {bytes after : List ℕ} {ended over : Bool} {mark more : ℕ} {old new : List Record} {m n : Shown} →
+    IsSession limit width bytes ended mark old m → n.width ≡ m.width → IsSound limit after new n →
+    Answers command (plain_of limit m.width bytes ended old m.state) reply (plain_of limit n.width after over new n.state) → KnowsItsOwn new n → AreRecent more n.recent (earlier_of new n.state) →
+    IsSession limit width after over more new n
+answered command reply {limit} {bytes = bytes} {after = after} {ended = ended} {over = over} {old = old} {new = new} {m = m} {n = n} session still sound h names recent = record {
   sound = sound;
   wide = still ∙ session.wide;
   names = names;
+  recent = recent;
   trail = answered_trail command reply (plain_of limit m.width bytes ended old m.state) (plain_of limit n.width after over new n.state) session.trail h;
 }
 
 -- and after one that was accepted so many times
-pub walked : (command : Command) (steps : ℕ) {limit : ℕ} {width : Width} {bytes : List ℕ} {ended : Bool} {old new : List Record} {m n : Shown} →
-    IsSession limit width bytes ended old m → n.width ≡ m.width → IsSound limit bytes new n →
-    repeated command steps (plain_of limit m.width bytes ended old m.state) ≡ Some (plain_of limit n.width bytes ended new n.state) → KnowsItsOwn new n →
-    IsSession limit width bytes ended new n
-walked command steps {limit} {bytes = bytes} {ended = ended} {old = old} {new = new} {m = m} {n = n} session still sound h names = record {
+pub walked : (command : Command) (steps : ℕ) {limit : ℕ} {width : Width} {bytes : List ℕ} {ended : Bool} {mark more : ℕ} {old new : List Record} {m n : Shown} →
+    IsSession limit width bytes ended mark old m → n.width ≡ m.width → IsSound limit bytes new n →
+    repeated command steps (plain_of limit m.width bytes ended old m.state) ≡ Some (plain_of limit n.width bytes ended new n.state) → KnowsItsOwn new n → AreRecent more n.recent (earlier_of new n.state) →
+    IsSession limit width bytes ended more new n
+walked command steps {limit} {bytes = bytes} {ended = ended} {old = old} {new = new} {m = m} {n = n} session still sound h names recent = record {
   sound = sound;
   wide = still ∙ session.wide;
   names = names;
+  recent = recent;
   trail = repeated_trail command steps (plain_of limit m.width bytes ended old m.state) (plain_of limit n.width bytes ended new n.state) session.trail h;
 }
 
 -- the session that they show is so
-pub trail_shown : {limit : ℕ} {width : Width} {bytes : List ℕ} {ended : Bool} (journal : List Record) {machine : Shown} (p : PlainSession) →
-    IsSession limit width bytes ended journal machine → plain_of limit machine.width bytes ended journal machine.state ≡ p → IsTrail p
+pub trail_shown : {limit : ℕ} {width : Width} {bytes : List ℕ} {ended : Bool} {mark : ℕ} (journal : List Record) {machine : Shown} (p : PlainSession) →
+    IsSession limit width bytes ended mark journal machine → plain_of limit machine.width bytes ended journal machine.state ≡ p → IsTrail p
 trail_shown journal p session view = subst IsTrail view session.trail
 
 -- the width of its numbers is kept
-pub width_shown : {limit : ℕ} {width : Width} {bytes : List ℕ} {ended : Bool} (journal : List Record) {machine : Shown} (p : PlainSession) →
-    IsSession limit width bytes ended journal machine → plain_of limit machine.width bytes ended journal machine.state ≡ p → width ≡ p.width
+pub width_shown : {limit : ℕ} {width : Width} {bytes : List ℕ} {ended : Bool} {mark : ℕ} (journal : List Record) {machine : Shown} (p : PlainSession) →
+    IsSession limit width bytes ended mark journal machine → plain_of limit machine.width bytes ended journal machine.state ≡ p → width ≡ p.width
 width_shown journal p session view = sym session.wide ∙ ap (λ (q : PlainSession). q.width) view
 
 -- the machine has room for each state before the last one

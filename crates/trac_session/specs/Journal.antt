@@ -9,7 +9,7 @@ use Rattle.trac_rules.specs.Trails.{IsTrail}
 use Rattle.trac_rules.specs.Weights.{step_weight, weight}
 use Rattle.trac_step.specs.Layout.{Shown}
 use Rattle.trac_step.specs.Room.{HasRoom}
-use Rattle.trac_session.specs.Knowing.{KnowsItsOwn}
+use Rattle.trac_session.specs.Knowing.{AreRecent, KnowsItsOwn}
 
 -- ---- going back
 
@@ -67,10 +67,12 @@ pub record IsSound (limit : ℕ) (bytes : List ℕ) (journal : List Record) (mac
   pub records : AreRecords (IsWithinReach machine (length bytes)) journal machine.state
 
 -- what is true of the fields of every session: they are sound, the width is that of the machine's numbers, each state
--- but the first is the step from the one before it, and without a step to go back over no name is known but its own
-pub record IsSession
-    (limit : ℕ) (width : Width) (bytes : List ℕ) (ended : Bool) (journal : List Record) (machine : Shown) : Type 0 where
+-- but the first is the step from the one before it; without a step to go back over no name is known but its own; and
+-- the names of the forms of all earlier states are recent, but for so many of the oldest
+pub record IsSession (limit : ℕ) (width : Width) (bytes : List ℕ) (ended : Bool) (mark : ℕ) (journal : List Record)
+    (machine : Shown) : Type 0 where
   pub sound : IsSound limit bytes journal machine
   pub wide : machine.width ≡ width
   pub trail : IsTrail (plain_of limit machine.width bytes ended journal machine.state)
   pub names : KnowsItsOwn journal machine
+  pub recent : AreRecent mark machine.recent (earlier_of journal machine.state)

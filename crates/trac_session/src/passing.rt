@@ -37,6 +37,7 @@ impl<A: Allocator + Copy> Session<A> {
         let count = self.journal.pop_moved(most.min(records as u64) as usize);
         self.machine.move_back(count);
         forget_names(&mut self.machine, &self.journal);
+        self.mark = self.mark.min(self.journal.len());
         count as u64
     }
 }

@@ -1,5 +1,5 @@
 //! A session: a processor that goes forwards and backwards over an input that is fed to it.
-ghost use Rattle.std.specs.Prelude.{◌≡◌, ◌==◌, ◌≤◌, ◌∷◌, [], drop, length, take, IfOk, IsOkUnless};
+ghost use Rattle.std.specs.Prelude.{◌≡◌, ◌==◌, ◌-◌, ◌<◌, ◌≤◌, ◌∷◌, [], drop, length, take, IfOk, IsOkUnless};
 ghost use Rattle.std.specs.List.{All};
 ghost use Rattle.trac_rules.specs.declared.reply.Reply.TheVariants.{Done};
 ghost use Rattle.trac_rules.specs.Fronts.{IsFrontOf};
@@ -10,7 +10,7 @@ ghost use Rattle.trac_rules.specs.Trails.{IsTrail};
 ghost use Rattle.trac_rules.specs.Weights.{losses_from, weights_from};
 ghost use Rattle.trac_step.specs.Room.{HasRoom};
 ghost use Rattle.trac_session.specs.Journal.{IsAtStart};
-ghost use Rattle.trac_session.specs.Knowing.{HasForgotten, KnowsItsOwn, names_in};
+ghost use Rattle.trac_session.specs.Knowing.{HasForgotten, HasSwept, KnowsItsOwn, names_in};
 ghost use Rattle.trac_session.specs.Replies.{reply_of};
 
 use std::alloc::{Allocator, Global};
@@ -36,6 +36,9 @@ pub struct Session<A: Allocator + Copy = Global> {
     pub(crate) limit: usize,
     // how wide the machine's numbers are
     width: Width,
+    // How many of the oldest steps are from before the last sweep of aged names: these alone may need names that are
+    // aged now.
+    pub(crate) mark: usize,
 }
 
 impl<A: Allocator + Copy> Model for Session<A> {
@@ -49,7 +52,7 @@ impl<A: Allocator + Copy> Model for Session<A> {
 
     ghost view = { λ s. plain_of s.limit s.machine.width s.tape.items s.ended s.journal.records s.machine.state };
 
-    ghost invariant = { λ s. IsSession s.limit s.width s.tape.items s.ended s.journal.records s.machine };
+    ghost invariant = { λ s. IsSession s.limit s.width s.tape.items s.ended s.mark s.journal.records s.machine };
 }
 
 impl<A: Allocator + Copy> Session<A> {
@@ -73,6 +76,7 @@ impl<A: Allocator + Copy> Session<A> {
             made: Made::new(alloc),
             limit,
             width,
+            mark: 0,
         })
     }
 
@@ -137,6 +141,7 @@ impl<A: Allocator + Copy> Session<A> {
             return Err(Refusal::AtStart);
         }
         forget_names(&mut self.machine, &self.journal);
+        self.mark = self.mark.min(self.journal.len());
         Ok(())
     }
 
@@ -170,8 +175,14 @@ impl<A: Allocator + Copy> Session<A> {
     /// Keeps the last state and so many steps before it, or all if there are fewer, and forgets what was before. The
     /// first state that stays becomes the first one of all. Its output is released from it and from all after it, so
     /// read `pending_before` first. What it has read of the tape is dropped. With 0 the last state alone stays, all
-    /// that is pending is released, and the names of deleted forms are forgotten. It takes no memory and always
-    /// succeeds, and takes time for what it drops, and none for what it keeps.
+    /// that is pending is released, and the names of deleted forms are forgotten.
+    ///
+    /// With more than 0, names of deleted forms are forgotten once no step needs them. A commit that drops the last
+    /// step from before the last sweep of such names sweeps again. It forgets each name that has had no form since
+    /// that sweep. So a name that loses its form is forgotten by the second sweep after that, at the latest.
+    ///
+    /// A commit takes no memory and always succeeds. It takes time for what it drops and for the names that it forgets,
+    /// and none for what it keeps.
     pub fn commit(&mut self, keep: usize)
         ensures { answer (Commit keep) self.old ≡ record { reply = Done; session = self.new } }
     {
@@ -180,15 +191,19 @@ impl<A: Allocator + Copy> Session<A> {
             release_all(&mut self.machine, &mut self.tape);
             self.journal.clear();
             forget_names(&mut self.machine, &self.journal);
+            self.mark = 0;
             return;
         }
         // The contract of `len` says that the output's length fits a word. The sums of what was printed are no greater.
         let _len = self.machine.output().len();
         // What is released is told by the records that are dropped, since the first state of a session has no output
         // and has read nothing.
+        let before = self.journal.len();
         let passed = self.journal.keep_newest(keep);
         self.tape.drop_front(passed.read);
         self.machine.release(passed.printed, passed.read);
+        let kept = self.journal.len();
+        age_names(&mut self.machine, &mut self.mark, kept, before - kept);
     }
 
     /// How many steps can be gone back over: never more than the limit that the session was made with, which is at most
@@ -270,5 +285,24 @@ pub(crate) fn forget_names<E: TwoEnds<u8, A>, M: TwoEnds<Mark, A>, A: Allocator 
 {
     if journal.len() == 0 {
         machine.settle();
+    }
+}
+
+// Sweeps aged names if none of the steps that are left, so many, is from before the last sweep: if so many were dropped
+// as there were of those. For such a step alone may need a name that is aged now.
+fn age_names<E: TwoEnds<u8, A>, M: TwoEnds<Mark, A>, A: Allocator + Copy>(
+    machine: &mut Core<E, M, A>,
+    mark: &mut usize,
+    kept: usize,
+    dropped: usize,
+)
+    ensures swept { mark.old ≤ dropped → HasSwept kept mark.new machine.old machine.new }
+    ensures waits { dropped < mark.old → (machine.new ≡ machine.old) × (mark.new ≡ mark.old - dropped) }
+{
+    if *mark <= dropped {
+        machine.sweep_aged();
+        *mark = kept;
+    } else {
+        *mark -= dropped;
     }
 }

@@ -1,11 +1,10 @@
 //! A session, told what to do by a table: what each act must answer, and what the session must show.
-use crate::machines::Memory;
 use crate::sessions::{let_go, made};
-use crate::shown::texts_shown;
 use std::alloc::{Allocator, Global};
 use std::process::Abort;
 use trac_faults::Refusing;
 use trac_gap::TwoEnds;
+use trac_machine_tests::{Memory, texts_shown};
 use trac_rules::refusal::Refusal;
 use trac_rules::width::Width;
 use trac_session::{Session, Walk};

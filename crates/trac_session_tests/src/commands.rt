@@ -1,9 +1,9 @@
 //! Lists of commands to a session.
-use crate::machines::Memory;
 use crate::sessions::{let_go, made};
 use std::alloc::Global;
 use std::process::Abort;
 use trac_faults::Refusing;
+use trac_machine_tests::Memory;
 use trac_rules::refusal::Refusal;
 use trac_rules::width::Width;
 use trac_session::{Command, Reply, Session};

@@ -134,12 +134,14 @@ fn bytes_of_records(rt: HostRuntime) {
 // How many names are given and deleted again.
 const NAMES: usize = 2_000;
 
-// A form of this number is put and deleted, and the session commits: how many bytes are held then.
+// A form of this number is put and deleted, and the session commits and keeps so many steps: how many bytes are held
+// then.
 fn put_and_delete(
     rt: &impl Abort,
     alloc: Global,
     heap: Heap<'_>,
     session: &mut Session<Heap<'_>>,
+    keep: usize,
     number: usize,
 ) -> usize {
     let name = format!(in alloc; "a name of some length {:05}", number);
@@ -148,22 +150,31 @@ fn put_and_delete(
     let text = text.expect(rt, "there was no memory");
     feed(session, text.as_bytes()).expect(rt, "it was refused");
     assert!(rt; go_on(session, u64::MAX) == Some(Refusal::NeedInput));
-    session.commit(0);
+    session.commit(keep);
     heap.used()
 }
 
-// Names of deleted forms take nothing once a commit keeps the last state alone.
-#[test]
-fn bytes_of_deleted_names(rt: HostRuntime) {
-    let heap = LocalHeap::new(rt.alloc(), HEAP_SIZE).expect(&rt, "there was no memory");
-    let mut session = new_session(&heap).expect(&rt, "there was no memory");
+// Many forms are put and deleted, with a commit after each that keeps so many steps.
+fn expect_names(rt: &impl Abort, alloc: Global, keep: usize) {
+    let heap = LocalHeap::new(alloc, HEAP_SIZE).expect(rt, "there was no memory");
+    let mut session = new_session(&heap).expect(rt, "there was no memory");
     let mut most = 0;
     for number in 0..NAMES {
-        let held = put_and_delete(&rt, rt.alloc(), &heap, &mut session, number);
+        let held = put_and_delete(rt, alloc, &heap, &mut session, keep, number);
         if number < 9 {
             most = held.max(most);
         }
-        assert!(rt; held <= most, "{held} bytes of {most} at {number}");
+        assert!(rt;
+            held <= most,
+            "{held} bytes of {most} at {number}, {keep} steps kept"
+        );
     }
     let_go(session);
+}
+
+// Names of deleted forms take nothing once a commit keeps the last state alone, or steps that need none of them.
+#[test]
+fn bytes_of_deleted_names(rt: HostRuntime) {
+    expect_names(&rt, rt.alloc(), 0);
+    expect_names(&rt, rt.alloc(), 1);
 }

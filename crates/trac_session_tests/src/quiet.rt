@@ -1,10 +1,10 @@
 //! What may never ask for memory asks for none: while the calls that go back, let go, change what is there or lend it
 //! are made, the count of requests stays. A body that asks, and goes on if it is refused, is proved; it fails here.
-use crate::machines::Memory;
 use crate::sessions::{let_go, made};
 use std::process::Abort;
 use trac_faults::Refusing;
 use trac_forms::{Block, Form, FormError, Store};
+use trac_machine_tests::Memory;
 use trac_rules::refusal::Refusal;
 use trac_rules::width::Width;
 use trac_session::Session;
@@ -41,10 +41,20 @@ fn lent(session: &Session<Memory<'_>>) -> usize {
     texts | name | counts | session.pending().len() | session.pending_before(1).len()
 }
 
+// How much it lends beside these: a form, a block, the arguments of a begun function, and what it counts.
+fn lent_beside(session: &Session<Memory<'_>>) -> usize {
+    let machine = session.machine();
+    let form = machine.store().get(b"A").map_or(0, |form| form.len());
+    let block = machine.store().block(0).map_or(0, |block| block.len());
+    let arguments = machine.frame(0).map_or(0, |frame| frame.1.count());
+    let counts = session.len() | session.weight() as usize;
+    form | block | arguments | counts | session.unread().len()
+}
+
 // A session goes back over each kind of call, and to the start.
 fn all_goes_back(session: &mut Session<Memory<'_>>) -> bool {
     let is_found = go_back_until(session, b"cs");
-    is_found & (lent(session) > 0) & (go_back(session, u64::MAX) > 0)
+    is_found & (lent(session) > 0) & (lent_beside(session) > 0) & (go_back(session, u64::MAX) > 0)
 }
 
 // A session lets steps go, some and then all, and ends its input.

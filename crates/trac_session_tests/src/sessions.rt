@@ -1,9 +1,9 @@
 //! Sessions over memory of which a request may be refused.
 ghost use Rattle.std.specs.Prelude.{◌≤◌};
 
-use crate::machines::Memory;
 use std::alloc::Allocator;
 use std::process::Abort;
+use trac_machine_tests::Memory;
 use trac_rules::limit::JOURNAL_LIMIT;
 use trac_rules::refusal::Refusal;
 use trac_rules::width::Width;

@@ -1,13 +1,11 @@
 //! Whole runs of a session, step by step: to the end, and all the way back, where each state is the one on the way out.
 //! Each request for memory is refused in turn on the way out, and all of them on the way back. With a commit after each
 //! step that keeps so many, the states are the same but for what was released, and the way back goes so far.
-use crate::EACH_PRIMITIVE;
-use crate::machines::{Memory, expect_text, programs};
 use crate::sessions::{let_go, made};
-use crate::shown::shown_after;
 use std::alloc::Global;
 use std::process::Abort;
 use trac_faults::Refusing;
+use trac_machine_tests::{EACH_PRIMITIVE, Memory, expect_text, programs, shown_after};
 use trac_rules::refusal::Refusal;
 use trac_rules::width::Width;
 use trac_session::{Session, Walk};

@@ -21,6 +21,7 @@ use Rattle.trac_forms.specs.Stored.{KnowsAll, Stored}
 use Rattle.trac_text.specs.declared.mark.Mark.{Mark}
 use Rattle.trac_text.specs.Neutral.{AreMarks, MarkedText, Neutral}
 use Rattle.trac_journal.specs.declared.called.Called.{Called}
+use Rattle.trac_storage.specs.Changing.{AreAmong}
 use Rattle.trac_step.specs.Calling.{arguments_in, with_storage}
 use Rattle.trac_step.specs.Layout.{Parts, IsSound, Shown, parts_of, shown_by, state_of}
 use Rattle.trac_text.specs.Pieces.{Arguments, all_texts, frame_in}
@@ -355,8 +356,15 @@ module _ (called : Called) (texts : List (List ℕ)) (undone : Undone) (m : Show
 
       pub no_less_back : IsNoLess m k
       no_less_back =
-          subst (IsNoLess m) (sym (is.others ∙ ap (λ (x : Shown). let y : Shown = record x { state = with_storage (storage_of k.state) n.state; spare = k.spare } in y) begun.others))
-          (record { width = refl; text = omega arith; marks = omega arith; output = omega arith; names = λ name h. h })
+          subst (IsNoLess m) (sym (is.others ∙ ap (λ (x : Shown). let y : Shown = record x { state = with_storage (storage_of k.state) n.state; recent = k.recent; spare = k.spare } in y) begun.others))
+          (record {
+            width = refl;
+            text = omega arith;
+            marks = omega arith;
+            output = omega arith;
+            names = λ name h. h;
+            recent = subst (λ (x : Shown). AreAmong x.recent k.recent) begun.others is.recent;
+          })
 
 -- a text with its marks is the same where both are
 pub marked_same : (text other : List ℕ) (ms others : List Mark) → text ≡ other → ms ≡ others →

@@ -109,7 +109,7 @@ has_marks p s sound view h = has_marks_by (length p.marks) (marks_of_view p s so
 pub rebuilt_parts : (old new : Ends ℕ) (ms ns : Ends Mark) (store kept : Stored) (meta : ℕ) (trace : Bool) (position : ℕ) (output copy : Window ℕ) →
     new.left ≡ old.left → new.right ≡ old.right → ns.left ≡ ms.left → storage_in kept ≡ storage_in store → copy.items ≡ output.items →
     parts_of new ns kept meta trace position copy
-    ≡ record (parts_of old ms store meta trace position output) { text_room = new.capacity; mark_room = ns.capacity; output_room = copy.capacity; known = kept.known; spare = kept.spare }
+    ≡ record (parts_of old ms store meta trace position output) { text_room = new.capacity; mark_room = ns.capacity; output_room = copy.capacity; known = kept.known; recent = kept.recent; spare = kept.spare }
 rebuilt_parts old new ms ns store kept meta trace position output copy left right marks same items i =
     record (parts_of old ms store meta trace position output) {
       active = right i;
@@ -121,6 +121,7 @@ rebuilt_parts old new ms ns store kept meta trace position output copy left righ
       mark_room = ns.capacity;
       output_room = copy.capacity;
       known = kept.known;
+      recent = kept.recent;
       spare = kept.spare;
     }
 
@@ -141,6 +142,7 @@ first_parts text_room output_room = record {
   mark_room = 0;
   output_room = output_room;
   known = set.empty;
+  recent = set.empty;
   spare = 0;
 }
 

@@ -188,6 +188,7 @@ ended old cut_off put ms kept store meta trace position output meta_now trace_no
       mark_room = (kept_is i).capacity;
       output_room = printed.capacity;
       known = store.known;
+      recent = store.recent;
       spare = store.spare;
     }) in
     let room = ap (λ (x : Ends ℕ). x.capacity) put_at ∙ value_capacity b.kind plan.forced made.value.items (record { left = take b.place old.left; right = drop 1 old.right; capacity = old.capacity }) in

@@ -18,11 +18,11 @@ use Rattle.trac_step.proofs.Rules.{text_bytes-parts, marks-parts}
 -- ---- no less room
 
 pub no_less : (m : Shown) → IsNoLess m m
-no_less m = record { width = refl; text = omega arith; marks = omega arith; output = omega arith; names = λ name h. h }
+no_less m = record { width = refl; text = omega arith; marks = omega arith; output = omega arith; names = λ name h. h; recent = λ name h. h }
 
 -- another state with the same rooms and names
 pub no_less_state : (m : Shown) (s : State) → IsNoLess m (record m { state = s })
-no_less_state m s = record { width = refl; text = omega arith; marks = omega arith; output = omega arith; names = λ name h. h }
+no_less_state m s = record { width = refl; text = omega arith; marks = omega arith; output = omega arith; names = λ name h. h; recent = λ name h. h }
 
 pub no_less_then : (m n k : Shown) → IsNoLess m n → IsNoLess n k → IsNoLess m k
 no_less_then m n k first second = record {
@@ -31,6 +31,7 @@ no_less_then m n k first second = record {
   marks = omega (arith, first.marks, second.marks);
   output = omega (arith, first.output, second.output);
   names = λ name h. second.names name (first.names name h);
+  recent = λ name h. second.recent name (first.recent name h);
 }
 
 -- rooms that are no less hold what the earlier ones held
@@ -68,6 +69,6 @@ HasRoom-parts {width} p m sound view output names = subst (λ (n : Shown). HasRo
 })
 
 -- parts with no less room than those of a machine
-pub IsNoLess-parts : {width : Width} (p q : Parts) (m : Shown) → shown_by width p ≡ m → p.text_room ≤ q.text_room → p.mark_room ≤ q.mark_room → p.output_room ≤ q.output_room → AreAmong p.known q.known →
+pub IsNoLess-parts : {width : Width} (p q : Parts) (m : Shown) → shown_by width p ≡ m → p.text_room ≤ q.text_room → p.mark_room ≤ q.mark_room → p.output_room ≤ q.output_room → AreAmong p.known q.known → AreAmong p.recent q.recent →
     IsNoLess m (shown_by width q)
-IsNoLess-parts {width} p q m view text marks output names = subst (λ (n : Shown). IsNoLess n (shown_by width q)) view (record { width = refl; text = text; marks = marks; output = output; names = names })
+IsNoLess-parts {width} p q m view text marks output names recent = subst (λ (n : Shown). IsNoLess n (shown_by width q)) view (record { width = refl; text = text; marks = marks; output = output; names = names; recent = recent })

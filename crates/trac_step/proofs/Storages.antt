@@ -28,21 +28,21 @@ use Rattle.trac_step.proofs.Scans.{scan_front}
 -- they show the same but for forms and blocks, and what can be put without more memory
 pub changed_shows : {width : Width} (text : Ends ℕ) (ms : Ends Mark) (store after : Stored) (meta : ℕ) (trace : Bool) (position : ℕ) (output : Window ℕ) (m : Shown) →
     shown_by width (parts_of text ms store meta trace position output) ≡ m →
-    shown_by width (parts_of text ms after meta trace position output) ≡ record m { state = with_storage (storage_in after) m.state; known = after.known; spare = after.spare }
+    shown_by width (parts_of text ms after meta trace position output) ≡ record m { state = with_storage (storage_in after) m.state; known = after.known; recent = after.recent; spare = after.spare }
 changed_shows text ms store after meta trace position output m view =
-    ap (λ (n : Shown). let other : Shown = record n { state = with_storage (storage_in after) n.state; known = after.known; spare = after.spare } in other) view
+    ap (λ (n : Shown). let other : Shown = record n { state = with_storage (storage_in after) n.state; known = after.known; recent = after.recent; spare = after.spare } in other) view
 
 -- they show the same but for forms and blocks
 pub stored_shows : {width : Width} (text : Ends ℕ) (ms : Ends Mark) (store after : Stored) (meta : ℕ) (trace : Bool) (position : ℕ) (output : Window ℕ) (m : Shown) (storage : Storage) →
     shown_by width (parts_of text ms store meta trace position output) ≡ m → storage_in after ≡ storage → after.known ≡ store.known →
-    shown_by width (parts_of text ms after meta trace position output) ≡ record m { state = with_storage storage m.state; spare = after.spare }
+    shown_by width (parts_of text ms after meta trace position output) ≡ record m { state = with_storage storage m.state; recent = after.recent; spare = after.spare }
 stored_shows {width} text ms store after meta trace position output m storage view is known =
     (λ i. record (shown_by width (parts_of text ms after meta trace position output)) { state = with_storage (is i) (state_of (parts_of text ms store meta trace position output)); known = known i })
-    ∙ ap (λ (n : Shown). let other : Shown = record n { state = with_storage storage n.state; spare = after.spare } in other) view
+    ∙ ap (λ (n : Shown). let other : Shown = record n { state = with_storage storage n.state; recent = after.recent; spare = after.spare } in other) view
 
 -- and are sound, where these are proper
-pub stored_sound : (p : Parts) (storage : Storage) (known : Names) (spare : ℕ) → IsSound p → IsProperStorage storage → IsSound (record p { storage = storage; known = known; spare = spare })
-stored_sound p storage known spare sound proper = record {
+pub stored_sound : (p : Parts) (storage : Storage) (known recent : Names) (spare : ℕ) → IsSound p → IsProperStorage storage → IsSound (record p { storage = storage; known = known; recent = recent; spare = spare })
+stored_sound p storage known recent spare sound proper = record {
   ordered = sound.ordered;
   text_limit = sound.text_limit;
   mark_limit = sound.mark_limit;

@@ -17,7 +17,8 @@ use Rattle.trac_text.specs.Neutral.{MarkedText, IsOrdered, neutral_of}
 -- ---- the state
 
 -- active text, neutral text, its marks from the first on, the storage, and the rest; how many bytes, marks and bytes of
--- output the machine has room for; the names for which its store has a place, and how many more blocks have one
+-- output the machine has room for; the names for which its store has a place, those of them that are recent, and how
+-- many more blocks have one
 pub record Parts : Type 0 where
   pub active : List ℕ
   pub text : List ℕ
@@ -31,6 +32,7 @@ pub record Parts : Type 0 where
   pub mark_room : ℕ
   pub output_room : ℕ
   pub known : Names
+  pub recent : Names
   pub spare : ℕ
 
 -- the parts as a machine holds them
@@ -48,6 +50,7 @@ parts_of text marks store meta trace position output = record {
   mark_room = marks.capacity;
   output_room = output.capacity;
   known = store.known;
+  recent = store.recent;
   spare = store.spare;
 }
 
@@ -86,7 +89,8 @@ pub record IsMachine (functions : ℕ) (p : Parts) : Type 0 where
 -- ---- what a contract sees of a machine
 
 -- its state; how wide numbers are; how many bytes of texts, how many marks and how many bytes of output it has room for
--- without more memory; the names under which it can put a form without more memory, and how many blocks it can add so
+-- without more memory; the names under which it can put a form without more memory, those of them that a sweep of aged
+-- names leaves, and how many blocks it can add without more memory
 pub record Shown : Type 0 where
   pub state : State
   pub width : Width
@@ -94,6 +98,7 @@ pub record Shown : Type 0 where
   pub mark_room : ℕ
   pub output_room : ℕ
   pub known : Names
+  pub recent : Names
   pub spare : ℕ
 
 abbrev pub shown_by : Width → Parts → Shown
@@ -104,18 +109,22 @@ shown_by width p = record {
   mark_room = p.mark_room;
   output_room = p.output_room;
   known = p.known;
+  recent = p.recent;
   spare = p.spare;
 }
 
 abbrev pub shown_code : Coded Shown
-shown_code = code_by (State × (Width × (ℕ × (ℕ × (ℕ × (Names × ℕ)))))) (coded× state_code
-    (coded× width_code (coded× coded_ℕ (coded× coded_ℕ (coded× coded_ℕ (coded× (set.code text_code) coded_ℕ))))))
-    (λ m. (m.state, (m.width, (m.text_room, (m.mark_room, (m.output_room, (m.known, m.spare))))))) (λ p. record {
+shown_code = code_by (State × (Width × (ℕ × (ℕ × (ℕ × (Names × (Names × ℕ))))))) (coded× state_code
+    (coded× width_code (coded× coded_ℕ
+    (coded× coded_ℕ (coded× coded_ℕ (coded× (set.code text_code) (coded× (set.code text_code) coded_ℕ)))))))
+    (λ m. (m.state, (m.width, (m.text_room, (m.mark_room, (m.output_room, (m.known, (m.recent, m.spare))))))))
+    (λ p. record {
       state = p.0;
       width = p.1.0;
       text_room = p.1.1.0;
       mark_room = p.1.1.1.0;
       output_room = p.1.1.1.1.0;
       known = p.1.1.1.1.1.0;
-      spare = p.1.1.1.1.1.1;
+      recent = p.1.1.1.1.1.1.0;
+      spare = p.1.1.1.1.1.1.1;
     }) (λ _. refl)

@@ -16,13 +16,15 @@ pub record HasRoom (m : Shown) (s : State) : Type 0 where
   pub output : length s.output ≤ m.output_room
   pub names : KnowsAll m.known s.forms
 
--- a machine has no less room than it had, and has forgotten no name; its numbers are as wide as they were
+-- a machine has no less room than it had, and has forgotten no name; those that were recent are; its numbers are as
+-- wide as they were
 pub record IsNoLess (old new : Shown) : Type 0 where
   pub width : new.width ≡ old.width
   pub text : old.text_room ≤ new.text_room
   pub marks : old.mark_room ≤ new.mark_room
   pub output : old.output_room ≤ new.output_room
   pub names : AreAmong old.known new.known
+  pub recent : AreAmong old.recent new.recent
 
 -- the next step lacks room: if it is one of scanning, and not the one that empties all texts, the machine has no room
 -- for the state to which it leads. Of any other step this says nothing

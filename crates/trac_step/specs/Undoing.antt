@@ -10,6 +10,7 @@ use Rattle.trac_rules.specs.Undone.{Nothing, Undone, storage_before}
 use Rattle.trac_journal.specs.declared.called.Called.{Called}
 use Rattle.trac_journal.specs.Told.{record_with}
 use Rattle.trac_forms.specs.Stored.{KnowsAll}
+use Rattle.trac_storage.specs.Changing.{AreAmong}
 use Rattle.trac_step.specs.Calling.{arguments_in, with_storage}
 use Rattle.trac_step.specs.Layout.{Shown}
 use Rattle.trac_step.specs.Room.{HasRoom}
@@ -34,7 +35,13 @@ pub record CanRestore (undone : Undone) (m : Shown) : Type 0 where
   pub there : IsSomeAnd (storage_before (arguments_in (scan m.state)) undone (storage_of m.state))
       (λ storage. KnowsAll m.known storage.forms × IsProperStorage storage)
 
--- it shows forms and blocks as they were before the call at which it stands, and all else as it was
+-- it shows forms and blocks as they were before the call at which it stands, and all else as it was; names that were
+-- recent are
 pub record IsRestored (undone : Undone) (old new : Shown) : Type 0 where
   pub back : storage_before (arguments_in (scan old.state)) undone (storage_of old.state) ≡ Some (storage_of new.state)
-  pub others : new ≡ record old { state = with_storage (storage_of new.state) old.state; spare = new.spare }
+  pub others : new ≡ record old {
+    state = with_storage (storage_of new.state) old.state;
+    recent = new.recent;
+    spare = new.spare;
+  }
+  pub recent : AreAmong old.recent new.recent

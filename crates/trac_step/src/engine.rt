@@ -19,7 +19,7 @@ use trac_text::{Mark, ends};
 /// on the right; its marks stand on the left of the other. It is seen as the state that it shows, which is always a
 /// proper one; how wide its numbers are, which nothing changes; how many bytes of texts, how many marks and how many
 /// bytes of output it has room for without more memory; and the names under which it can put a form, and how many
-/// blocks it can add, without more memory.
+/// blocks it can add, without more memory; and those of the names that are recent, which `sweep_aged` leaves.
 #[derive(Drop)]
 pub struct Core<E: TwoEnds<u8, A>, M: TwoEnds<Mark, A>, A: Allocator + Copy> {
     pub(crate) text: E,
@@ -81,13 +81,26 @@ impl<E: TwoEnds<u8, A>, M: TwoEnds<Mark, A>, A: Allocator + Copy> Core<E, M, A> 
     /// Empties the output and begins to count the input anew: what is printed is released, and what is read is dropped.
     /// Names without a form are forgotten, and all others stay known. It takes no memory, and keeps the machine's room.
     pub fn settle(&mut self)
-        ensures { self.new ≡
-            record self.old { state = settled self.old.state; known = set.from_list (names_of self.old.state.forms) } }
+        ensures { self.new ≡ record self.old {
+          state = settled self.old.state;
+          known = set.from_list (names_of self.old.state.forms);
+          recent = set.from_list (names_of self.old.state.forms);
+        } }
     {
         let printed = self.output.len();
         let read = self.position;
         self.release(printed, read);
         self.store.sweep();
+    }
+
+    /// Forgets the names that are not recent, none of which has a form. Of the others those of forms alone are recent
+    /// then. A name becomes recent when a form is put under it, and stays so until a sweep finds it without a form. It
+    /// takes no memory, and time for the names that it forgets alone.
+    pub fn sweep_aged(&mut self)
+        ensures { self.new
+            ≡ record self.old { known = self.old.recent; recent = set.from_list (names_of self.old.state.forms) } }
+    {
+        self.store.sweep_aged();
     }
 
     /// Releases so many bytes of the front of the output, which has to be that long, and takes so many bytes of the

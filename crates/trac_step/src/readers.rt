@@ -1,5 +1,6 @@
 //! The readers of a machine's state.
 ghost use Rattle.std.specs.Prelude.{◌≡◌, ◌+◌, ◌≤◌, length, reverse, slice_get, None, Some, MatchOption};
+ghost use Rattle.trac_forms.specs.Stored.{KnowsAll};
 ghost use Rattle.trac_text.specs.Frames.{IsFrame};
 ghost use Rattle.trac_text.specs.Neutral.{neutral_of};
 ghost use Rattle.trac_rules.specs.Limits.{argument_bytes};
@@ -77,12 +78,14 @@ impl<E: TwoEnds<u8, A>, M: TwoEnds<Mark, A>, A: Allocator + Copy> Core<E, M, A> 
         Some(arguments.get(0))
     }
 
-    /// The forms by their names, the blocks, the names that have a place, and how many more blocks have one.
+    /// The forms by their names, the blocks, the names that have a place, those of them that are recent, and how many
+    /// more blocks have a place.
     pub fn store(&self) -> &Store<A>
         ensures { result.now ≡ record {
           forms = self.now.state.forms;
           blocks = self.now.state.blocks;
           known = self.now.known;
+          recent = self.now.recent;
           spare = self.now.spare;
         } }
     {
@@ -118,10 +121,11 @@ impl<E: TwoEnds<u8, A>, M: TwoEnds<Mark, A>, A: Allocator + Copy> Core<E, M, A> 
     }
 
     /// How wide numbers are: as the machine was made, and nothing changes it. Whatever state it shows, a machine has
-    /// room for that, and knows the names of its forms.
+    /// room for that, and knows the names of its forms, which are recent.
     pub fn width(&self) -> Width
         ensures width { result ≡ self.now.width }
         ensures room { HasRoom self.now self.now.state }
+        ensures recent { KnowsAll self.now.recent self.now.state.forms }
     {
         self.recall_room();
         self.width

@@ -1,6 +1,7 @@
 //! What the rules of scanning do to the machine's own texts and marks. `moves.rt` says which rule does what.
 ghost use Rattle.std.specs.Prelude.{◌≡◌, ◌<◌, ◌≤◌, ◌+◌, ◌++◌, false, get_or, is_some, length, take, drop, None};
 ghost use Rattle.std.specs.Prelude.{IsOkUnless, OnErr, OnOk, ℕ};
+ghost use Rattle.trac_forms.specs.Stored.{KnowsAll};
 ghost use Rattle.trac_rules.specs.Matching.{match_of, protected};
 ghost use Rattle.trac_rules.specs.Scanning.{protect, deleted, gather_first};
 ghost use Rattle.trac_rules.specs.Limits.{marks};
@@ -90,6 +91,7 @@ impl<E: TwoEnds<u8, A>, M: TwoEnds<Mark, A>, A: Allocator + Copy> Core<E, M, A> 
         ensures most { result ≤ most }
         ensures proper { IsProper self.old.state }
         ensures held { (k : ℕ) → k ≤ result → HasRoom self.old (moved_on k self.old.state) }
+        ensures recent { KnowsAll self.old.recent self.old.state.forms }
         ensures end { result < most → result < length self.old.state.active →
             is_plain (get_or self.old.state.active result 0) ≡ false }
     {

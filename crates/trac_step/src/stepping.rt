@@ -1,6 +1,7 @@
 //! One step of the machine: it performs a function, or carries out a rule of scanning and performs none. If no function
 //! is begun, the step at a `)` deletes it, and is a step of scanning.
 ghost use Rattle.std.specs.Prelude.{◌≡◌, ◌<◌, ◌≤◌, ◌^◌, length, IfOk, IfErr, OnErr, OnOk, Ok, Some};
+ghost use Rattle.trac_forms.specs.Stored.{KnowsAll};
 ghost use Rattle.trac_rules.specs.declared.limit.TheConstants.{JOURNAL_LIMIT};
 ghost use Rattle.trac_rules.specs.Outcomes.{MayRefuse};
 ghost use Rattle.trac_rules.specs.Proper.{IsProper};
@@ -101,6 +102,7 @@ impl<E: TwoEnds<u8, A>, M: TwoEnds<Mark, A>, A: Allocator + Copy> Core<E, M, A> 
             journal.old.records journal.new.records) }
         ensures proper { OnOk result (IsProper self.new.state) }
         ensures held { OnOk result (HasRoom self.new self.old.state) }
+        ensures recent { KnowsAll self.new.recent self.old.state.forms }
         ensures refused { IfErr result (MayRefuse (step (environment_of self.old.width tape.entry) self.old.state)) }
         ensures unchanged { OnErr result
             ((self.new.state ≡ self.old.state) × (journal.new.records ≡ journal.old.records)) }
@@ -148,10 +150,11 @@ impl<E: TwoEnds<u8, A>, M: TwoEnds<Mark, A>, A: Allocator + Copy> Core<E, M, A> 
     }
 
     // Does nothing when it runs. Its two calls tell the prover what holds of every machine: its state is within all
-    // limits, and the machine has room for this state.
+    // limits, and the machine has room for this state, of whose forms it has the names as recent ones.
     pub(crate) fn recall_room(&self)
         ensures proper { IsProper self.now.state }
         ensures room { HasRoom self.now self.now.state }
+        ensures recent { KnowsAll self.now.recent self.now.state.forms }
     {
         let _room = self.output.capacity();
         self.store.knows_its_forms();

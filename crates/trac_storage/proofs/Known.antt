@@ -1,15 +1,17 @@
 -- Names that are known.
 use Rattle.std.proofs.Common.{◌≡◌, ℕ, List, [], ◌∷◌, refl, sym, ap, subst, ◌∙◌, IsTrue}
-use Rattle.std.specs.Prelude.{Result, Ok, Err, OnErr, OnOk}
+use Rattle.std.specs.Prelude.{Option, None, Some, Result, Ok, Err, OnErr, OnOk}
 use Rattle.std.proofs.lemmas.Bool.{or_right}
 use Rattle.std.specs.Cmp.Lexicographic.{slice_cmp, nat_list_cmp_total}
 use Rattle.std.specs.FinSet as set
 use Rattle.std.specs.Ordering.{nat_cmp, eq_by_cmp}
 use Rattle.trac_forms.specs.Stored.{Names}
 use Rattle.trac_forms.proofs.Tables.{known_then}
+use Rattle.trac_rules.specs.Form.{Form}
 use Rattle.trac_rules.specs.State.{Held}
 use Rattle.trac_rules.specs.Undone.{names_in}
 use Rattle.trac_storage.specs.Changing.{AreAmong, KnowsNamed, KnowsSome, knowing}
+use Rattle.trac_storage.specs.Returning.{recent_back}
 
 -- one more name
 pub among_more : (known more : Names) (name : List ℕ) → more ≡ set.insert known name → AreAmong known more
@@ -33,6 +35,15 @@ knows_same names known same is = (
   λ q h. subst (λ (ns : Names). IsTrue (set.contains ns q)) (sym is) h,
   λ q h. stay_known names known q (subst (λ (ns : Names). IsTrue (set.contains ns q)) is h),
 )
+
+-- nor was one lost
+pub among_same : (names same : Names) → same ≡ names → AreAmong names same
+among_same names same is = λ q h. subst (λ (ns : Names). IsTrue (set.contains ns q)) (sym is) h
+
+-- a form is put back, or none
+pub among_back : (name : List ℕ) (old : Option Form) (recent : Names) → AreAmong recent (recent_back name old recent)
+among_back name None recent = λ q h. h
+among_back name (Some form) recent = among_more recent (set.insert recent name) name refl
 
 -- whether the call was refused or not
 pub same_names : {X E : Type 0} (result : Result X E) {known same : Names} → same ≡ known → OnOk result (same ≡ known) × OnErr result (KnowsSome [] known same)

@@ -5,7 +5,7 @@ ghost use Rattle.trac_rules.specs.Handling.{without};
 ghost use Rattle.trac_rules.specs.Undone.{names_in};
 ghost use Rattle.trac_change.specs.Changed.{named_forms};
 ghost use Rattle.trac_text.specs.Framing.{texts_of};
-ghost use Rattle.trac_storage.specs.Changing.{KnowsNamed, KnowsSome, knowing};
+ghost use Rattle.trac_storage.specs.Changing.{AreAmong, KnowsNamed, KnowsSome, knowing};
 
 use std::alloc::Allocator;
 use trac_forms::{Block, Form, FormError, Store};
@@ -20,7 +20,8 @@ pub(crate) fn know_each<A: Allocator + Copy>(
 ) -> Result<(), FormError>
     ensures names { OnOk result (store.new.known ≡ knowing (names_in (named_forms forms.now)) store.old.known) }
     ensures some { OnErr result (KnowsSome (names_in (named_forms forms.now)) store.old.known store.new.known) }
-    ensures stays { store.new ≡ record store.old { known = store.new.known } }
+    ensures recent { AreAmong store.old.recent store.new.recent }
+    ensures stays { store.new ≡ record store.old { known = store.new.known; recent = store.new.recent } }
     ensures err { IsOkUnless result FormError.Memory }
 {
     for (name, _form) in forms {
@@ -48,10 +49,13 @@ pub(crate) fn move_into<A: Allocator + Copy>(
     }
 }
 
-// Puts forms under their names, which are known.
+// Puts forms under their names, which are known, and are recent then.
 pub(crate) fn put_each<A: Allocator + Copy>(store: &mut Store<A>, forms: Vec<Named<A>, A>)
     requires { KnowsNamed (named_forms forms.items) store.old.known }
-    ensures { store.new ≡ record store.old { forms = with_all (named_forms forms.items) store.old.forms } }
+    ensures { store.new ≡ record store.old {
+      forms = with_all (named_forms forms.items) store.old.forms;
+      recent = knowing (names_in (named_forms forms.items)) store.old.recent;
+    } }
 {
     for (name, form) in forms {
         store.put(name.as_slice(), form);

@@ -12,7 +12,8 @@ ghost use Rattle.trac_forms.specs.Stored.{storage_in};
 ghost use Rattle.trac_change.specs.Changes.{PiecesAreOf, cut_lost, undone_of};
 ghost use Rattle.trac_change.specs.Changed.{changed, cut_in, pointed, with_form};
 ghost use Rattle.trac_text.specs.Framing.{texts_of};
-ghost use Rattle.trac_storage.specs.Changing.{HasPlaces, IsOther, KnowsSome, TakesNone, knowing, names_put};
+ghost use Rattle.trac_storage.specs.Changing.{AreAmong, HasPlaces, IsOther, KnowsSome, TakesNone, knowing};
+ghost use Rattle.trac_storage.specs.Changing.{names_put};
 ghost use Rattle.trac_change.specs.Undone.{undone_in};
 
 use crate::blocking::move_into;
@@ -25,8 +26,9 @@ use trac_rules::refusal::Refusal;
 use trac_text::Args;
 
 /// Changes forms and blocks as a call of these arguments planned it, and returns what that destroyed. The names under
-/// which it puts forms are known then, and no other name becomes known or is forgotten. What stands in `change` after
-/// it is not claimed: what was planned may have been taken out of there, even if the call is refused.
+/// which it puts forms are known then, and no other name becomes known or is forgotten. Names that are recent stay so.
+/// What stands in `change` after it is not claimed: what was planned may have been taken out of there, even if the call
+/// is refused.
 ///
 /// Refused with `Memory` if the allocator refuses, and then forms and blocks are as before. Setting a pointer, cutting
 /// and erasing take no memory, and putting a form takes some only if its name is not known. But for that, these are
@@ -45,6 +47,7 @@ pub fn change_forms<A: Allocator + Copy>(
     ensures unchanged { OnErr result (storage_in store.new ≡ storage_in store.old) }
     ensures names { OnOk result (store.new.known ≡ knowing (names_put arguments.now change.old) store.old.known) }
     ensures some { OnErr result (KnowsSome (names_put arguments.now change.old) store.old.known store.new.known) }
+    ensures recent { AreAmong store.old.recent store.new.recent }
     ensures places { HasPlaces change.old store.old.spare store.new.spare }
     ensures free { TakesNone arguments.now store.old.known change.old → IsOk result }
     ensures err { IsOkUnless result Refusal.Memory }
@@ -78,6 +81,7 @@ fn change_other<A: Allocator + Copy>(
     ensures unchanged { OnErr result (storage_in store.new ≡ storage_in store.old) }
     ensures names { OnOk result (store.new.known ≡ knowing (names_put arguments.now change) store.old.known) }
     ensures some { OnErr result (KnowsSome (names_put arguments.now change) store.old.known store.new.known) }
+    ensures recent { AreAmong store.old.recent store.new.recent }
     ensures places { HasPlaces change store.old.spare store.new.spare }
     ensures free { TakesNone arguments.now store.old.known change → IsOk result }
     ensures err { IsOkUnless result Refusal.Memory }
@@ -108,6 +112,7 @@ fn cut_out<A: Allocator + Copy>(
         ≡ cut_in name.now (drop 2 arguments.now) (finite.get store.old.forms name.now) (storage_in store.old) }
     ensures undone { undone_in result ≡ cut_lost cut (finite.get store.old.forms name.now) }
     ensures names { store.new.known ≡ store.old.known }
+    ensures recent { AreAmong store.old.recent store.new.recent }
     ensures places { store.new.spare ≡ store.old.spare }
 {
     match store.segment(name, &cut, &after(arguments, 2)) {
@@ -123,6 +128,7 @@ fn set_pointer<A: Allocator + Copy>(store: &mut Store<A>, name: &[u8], place: us
         ≡ pointed name.now place (finite.get store.old.forms name.now) (storage_in store.old) }
     ensures undone { undone_in result ≡ pointer_lost (finite.get store.old.forms name.now) }
     ensures names { store.new.known ≡ store.old.known }
+    ensures recent { AreAmong store.old.recent store.new.recent }
     ensures places { store.new.spare ≡ store.old.spare }
 {
     match store.set_pointer(name, place) {
@@ -148,6 +154,7 @@ fn put_aside<A: Allocator + Copy>(
     ensures unchanged { OnErr result (storage_in store.new ≡ storage_in store.old) }
     ensures names { OnOk result (store.new.known ≡ set.insert store.old.known name.now) }
     ensures same { OnErr result (store.new.known ≡ store.old.known) }
+    ensures recent { AreAmong store.old.recent store.new.recent }
     ensures places { store.old.spare ≤ store.new.spare + 1 }
     ensures err { IsOkUnless result Refusal.Memory }
 {
@@ -166,6 +173,7 @@ fn erase<A: Allocator + Copy>(store: &mut Store<A>, number: usize, name: &[u8]) 
     ensures undone { undone_in result
         ≡ block_lost (Some number) (finite.get store.old.forms name.now) store.old.blocks }
     ensures names { store.new.known ≡ store.old.known }
+    ensures recent { AreAmong store.old.recent store.new.recent }
     ensures places { store.new.spare ≡ store.old.spare }
 {
     let Some(block) = store.take_block(number) else {

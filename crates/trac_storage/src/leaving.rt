@@ -8,7 +8,7 @@ ghost use Rattle.trac_change.specs.Changed.{named_forms};
 ghost use Rattle.trac_change.specs.Undone.{undone_in};
 ghost use Rattle.trac_text.specs.Framing.{texts_of};
 ghost use Rattle.trac_rules.specs.Undone.{Restore, Unbring, names_in};
-ghost use Rattle.trac_storage.specs.Changing.{KnowsSome, knowing};
+ghost use Rattle.trac_storage.specs.Changing.{AreAmong, KnowsSome, knowing};
 
 use crate::blocking::{Named, know_each};
 use std::alloc::Allocator;
@@ -29,6 +29,7 @@ pub(crate) fn delete_each<A: Allocator + Copy>(
         (λ undone. undone_in undone ≡ Restore (moved_out (texts_of names.items) store.old.forms)) }
     ensures unchanged { OnErr result (storage_in store.new ≡ storage_in store.old) }
     ensures names { store.new.known ≡ store.old.known }
+    ensures recent { AreAmong store.old.recent store.new.recent }
     ensures places { store.new.spare ≡ store.old.spare }
     ensures err { IsOkUnless result Refusal.Memory }
 {
@@ -50,6 +51,7 @@ pub(crate) fn delete_all<A: Allocator + Copy>(
     ensures undone { IfOk result (λ undone. undone_in undone ≡ Restore (finite.entries store.old.forms)) }
     ensures unchanged { OnErr result (storage_in store.new ≡ storage_in store.old) }
     ensures names { store.new.known ≡ store.old.known }
+    ensures recent { AreAmong store.old.recent store.new.recent }
     ensures places { store.new.spare ≡ store.old.spare }
     ensures err { IsOkUnless result Refusal.Memory }
 {
@@ -89,6 +91,7 @@ pub(crate) fn bring<A: Allocator + Copy>(
     ensures unchanged { OnErr result (storage_in store.new ≡ storage_in store.old) }
     ensures names { OnOk result (store.new.known ≡ knowing (names_in (named_forms forms.items)) store.old.known) }
     ensures some { OnErr result (KnowsSome (names_in (named_forms forms.items)) store.old.known store.new.known) }
+    ensures recent { AreAmong store.old.recent store.new.recent }
     ensures places { store.new.spare ≡ store.old.spare }
     ensures err { IsOkUnless result Refusal.Memory }
 {

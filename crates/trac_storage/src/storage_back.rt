@@ -4,7 +4,8 @@ ghost use Rattle.trac_rules.specs.Handling.{keeping};
 ghost use Rattle.trac_rules.specs.Undone.{MoveOut, storage_before, swapped_back, unbrought};
 ghost use Rattle.trac_forms.specs.Stored.{storage_in};
 ghost use Rattle.trac_change.specs.Changed.{named_forms};
-ghost use Rattle.trac_storage.specs.Returning.{KnowsBefore};
+ghost use Rattle.trac_storage.specs.Changing.{AreAmong};
+ghost use Rattle.trac_storage.specs.Returning.{KnowsBefore, recent_back};
 ghost use Rattle.trac_change.specs.Undone.{undone_in};
 
 use crate::blocking::put_each;
@@ -14,6 +15,7 @@ use trac_forms::{Form, Store};
 use trac_text::Args;
 
 /// Puts back what a call of these arguments destroyed of forms and blocks. It takes no memory, and forgets no name.
+/// Names that are recent stay so.
 /// There have to be forms and blocks before the call (`storage_before`), and the names of these forms have to be known.
 pub fn put_storage<A: Allocator + Copy>(
     store: &mut Store<A>,
@@ -24,6 +26,7 @@ pub fn put_storage<A: Allocator + Copy>(
     ensures storage { storage_before arguments.now (undone_in undone) (storage_in store.old)
         ≡ Some (storage_in store.new) }
     ensures names { store.new.known ≡ store.old.known }
+    ensures recent { AreAmong store.old.recent store.new.recent }
 {
     let name = arguments.get(1);
     match undone {
@@ -51,7 +54,10 @@ pub fn put_storage<A: Allocator + Copy>(
 fn swap<A: Allocator + Copy>(store: &mut Store<A>, name: &[u8], old: Option<Form<A>>)
     requires { KnowsBefore store.old.known
         (Some (keeping (swapped_back name.now old store.old.forms) (storage_in store.old))) }
-    ensures { store.new ≡ record store.old { forms = swapped_back name.now old store.old.forms } }
+    ensures { store.new ≡ record store.old {
+      forms = swapped_back name.now old store.old.forms;
+      recent = recent_back name.now old store.old.recent;
+    } }
 {
     match old {
         Some(form) => store.put(name, form),
@@ -65,6 +71,7 @@ fn move_out<A: Allocator + Copy>(store: &mut Store<A>, arguments: &Args<'_>, old
     requires { KnowsBefore store.old.known (storage_before arguments.now (MoveOut old) (storage_in store.old)) }
     ensures storage { storage_before arguments.now (MoveOut old) (storage_in store.old) ≡ Some (storage_in store.new) }
     ensures names { store.new.known ≡ store.old.known }
+    ensures recent { AreAmong store.old.recent store.new.recent }
 {
     let name = arguments.get(1);
     let Some(mut block) = store.pop_block() else {
@@ -88,6 +95,7 @@ fn unbring<A: Allocator + Copy>(
     ensures storage { unbrought number (named_forms replaced.items) (storage_in store.old)
         ≡ Some (storage_in store.new) }
     ensures names { store.new.known ≡ store.old.known }
+    ensures recent { AreAmong store.old.recent store.new.recent }
 {
     let Some(block) = store.take_block(number) else {
         unreachable!()

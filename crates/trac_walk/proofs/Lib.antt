@@ -1,5 +1,2 @@
 pub mod Ended
 pub mod SaidOfWays
-pub mod Searched
-pub mod SearchedOn
-pub mod SteppedBack

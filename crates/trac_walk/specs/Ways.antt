@@ -1,8 +1,8 @@
 -- What is said of the way of a byte: the calls that passed it on, each with the number of its step and what it did.
 use Rattle.std.specs.Prelude.{◌≡◌, ◌≢◌, ◌+◌, ◌-◌, ◌^◌, ◌++◌, ℕ, List, [], ◌∷◌, length, map, min, nat_lt, take}
 use Rattle.std.specs.Prelude.{if◌then◌else◌}
-use Rattle.trac_screen.specs.declared.way.Treatment.{Treatment}
-use Rattle.trac_screen.specs.declared.way.Treatment.TheVariants.{Prints, Puts, Gives}
+use Rattle.trac_person_lines.specs.declared.way.Treatment.{Treatment}
+use Rattle.trac_person_lines.specs.declared.way.Treatment.TheVariants.{Prints, Puts, Gives}
 use Rattle.trac_origins.specs.Places.{Place, InForm, InHeld, InOutput}
 use Rattle.trac_follow.specs.declared.tracing.End.{End}
 use Rattle.trac_follow.specs.declared.tracing.End.TheVariants.{Untold}
@@ -53,7 +53,3 @@ pub record HasTold {A : Type 0} (step : ℕ) (calls : List Passing) (way : Way A
 -- so it is after a trace, unless memory was refused to say more
 abbrev pub AreTold : {A : Type 0} → ℕ → List Passing → End → Way A → Type 0
 AreTold step calls end way = end ≢ Untold → HasTold step calls way
-
--- the number of the step that comes next, if so many are forgotten and so many kept, as far as 64 bits count
-abbrev pub number_of_step : ℕ → ℕ → ℕ
-number_of_step forgotten kept = min (forgotten + kept) (2 ^ 64 - 1)

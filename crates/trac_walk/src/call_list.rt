@@ -1,11 +1,11 @@
 //! The last calls with their values.
 
-use crate::aim::Aim;
 use crate::telling::Telling;
-use crate::walker::Walker;
 use std::alloc::{AllocError, Allocator};
-use trac_screen::{Before, ScreenLine, Stop, call_into, outcome_into, takes_default};
+use trac_moves::{Aim, Walker};
+use trac_person_lines::{Before, ScreenLine, Stop, call_into, outcome_into};
 use trac_session::Refusal;
+use trac_sight::takes_default;
 
 impl<A: Allocator + Copy> Telling<'_, A> {
     /// A line for each of the last calls of the program's own, the earliest first. It has the number of the step of the
@@ -59,13 +59,13 @@ impl<A: Allocator + Copy> Telling<'_, A> {
     fn line_into(&mut self, is_whole: bool) -> Result<(), AllocError> {
         let mut call = line_of(self.alloc, is_whole);
         let depth = self.walker.glance().depth;
-        call_into(self.walker.step(), depth, &self.walker.sight(), &mut call)?;
+        call_into(self.walker.step(), depth, &self.walker.sight(), &mut call);
         let taken = takes_default(&self.walker.sight(), self.walker.width());
         let is_default = taken.map_err(|_| AllocError)?;
         let before = Before::of(&self.walker.sight(), is_default);
         let why = self.walker.forward(1);
         let mut outcome = line_of(self.alloc, is_whole);
-        outcome_into(before, why, &self.walker.sight(), &mut outcome)?;
+        outcome_into(before, why, &self.walker.sight(), &mut outcome);
         call.end_before(outcome, self.out)
     }
 }

@@ -2,13 +2,16 @@
 ghost use Rattle.std.specs.Prelude.{◌≡◌, length};
 ghost use Rattle.trac_follow_step.specs.Places.{place_of};
 ghost use Rattle.trac_follow.specs.Tracing.{told_steps, way_of};
-ghost use Rattle.trac_walk.specs.Ways.{AreTold, Tells, deed_at, number_of_step};
+ghost use Rattle.trac_moves.specs.Steps.{number_of_step};
+ghost use Rattle.trac_walk.specs.Ways.{AreTold, Tells, deed_at};
 
-use crate::walker::Walker;
+use crate::tracing::traced;
 use std::alloc::{AllocError, Allocator};
 use trac_follow::{Place, Traced, Witness};
-use trac_screen::{Treatment, sight_of, treatment_into};
+use trac_moves::Walker;
+use trac_person_lines::{Treatment, treatment_into};
 use trac_session::Machine;
+use trac_sight::sight_of;
 
 /// So many lines of a way are shown at most. A longer way has its first lines, how many are left out, and the last.
 pub(crate) const LINE_COUNT: usize = 30;
@@ -104,6 +107,6 @@ pub(crate) fn told_way<A: Allocator + Copy>(
         told: Vec::new(alloc),
         count: 0,
     };
-    let found = walker.trace(place, &mut way);
+    let found = traced(walker, place, &mut way);
     (way, found)
 }

@@ -1,13 +1,11 @@
 //! Moves, carried out.
-ghost use Rattle.trac_walk.specs.Searches.{IsAsToldOf};
+ghost use Rattle.trac_walk.specs.Stops.{IsAsToldOf};
 
-use crate::aim::Aim;
 use crate::output::{printed, printed_text};
-use crate::searching::Search;
-use crate::walker::Walker;
 use std::alloc::Allocator;
-use trac_orders::Move;
-use trac_screen::{SEARCH_LIMIT, Stop};
+use trac_dialogue::Move;
+use trac_moves::{Aim, Search, Walker};
+use trac_person_lines::{SEARCH_LIMIT, Stop};
 use trac_session::Refusal;
 
 /// Carries out a move, and says why it stopped before its goal, if it did. It takes no memory but for steps, and for a

@@ -1,14 +1,12 @@
 //! The doubts of the next step, with their places.
 
-use crate::aim::Aim;
 use crate::calls_told::LINE_COUNT;
 use crate::origins::{Unsaid, is_idle, origin_of, read_as};
-use crate::walker::Walker;
+use crate::tracing::traced;
 use std::alloc::{AllocError, Allocator};
-use trac_follow::{End, Place};
-use trac_screen::{
-    Origin, ScreenLine, argument_doubted, doubt_into, is_nameless, left_out_into, origin_into,
-};
+use trac_follow::End;
+use trac_moves::{Walker, place_of};
+use trac_person_lines::{Origin, ScreenLine, doubt_into, left_out_into, origin_into};
 use trac_session::Doubt;
 
 /// Puts a line for each doubt of the next step at the end of a text: what is said of it, and the place from which it
@@ -24,7 +22,7 @@ pub fn doubts_into<A: Allocator + Copy>(
     for number in 0..doubts.len().min(LINE_COUNT) {
         let doubt = doubts[number];
         let mut line = ScreenLine::new(alloc);
-        doubt_into(&walker.sight(), doubt, &mut line)?;
+        doubt_into(&walker.sight(), doubt, &mut line);
         let mut place = ScreenLine::new(alloc);
         place_into(walker, program, doubt, &mut place)?;
         line.end_before(place, out)?;
@@ -44,7 +42,7 @@ fn place_into<A: Allocator + Copy>(
 ) -> Result<(), AllocError> {
     let end = walker.step();
     let place = place_of(walker, doubt);
-    let found = walker.trace(place, &mut Unsaid).end;
+    let found = traced(walker, place, &mut Unsaid).end;
     let source = walker.step();
     let origin = match found {
         End::Unkept | End::Untold | End::Memory => return Err(AllocError),
@@ -54,44 +52,11 @@ fn place_into<A: Allocator + Copy>(
     if walker.forward(end.saturating_sub(source)).is_some() {
         return Err(AllocError);
     }
-    match origin {
-        None => Ok(()),
-        Some(origin) => {
-            line.say(sign_before(doubt, origin))?;
-            origin_into(origin, source, line)
-        }
+    if let Some(origin) = origin {
+        line.say(sign_before(doubt, origin));
+        origin_into(origin, source, line);
     }
-}
-
-/// The byte that a doubt of the next step is about: the first one of an argument or of a name, or the one that comes
-/// next. Of a call without a name it is the `#` that began it: the walker goes back to before that, if it keeps the
-/// steps since then, and else it is the byte that comes next.
-pub fn place_of<'p, A: Allocator + Copy>(walker: &mut Walker<A>, doubt: Doubt) -> Place<'p> {
-    let depth = walker.glance().depth;
-    match doubt {
-        Doubt::Unclosed | Doubt::EndsNothing => Place::Active(0),
-        Doubt::Unended(_) if is_nameless(walker.machine(), 0) => beginning_of(walker, 1),
-        Doubt::Unended(_) => first_byte(0, 0),
-        _ => match argument_doubted(&walker.sight(), doubt) {
-            Some(argument) => first_byte(depth.saturating_sub(1), argument),
-            None => beginning_of(walker, depth),
-        },
-    }
-}
-
-// The place of the byte that began the function of this number, the outermost being number 1, to which the walker goes
-// back.
-fn beginning_of<'p, A: Allocator + Copy>(walker: &mut Walker<A>, number: usize) -> Place<'p> {
-    walker.return_to(Aim::Shallower(number));
-    Place::Active(0)
-}
-
-fn first_byte<'p>(function: usize, argument: usize) -> Place<'p> {
-    Place::Argument {
-        function,
-        argument,
-        byte: 0,
-    }
+    Ok(())
 }
 
 // Where a byte comes from, to which the walker has gone back. For a byte of the idle program that is the text that it

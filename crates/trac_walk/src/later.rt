@@ -1,11 +1,10 @@
 //! Whether a text that was not printed so far is printed later.
 
-use crate::aim::Aim;
 use crate::telling::Telling;
-use crate::walker::Walker;
 use memchr::memmem;
 use std::alloc::{AllocError, Allocator};
-use trac_screen::{Later, Stop, later_into};
+use trac_moves::{Aim, Walker};
+use trac_person_lines::{Later, Stop, later_into};
 use trac_session::Refusal;
 
 impl<A: Allocator + Copy> Telling<'_, A> {

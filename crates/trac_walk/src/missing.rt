@@ -2,12 +2,14 @@
 
 use crate::origins::Unsaid;
 use crate::telling::Telling;
-use crate::walker::Walker;
+use crate::tracing::traced;
 use std::alloc::{AllocError, Allocator};
 use trac_follow::{End, Place, Witness};
 use trac_forms::Item;
-use trac_screen::{Origin, Stop, Treatment, argument_count};
+use trac_moves::Walker;
+use trac_person_lines::{Origin, Stop, Treatment};
 use trac_session::Machine;
+use trac_sight::argument_count;
 
 // Where a byte stood in forms that calls gave it from, the latest first.
 #[derive(Drop)]
@@ -82,7 +84,7 @@ impl<A: Allocator + Copy> Telling<'_, A> {
     fn gap_into(&mut self, item: usize) -> Result<(), AllocError> {
         let name = self.walker.argument(self.alloc, 1)?;
         let place = Place::Form(name.as_slice(), item);
-        let end = self.walker.trace(place, &mut Unsaid).end;
+        let end = traced(self.walker, place, &mut Unsaid).end;
         is_told(end)?;
         self.tell_here(match end {
             End::Made => Treatment::MakesGap,
@@ -133,7 +135,7 @@ fn to_gap<A: Allocator + Copy>(
         places: Vec::new(alloc),
         latest: 0,
     };
-    is_told(walker.trace(Place::Active(place), &mut found).end)?;
+    is_told(traced(walker, Place::Active(place), &mut found).end)?;
     for (steps, item) in found.places.iter() {
         if walker.go_to(start.saturating_sub(*steps)).is_some() {
             return Err(AllocError);

@@ -4,12 +4,15 @@ use crate::calls_told::{Way, told_way};
 use crate::missing::argument_len;
 use crate::output::{last_printed, printed, printed_text};
 use crate::telling::Telling;
-use crate::walker::Walker;
+use crate::tracing::traced;
 use std::alloc::{AllocError, Allocator};
+use trac_dialogue::Spot;
 use trac_follow::{End, Place, Witness};
-use trac_orders::Spot;
+use trac_moves::Walker;
+use trac_person_lines::{
+    Origin, Stop, Treatment, left_out_into, origin_into, piece_into, step_line,
+};
 use trac_rules::byte::LINE_FEED;
-use trac_screen::{Origin, Stop, Treatment, left_out_into, origin_into, piece_into, step_line};
 use trac_session::{Machine, Refusal};
 
 /// A witness of a byte's way of which nothing is said.
@@ -92,8 +95,7 @@ impl<A: Allocator + Copy> Telling<'_, A> {
             Err(stop) => return self.stay(stop),
         };
         let end = self.walker.step();
-        let mut line = step_line(self.alloc, end, &self.walker.sight())?;
-        let found = self.walker.trace(place, &mut Unsaid).end;
+        let found = traced(self.walker, place, &mut Unsaid).end;
         let read = number_read(self.walker, &found);
         let origin = origin_of(self.walker, self.program, found);
         let is_idle = is_idle(self.walker, &found);
@@ -108,7 +110,8 @@ impl<A: Allocator + Copy> Telling<'_, A> {
             _ if is_idle => return self.stay(Stop::Idle),
             _ => {}
         }
-        origin_into(origin, source, &mut line)?;
+        let mut line = step_line(self.alloc, end, &self.walker.sight());
+        origin_into(origin, source, &mut line);
         line.end_into(self.out)?;
         self.source_into(read)
     }

@@ -1,9 +1,9 @@
 //! Places in the output that is kept.
 
-use crate::walker::Walker;
 use memchr::memmem;
 use std::alloc::Allocator;
-use trac_screen::Stop;
+use trac_moves::Walker;
+use trac_person_lines::Stop;
 
 /// The place in the output that is kept of the byte of this number, counted from 1 from the start of the program.
 pub fn printed<A: Allocator + Copy>(walker: &Walker<A>, number: u64) -> Result<usize, Stop> {

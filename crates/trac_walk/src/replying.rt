@@ -5,17 +5,18 @@ use crate::doubts_told::doubts_into;
 use crate::places::Places;
 use crate::telling::Telling;
 use std::alloc::{AllocError, Allocator};
-use trac_orders::{
+use trac_dialogue::{
     HELP, Move, Order, Spot, UNQUOTED, has_words, is_second_quoted, misunderstood, order_of,
     texts_of, words_of,
 };
+use trac_person_lines::{
+    NO_PLACE, NO_PRIMITIVE, Stop, form_into, given_into, list_into, no_end_into, only_byte,
+    refused, screen_into, window_into,
+};
 use trac_prims::primitive_named;
 use trac_rules::primitive::Primitive;
-use trac_screen::{
-    NO_PLACE, NO_PRIMITIVE, Stop, form_into, given_into, list_into, no_end_into, only_byte,
-    reads_text, refused, screen_into, window_into,
-};
-use trac_show::machine_lines;
+use trac_sight::reads_text;
+use trac_state_lines::machine_lines;
 
 /// What is kept of the lines so far.
 #[derive(Drop)]

@@ -1,8 +1,8 @@
 //! What a reply is made with.
 
-use crate::walker::Walker;
 use std::alloc::{AllocError, Allocator};
-use trac_screen::{Stop, Treatment, standing_into, stop_into, treatment_into};
+use trac_moves::Walker;
+use trac_person_lines::{Stop, Treatment, standing_into, stop_into, treatment_into};
 
 /// The walker that a reply is about, and the text at whose end it is put.
 #[derive(Drop)]

@@ -7,10 +7,10 @@ ghost use Rattle.trac_walk.specs.Ends.{MayEnd};
 
 use crate::replying::Memo;
 use crate::telling::Telling;
-use crate::walker::Walker;
 use std::alloc::{AllocError, Allocator};
 use std::io::{Read, Write};
 use trac_dialogue::{Replier, converse};
+use trac_moves::Walker;
 use trac_rules::width::Width;
 use trac_streams::Ending;
 

@@ -6,9 +6,9 @@ use Rattle.trac_rules.specs.declared.limit.TheConstants.{TAPE_LIMIT}
 use Rattle.trac_streams.specs.declared.ending.Ending.{Ending}
 use Rattle.trac_streams.specs.declared.ending.Ending.TheVariants.{Limit}
 use Rattle.trac_walk.specs.Ends.{MayEnd}
-use Rattle.trac_findings.specs.declared.report.TheConstants.{PLACE_LIMIT}
-use Rattle.trac_findings.specs.declared.report.Found.{Found}
-use Rattle.trac_findings.specs.Findings.{IsWritten}
+use Rattle.trac_places.specs.declared.report.TheConstants.{PLACE_LIMIT}
+use Rattle.trac_places.specs.declared.report.Found.{Found}
+use Rattle.trac_places.specs.Findings.{IsWritten}
 use Rattle.trac_web.specs.Requests.{WritesDoubts, WritesTalk, search_ending}
 
 -- a dialogue, which wrote all of that

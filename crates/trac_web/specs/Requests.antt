@@ -4,9 +4,9 @@ use Rattle.trac_rules.specs.declared.limit.TheConstants.{TAPE_LIMIT}
 use Rattle.trac_streams.specs.declared.ending.Ending.{Ending}
 use Rattle.trac_streams.specs.declared.ending.Ending.TheVariants.{Ended, Budget, Limit, Memory, Write}
 use Rattle.trac_walk.specs.Ends.{MayEnd}
-use Rattle.trac_findings.specs.declared.report.TheConstants.{PLACE_LIMIT}
-use Rattle.trac_findings.specs.declared.report.Halt.{Halt}
-use Rattle.trac_findings.specs.declared.report.Halt.TheVariants as halts
+use Rattle.trac_places.specs.declared.report.TheConstants.{PLACE_LIMIT}
+use Rattle.trac_places.specs.declared.report.Halt.{Halt}
+use Rattle.trac_places.specs.declared.report.Halt.TheVariants as halts
 
 -- a dialogue over this program ended so: how it may end, and nothing is said of a program that is too long
 pub record WritesTalk (program written : List ℕ) (ending : Ending) : Type 0 where

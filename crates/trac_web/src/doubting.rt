@@ -1,6 +1,6 @@
 //! The doubts of a text.
 ghost use Rattle.std.specs.Prelude.{◌≡◌, ◌≤◌};
-ghost use Rattle.trac_findings.specs.declared.report.TheConstants.{PLACE_LIMIT};
+ghost use Rattle.trac_places.specs.declared.report.TheConstants.{PLACE_LIMIT};
 ghost use Rattle.trac_web.specs.Requests.{WritesDoubts, search_ending};
 ghost use Rattle.trac_web_requests.specs.Replies.{Gives};
 

@@ -1,6 +1,6 @@
 //! What a host calls: each over slices alone, with any numbers.
 ghost use Rattle.std.specs.Prelude.{◌≤◌};
-ghost use Rattle.trac_findings.specs.declared.report.TheConstants.{PLACE_LIMIT};
+ghost use Rattle.trac_places.specs.declared.report.TheConstants.{PLACE_LIMIT};
 ghost use Rattle.trac_web.specs.Requests.{WritesDoubts, WritesTalk};
 ghost use Rattle.trac_web_requests.specs.declared.outcome.Outcome.TheVariants.{WrongBudget, WrongJournal};
 ghost use Rattle.trac_web_requests.specs.Replies.{Answers};
@@ -9,10 +9,11 @@ ghost use Rattle.trac_web_requests.specs.Ways.{AnswersWay};
 
 use crate::doubting::doubts_text;
 use std::alloc::Global;
-use trac_debug::debug;
-use trac_streams::{Ending, Options};
+use trac_streams::Ending;
 use trac_walk::{Settings, walk};
-use trac_web_requests::{Reply, Spot, deliver, run_text, way_text, width_for_run, width_for_walk};
+use trac_web_requests::{
+    Reply, Spot, deliver, replies_text, run_text, way_text, width_for_run, width_for_walk,
+};
 
 /// Runs a program with all of its input by so many steps at most, with numbers of 64 or 128 bits. What it prints
 /// goes into `output`, how many bytes that are into `written`, and how many steps were accepted into `steps`.
@@ -58,17 +59,16 @@ pub extern "C" fn trac_web_debug(
 {
     *written = 0;
     match width_for_walk(journal, decimals) {
-        Ok(decimals) => {
-            let options = Options {
-                budget: 1,
-                journal: journal as usize,
-                decimals,
-            };
-            let mut rest = commands;
-            let mut reply = Reply::new(alloc, output.len());
-            let ending = debug(alloc, tape, &mut rest, &mut reply, options);
-            deliver(reply.text(), ending, output, written).status()
-        }
+        Ok(width) => replies_text(
+            alloc,
+            tape,
+            commands,
+            journal as usize,
+            width,
+            output,
+            written,
+        )
+        .status(),
         Err(why) => why.status(),
     }
 }

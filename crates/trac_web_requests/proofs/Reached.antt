@@ -7,8 +7,8 @@ use Rattle.trac_rules.specs.declared.reply.Reply.TheVariants.{Refused}
 use Rattle.trac_rules.specs.Session.{PlainSession, Answers, Commit, HasEnded, IsWalk, Step, answer, done, first_kept, no_goal, repeated}
 use Rattle.trac_run.specs.Runs.{TakesSteps}
 use Rattle.trac_run.proofs.Stepped.{steps_both, steps_many}
-use Rattle.trac_window.specs.Windows.{IsWindow}
-use Rattle.trac_window.proofs.Kept.{forward}
+use Rattle.trac_moves.specs.Windows.{IsWindow}
+use Rattle.trac_moves.proofs.Kept.{forward}
 use Rattle.trac_web_requests.specs.Ways.{WindowGoes}
 
 -- a walk that no refusal ended took all its steps

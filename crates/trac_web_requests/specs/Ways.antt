@@ -14,7 +14,7 @@ use Rattle.trac_follow.specs.declared.tracing.Traced.{Traced}
 use Rattle.trac_follow.specs.Tracing.{IsTraced, way_of}
 use Rattle.trac_debug.specs.Debugging.{ready}
 use Rattle.trac_run.specs.Runs.{TakesSteps}
-use Rattle.trac_window.specs.Windows.{IsWindow}
+use Rattle.trac_moves.specs.Windows.{IsWindow}
 use Rattle.trac_web_requests.specs.declared.outcome.Outcome.{Outcome}
 use Rattle.trac_web_requests.specs.declared.outcome.Outcome.TheVariants.{Ends, WrongPlace, NotReached}
 use Rattle.trac_web_requests.specs.declared.ways.Spot as code

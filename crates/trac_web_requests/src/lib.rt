@@ -1,7 +1,8 @@
-//! Requests of a host that is no process, as a page of a browser, over slices alone: which numbers are taken, a run,
-//! the way of a byte, and how a reply comes into the buffer of the host.
+//! Requests of a host that is no process, as a page of a browser, over slices alone: which numbers are taken, a run, a
+//! session of the debugger, the way of a byte, and how a reply comes into the buffer of the host.
 #![tactic(auto)]
 
+mod debugging;
 mod judging;
 mod outcome;
 mod reply;
@@ -9,6 +10,7 @@ mod rows;
 mod running;
 mod ways;
 
+pub use debugging::replies_text;
 pub use judging::{width_for_run, width_for_walk};
 pub use outcome::Outcome;
 pub use reply::{Reply, deliver};

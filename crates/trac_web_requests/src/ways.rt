@@ -6,18 +6,18 @@ ghost use Rattle.trac_follow_step.specs.Places.{place_of};
 ghost use Rattle.trac_run.specs.Runs.{TakesSteps};
 ghost use Rattle.trac_web_requests.specs.Ways.{IsReason, IsSaid, IsWay, WindowGoes, WritesWay};
 ghost use Rattle.trac_web_requests.specs.Ways.{end_field, place_in, read_field, spot_seen};
-ghost use Rattle.trac_window.specs.Windows.{IsWindow};
+ghost use Rattle.trac_moves.specs.Windows.{IsWindow};
 
 use crate::outcome::Outcome;
 use crate::rows::{Rows, word_into};
 use std::alloc::{AllocError, Allocator};
 use trac_follow::{End, Place, trace};
+use trac_moves::Window;
 use trac_rules::byte::LINE_FEED;
 use trac_rules::limit::JOURNAL_LIMIT;
 use trac_rules::width::Width;
 use trac_session::{Refusal, Session};
 use trac_streams::{Ending, number_into};
-use trac_window::Window;
 
 /// A place of a state, in numbers.
 #[derive(Clone, Copy)]

@@ -11,6 +11,11 @@ pub fn shown(alloc: Global, name: &str) -> Result<String, AllocError> {
     String::from_str(alloc, str::from_utf8(bytes.as_slice()).unwrap_or(""))
 }
 
+/// The name of a file in a message. An empty name is two quotes.
+pub fn named(alloc: Global, path: &str) -> Result<String, AllocError> {
+    shown(alloc, if path.is_empty() { "''" } else { path })
+}
+
 /// The name of a file in a line that an editor reads, which opens it: only what cannot be seen is shown so. An empty
 /// name is two quotes.
 pub fn legible(alloc: Global, name: &str) -> Result<String, AllocError> {
@@ -35,7 +40,8 @@ fn is_seen(sign: char) -> bool {
     !sign.is_control()
         && !matches!(
             sign,
-            '\u{ad}' | '\u{61c}' | '\u{180e}' | '\u{feff}' | '\u{200b}'..='\u{200f}' | '\u{2028}'..='\u{202e}'
-                | '\u{2060}'..='\u{206f}' | '\u{fff9}'..='\u{fffb}' | '\u{e0000}'..='\u{e0fff}'
+            '\u{ad}' | '\u{34f}' | '\u{61c}' | '\u{115f}' | '\u{1160}' | '\u{17b4}' | '\u{17b5}' | '\u{3164}'
+                | '\u{feff}' | '\u{180b}'..='\u{180f}' | '\u{200b}'..='\u{200f}' | '\u{2028}'..='\u{202e}'
+                | '\u{2060}'..='\u{206f}' | '\u{ffa0}' | '\u{fff9}'..='\u{fffb}' | '\u{e0000}'..='\u{e0fff}'
         )
 }

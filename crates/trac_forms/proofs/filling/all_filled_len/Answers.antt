@@ -3,7 +3,7 @@ use Rattle.std.proofs.Common.{length, ap, ◌∙◌, arith}
 use Rattle.std.proofs.lemmas.List.{nil_from_length}
 use Rattle.trac_rules.specs.Filling.{all_filled}
 use Rattle.trac_rules.specs.Weights.{gap_count}
-use Rattle.trac_forms.proofs.ByteRuns.{item_counted, run_counted}
+use Rattle.trac_items.proofs.ByteRuns.{item_counted, run_counted}
 use Rattle.trac_forms.proofs.filling.all_filled_len.Goals as goal
 
 pub returns-then-run-most : goal.returns-then-run-most

@@ -4,7 +4,7 @@ use Rattle.std.proofs.lemmas.List.{append-nil, nil_from_length}
 use Rattle.trac_rules.specs.Filling.{all_filled, filled}
 use Rattle.trac_rules.specs.Pieces.{bytes_in}
 use Rattle.trac_rules.specs.Weights.{gap_count}
-use Rattle.trac_forms.proofs.ByteRuns.{goes_on_twice, item_put, run_put}
+use Rattle.trac_items.proofs.ByteRuns.{goes_on_twice, item_put, run_put}
 use Rattle.trac_forms.proofs.filling.fill_all_into.Goals as goal
 
 pub returns-in_default-clause-ok : goal.returns-in_default-clause-ok

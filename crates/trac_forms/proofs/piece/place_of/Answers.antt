@@ -5,7 +5,8 @@ use Rattle.std.proofs.lemmas.Bool.{eqb-true}
 use Rattle.std.proofs.lemmas.List.{nil_from_length}
 use Rattle.trac_rules.specs.Pieces.{place_of_text}
 use Rattle.trac_forms.proofs.Searching.{at_once}
-use Rattle.trac_forms.proofs.TextsAlone.{found_in_text, not_in_text, text_alone, text_length, text_passed}
+use Rattle.trac_forms.proofs.TextsAlone.{found_in_text, not_in_text, text_passed}
+use Rattle.trac_items.proofs.Alone.{text_alone, text_length}
 use Rattle.trac_forms.proofs.piece.place_of.Goals as goal
 
 pub returns-then-is_empty-clause-place : goal.returns-then-is_empty-clause-place

@@ -1,6 +1,7 @@
 -- Among the bytes of a text alone each place has as many bytes before it as items.
 use Rattle.std.proofs.Common.{◌∙◌, arith}
-use Rattle.trac_forms.proofs.TextsAlone.{text_alone, text_bytes, text_length, text_passed, text_reached}
+use Rattle.trac_forms.proofs.TextsAlone.{text_bytes, text_passed, text_reached}
+use Rattle.trac_items.proofs.Alone.{text_alone, text_length}
 use Rattle.trac_forms.proofs.piece.reach.Goals as goal
 
 pub returns-clause-place : goal.returns-clause-place

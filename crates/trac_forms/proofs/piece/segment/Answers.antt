@@ -4,7 +4,8 @@ use Rattle.trac_rules.specs.declared.item.Item.{Item}
 use Rattle.trac_rules.specs.Pieces.{is_gap, segment_items}
 use Rattle.trac_forms.proofs.Passing.{count}
 use Rattle.trac_forms.proofs.RunLengths.{ended_count, run_count, segment_all, segment_ended}
-use Rattle.trac_forms.proofs.TextsAlone.{items_alone, text_alone, text_passed, text_segment}
+use Rattle.trac_forms.proofs.TextsAlone.{text_passed, text_segment}
+use Rattle.trac_items.proofs.Alone.{items_alone, text_alone}
 use Rattle.trac_forms.proofs.piece.segment.Goals as goal
 
 pub returns-then-not-is_empty-clause-items : goal.returns-then-not-is_empty-clause-items

@@ -1,10 +1,11 @@
 -- A value is taken, and the entry changes places with the last one that has a value.
-use Rattle.std.proofs.Common.{◌≡◌, ◌-◌, get_or, is_some, sym, ap, subst, ◌∙◌, arith}
+use Rattle.std.proofs.Common.{◌≡◌, ◌-◌, get_or, is_some, refl, sym, ap, subst, ◌∙◌, arith}
 use Rattle.std.specs.Prelude.{None}
 use Rattle.std.specs.Map.{values_of}
 use Rattle.std.proofs.lemmas.Option.{get_or_from_slice_get}
 use Rattle.indexmap.specs.Layout.{length-set_value_at}
 use Rattle.trac_forms.specs.Table.{IsParted}
+use Rattle.trac_forms.proofs.Entries.{first_swapped, first_written}
 use Rattle.trac_forms.proofs.Parted.{is_below, parted_fewer, parted_kept, parted_within}
 use Rattle.trac_forms.proofs.store.take_at.Given.{Over}
 use Rattle.trac_forms.proofs.store.take_at.Goals as goal
@@ -34,3 +35,15 @@ pub returns-else-is_some-clause-parted : goal.returns-else-is_some-clause-parted
 returns-else-is_some-clause-parted g c =
     let none = was g (goal.at.returns-else-is_some-clause-parted g c).After-is_some ∙ c.if-is_some.false in
     parted_kept c.args.table.now.entries c.args.live.now c.requires.parted c.args.i c.take-taken.new.self c.requires.within (ap is_some c.take-taken.ensures.after ∙ sym none)
+
+pub returns-then-is_some-clause-first : goal.returns-then-is_some-clause-first
+returns-then-is_some-clause-first g c = λ n less all.
+    let full = was g (goal.at.returns-then-is_some-clause-first g c).After-is_some ∙ c.if-is_some.true in
+    let below = is_below c.args.table.now.entries c.args.live.now c.requires.parted c.args.i full in
+    record {
+      within = omega (arith, less);
+      names = first_swapped n c.args.table.now.entries _ c.args.i c.take-taken.new.self (c.args.live.now - 1) c.swap_indices.ensures.entries (omega (arith, below, less)) (omega (arith, below, less)) all;
+    }
+
+pub returns-else-is_some-clause-first : goal.returns-else-is_some-clause-first
+returns-else-is_some-clause-first g c = λ n less all. record { within = less; names = first_written n c.args.table.now.entries _ c.args.i c.take-taken.new.self refl }

@@ -5,7 +5,7 @@ use Rattle.trac_rules.proofs.Waiting.{Commit_waits}
 use Rattle.trac_streams.specs.Written.{WritesFront, Closes}
 use Rattle.trac_run.specs.Runs.{TakesNone}
 use Rattle.trac_streams.proofs.Known.{Appends-kept}
-use Rattle.trac_run.proofs.Stepped.{feeds_none, feeds_taken, feeds_untaken}
+use Rattle.trac_run.proofs.Stepped.{feeds_either, feeds_none, feeds_taken, feeds_untaken}
 use Rattle.trac_run.proofs.Taken.{wanted_open_after, taken_on, taken_fresh, taken_fewer, unwritten_finish, unflushed_finish, unfed_finish, unfed_closed}
 use Rattle.trac_run.proofs.Turned.{sound_unless}
 use Rattle.trac_run.proofs.running.take_piece.Goals as goal
@@ -65,7 +65,7 @@ pub returns-in_default-clause-steps : goal.returns-in_default-clause-steps
 returns-in_default-clause-steps g c = feeds_untaken _ _ c.args.session.now c.commit.new.self c.read_more.new.session _ (Commit_waits c.args.session.now c.commit.new.self c.requires.some_records c.requires.wanted c.commit.ensures) c.commit.ensures c.in-Err.ensures.err
 
 pub returns-in_err-write_whole-clause-steps : goal.returns-in_err-write_whole-clause-steps
-returns-in_err-write_whole-clause-steps g c = feeds_none _ c.args.session.now c.args.session.now refl
+returns-in_err-write_whole-clause-steps g c = feeds_either c.from_residual.result (feeds_none _ c.args.session.now c.args.session.now refl)
 
 pub returns-in_err-flush-clause-steps : goal.returns-in_err-flush-clause-steps
-returns-in_err-flush-clause-steps g c = feeds_none _ c.args.session.now c.args.session.now refl
+returns-in_err-flush-clause-steps g c = feeds_either c.from_residual-in_err-flush.result (feeds_none _ c.args.session.now c.args.session.now refl)

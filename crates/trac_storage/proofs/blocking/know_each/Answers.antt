@@ -21,7 +21,8 @@ loop-name-preserved g c =
     let more = ap (λ (s : Stored). s.known) c.in_ok-know.ensures.known in (
       rw (more, c.as_slice.ensures.value) so_far.0,
       λ q h. among_more at.store.known c.know.new.self.known c.as_slice.result.now more q (at.invariant.1 q h),
-      rw c.in_ok-know.ensures.known (ap (λ (s : Stored). let t : Stored = record s { known = set.insert at.store.known c.as_slice.result.now } in t) at.invariant.2),
+      rw c.in_ok-know.ensures.known (ap (λ (s : Stored). let t : Stored = record s { known = set.insert at.store.known c.as_slice.result.now; recent = set.insert at.store.recent c.as_slice.result.now } in t) at.invariant.2),
+      λ q h. among_more at.store.recent c.know.new.self.recent c.as_slice.result.now (ap (λ (s : Stored). s.recent) c.in_ok-know.ensures.known) q (at.invariant.3 q h),
     )
 
 pub returns-clause-names : goal.returns-clause-names

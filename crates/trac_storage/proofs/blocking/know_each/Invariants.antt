@@ -9,4 +9,5 @@ abbrev pub invariant-loop-name : goal.invariant-loop-name
 invariant-loop-name g l =
     (knowing (names_in (named_forms (drop l.name-index l.forms))) l.store.known ≡ knowing (names_in (named_forms l.forms)) l.fn.store.known)
     × AreAmong l.fn.store.known l.store.known
-    × (l.store ≡ record l.fn.store { known = l.store.known })
+    × (l.store ≡ record l.fn.store { known = l.store.known; recent = l.store.recent })
+    × AreAmong l.fn.store.recent l.store.recent

@@ -5,7 +5,7 @@ use Rattle.std.proofs.lemmas.Bool.{false≢true}
 use Rattle.trac_rules.specs.Effect.{argument}
 use Rattle.trac_forms.specs.Stored.{Stored}
 use Rattle.trac_forms.proofs.Going.{on_err}
-use Rattle.trac_storage.proofs.Known.{knows_same}
+use Rattle.trac_storage.proofs.Known.{among_more, among_same, knows_same}
 use Rattle.trac_storage.proofs.changing.change_forms.Goals as goal
 
 pub returns-in-Point : goal.returns-in-Point
@@ -20,3 +20,11 @@ pub returns-in_err-insert-in-Put-clause-free : goal.returns-in_err-insert-in-Put
 returns-in_err-insert-in-Put-clause-free g c =
     rw (sym c.replace.ensures.value ∙ c.in-Put.is)
     (λ known. absurd (false≢true (c.in_err-insert-in-Put.ensures.again (subst (λ (n : List ℕ). IsTrue (set.contains c.args.store.now.known n)) (sym c.get-name.ensures) known))))
+
+pub returns-in_ok-insert-in-Put-clause-recent : goal.returns-in_ok-insert-in-Put-clause-recent
+returns-in_ok-insert-in-Put-clause-recent g c =
+    among_more c.args.store.now.recent c.insert.new.self.recent _ (ap (λ (s : Stored). s.recent) c.in_ok-insert-in-Put.ensures.put)
+
+pub returns-in_err-insert-in-Put-clause-recent : goal.returns-in_err-insert-in-Put-clause-recent
+returns-in_err-insert-in-Put-clause-recent g c =
+    among_same c.args.store.now.recent c.insert.new.self.recent (ap (λ (s : Stored). s.recent) c.in_err-insert-in-Put.ensures.unchanged)

@@ -16,3 +16,9 @@ returns-in-Some-clause-storage g c =
 pub returns-in-None-clause-storage : goal.returns-in-None-clause-storage
 returns-in-None-clause-storage g c =
     cut_there c.args.store.now c.segment.new.self c.args.name.now c.after.result (drop 2 c.args.arguments.now) c.segment.ensures.cut c.after.ensures
+
+pub returns-in-Some-clause-recent : goal.returns-in-Some-clause-recent
+returns-in-Some-clause-recent g c = rw c.segment.ensures.cut (λ q h. h)
+
+pub returns-in-None-clause-recent : goal.returns-in-None-clause-recent
+returns-in-None-clause-recent g c = rw c.segment.ensures.cut (λ q h. h)

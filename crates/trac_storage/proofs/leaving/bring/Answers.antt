@@ -8,8 +8,9 @@ use Rattle.trac_rules.specs.Undone.{Unbring, names_in}
 use Rattle.trac_forms.specs.Stored.{Stored, storage_in}
 use Rattle.trac_forms.proofs.Going.{on_err}
 use Rattle.trac_change.specs.Changed.{named_forms}
+use Rattle.trac_storage.specs.Changing.{knowing}
 use Rattle.trac_storage.proofs.Emptied.{none_left}
-use Rattle.trac_storage.proofs.Known.{are_known, knows_same}
+use Rattle.trac_storage.proofs.Known.{among_same, are_known, knows_same, stay_known}
 use Rattle.trac_storage.proofs.Replacing.{apart_next, replaced_next}
 use Rattle.trac_storage.proofs.leaving.bring.Goals as goal
 
@@ -71,6 +72,9 @@ returns g c =
       unchanged = tt;
       names = ap (λ (s : Stored). s.known) all.0 ∙ rw c.as_slice.ensures.value at c.in_ok-know_each.ensures.names;
       some = tt;
+      recent = λ q h.
+          among_same (knowing (names_in (named_forms c.args.forms.items)) c.know_each.new.store.recent) at.store.recent (ap (λ (s : Stored). s.recent) all.0) q
+          (stay_known (names_in (named_forms c.args.forms.items)) c.know_each.new.store.recent q (c.know_each.ensures.recent q h));
       places = ap (λ (s : Stored). s.spare) all.0 ∙ ap (λ (s : Stored). s.spare) c.know_each.ensures.stays;
       err = tt;
     }

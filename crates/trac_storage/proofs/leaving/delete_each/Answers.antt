@@ -7,6 +7,7 @@ use Rattle.trac_forms.specs.Stored.{Stored, storage_in}
 use Rattle.trac_rules.specs.Undone.{Restore}
 use Rattle.trac_change.specs.Changed.{named_forms}
 use Rattle.trac_storage.proofs.Emptied.{none_left}
+use Rattle.trac_storage.proofs.Known.{among_same}
 use Rattle.trac_storage.proofs.MovedForms.{moves_next, moves_none}
 use Rattle.trac_storage.proofs.leaving.delete_each.Goals as goal
 
@@ -47,6 +48,7 @@ returns g c =
       undone = ap Restore (sym (append-nil (named_forms at.taken.items)) ∙ all.1);
       unchanged = tt;
       names = ap (λ (s : Stored). s.known) all.0;
+      recent = among_same c.args.store.now.recent at.store.recent (ap (λ (s : Stored). s.recent) all.0);
       places = ap (λ (s : Stored). s.spare) all.0;
       err = tt;
     }

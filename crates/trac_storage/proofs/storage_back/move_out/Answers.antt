@@ -1,11 +1,15 @@
 -- The last block was there, and its forms have known names. The last of them is put, in front of all others.
 use Rattle.std.proofs.Common.{◌≡◌, [], ◌∷◌, length, drop, refl, sym, ap, ◌∙◌, arith}
+use Rattle.std.specs.Prelude.{Some}
 use Rattle.std.proofs.lemmas.List.{length_push}
 use Rattle.trac_rules.specs.Blocks.{with_all}
 use Rattle.trac_rules.specs.State.{Forms}
-use Rattle.trac_rules.specs.Undone.{swapped_back}
+use Rattle.std.specs.FinSet as set
+use Rattle.trac_rules.specs.Undone.{MoveOut, storage_before, swapped_back}
 use Rattle.trac_forms.specs.Stored.{Stored, storage_in}
 use Rattle.trac_forms.proofs.BlockLists.{apart_front}
+use Rattle.trac_storage.specs.Changing.{AreAmong}
+use Rattle.trac_storage.proofs.Known.{among_back, among_more}
 use Rattle.trac_storage.proofs.StorageBack.{is_moved_out, knows_each, knows_fewer, knows_last, never_none, put_before_all}
 use Rattle.trac_storage.proofs.storage_back.move_out.Goals as goal
 
@@ -27,6 +31,7 @@ loop-name-init g c =
     let back = is_moved_out store.known c.get-name.ensures (drop 2 c.args.arguments.now) c.args.old (storage_in store) held (sym c.in-Some.ensures.last) c.requires in
     record {
       put = refl;
+      recent = λ q h. h;
       apart = c.len-len.ensures.distinct;
       known = rw (c.swap.ensures, c.pop_block.ensures.others) (knows_each held store.known (swapped_back c.get-name.result.now c.args.old store.forms) back.knows);
     }
@@ -43,8 +48,9 @@ loop-name-preserved g c =
     let form = c.in-Some-pop.form in
     let so_far = rw c.in-Some-pop.ensures.last at c.loop-name.invariant in
     rw (c.put.ensures.put, c.as_slice.ensures.value) (record {
-      put = ap (λ (forms : Forms). let after : Stored = record store { forms = forms } in after) (put_before_all fewer store.forms name form so_far.apart) ∙ so_far.put;
+      put = ap (λ (forms : Forms). let after : Stored = record store { forms = forms; recent = c.swap.new.store.recent } in after) (put_before_all fewer store.forms name form so_far.apart) ∙ so_far.put;
       apart = apart_front fewer ((name, form) ∷ []) so_far.apart;
+      recent = λ q h. among_more store.recent (set.insert store.recent name) name refl q (so_far.recent q h);
       known = (knows_last fewer store.known (name, form) so_far.known).0;
     })
 
@@ -56,10 +62,15 @@ returns g c =
     let store = c.args.store.now in
     let held = c.in-Some.block.held in
     let back = c.swap.new.store in
-    let left : c.loop-name.store ≡ record back { forms = with_all held back.forms } = (rw c.in_default-pop.ensures.last.0 at c.loop-name.invariant).put in
+    let after = rw c.in_default-pop.ensures.last.0 at c.loop-name.invariant in
+    let stored : storage_in c.loop-name.store ≡ record { forms = with_all held back.forms; blocks = back.blocks } = ap storage_in after.put in
+    let there : storage_before c.args.arguments.now (MoveOut c.args.old) (storage_in store) ≡ Some (record { forms = with_all held back.forms; blocks = back.blocks }) =
+    rw (c.swap.ensures, c.pop_block.ensures.others)
+    (is_moved_out store.known c.get-name.ensures (drop 2 c.args.arguments.now) c.args.old (storage_in store) held (sym c.in-Some.ensures.last) c.requires).state in
+    let kept : back.known ≡ store.known = rw (c.swap.ensures, c.pop_block.ensures.others) refl in
+    let among : AreAmong store.recent back.recent = rw (c.swap.ensures, c.pop_block.ensures.others) (among_back c.get-name.result.now c.args.old store.recent) in
     record {
-      storage =
-          rw (left, c.swap.ensures, c.pop_block.ensures.others)
-          (is_moved_out store.known c.get-name.ensures (drop 2 c.args.arguments.now) c.args.old (storage_in store) held (sym c.in-Some.ensures.last) c.requires).state;
-      names = rw (left, c.swap.ensures, c.pop_block.ensures.others) refl;
+      storage = there ∙ ap Some (sym stored);
+      names = ap (λ (s : Stored). s.known) after.put ∙ kept;
+      recent = λ q h. after.recent q (among q h);
     }

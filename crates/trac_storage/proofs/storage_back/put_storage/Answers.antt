@@ -1,12 +1,13 @@
 -- By what the call destroyed.
-use Rattle.std.proofs.Common.{ap, drop, sym, ◌∙◌}
+use Rattle.std.proofs.Common.{ap, drop, refl, sym, ◌∙◌}
 use Rattle.std.specs.Prelude.{◌&&◌, Some}
 use Rattle.std.specs.FinMap as finite
 use Rattle.std.proofs.lemmas.Bool.{and_parts}
 use Rattle.trac_rules.specs.Effect.{argument}
-use Rattle.trac_rules.specs.Undone.{is_erased, is_free}
+use Rattle.trac_rules.specs.Undone.{is_erased, is_free, names_in}
 use Rattle.trac_forms.specs.Stored.{storage_in}
 use Rattle.trac_change.specs.Changed.{named_forms}
+use Rattle.trac_storage.proofs.Known.{among_back, among_more, stay_known}
 use Rattle.trac_storage.proofs.Pointers.{pointed_there}
 use Rattle.trac_storage.proofs.StorageBack.{can_join, erased_there, joins_again, knows_each, knows_put, pointed_again, tested}
 use Rattle.trac_storage.proofs.storage_back.put_storage.Goals as goal
@@ -63,3 +64,18 @@ put-requires g c =
 pub returns-in-Unerase-clause-storage : goal.returns-in-Unerase-clause-storage
 returns-in-Unerase-clause-storage g c =
     rw (c.in-Unerase.is, c.put.ensures.put, c.set_block.ensures, c.get-name.ensures) (tested _ c.args.store.now.known _ (rw c.in-Unerase.is at c.requires)).2
+
+pub returns-in-Restore-clause-recent : goal.returns-in-Restore-clause-recent
+returns-in-Restore-clause-recent g c = rw c.put_each.ensures (stay_known (names_in (named_forms c.in-Restore.forms.items)) c.args.store.now.recent)
+
+pub returns-in-Swap-clause-recent : goal.returns-in-Swap-clause-recent
+returns-in-Swap-clause-recent g c = rw c.swap.ensures (among_back c.get-name.result.now c.in-Swap.old c.args.store.now.recent)
+
+pub returns-in-Unerase-clause-recent : goal.returns-in-Unerase-clause-recent
+returns-in-Unerase-clause-recent g c = rw (c.put.ensures.put, c.set_block.ensures) (among_more c.args.store.now.recent _ c.get-name.result.now refl)
+
+pub returns-in-Point-clause-recent : goal.returns-in-Point-clause-recent
+returns-in-Point-clause-recent g c = rw c.set_pointer.ensures.set (λ q h. h)
+
+pub returns-in-Join-clause-recent : goal.returns-in-Join-clause-recent
+returns-in-Join-clause-recent g c = rw c.unsegment.ensures (λ q h. h)

@@ -6,6 +6,7 @@ use Rattle.trac_rules.specs.Undone.{names_in}
 use Rattle.trac_forms.specs.Stored.{storage_in}
 use Rattle.trac_change.specs.Changed.{named_forms}
 use Rattle.trac_change.proofs.Weighed.{next_held}
+use Rattle.trac_storage.proofs.Known.{stay_known}
 use Rattle.trac_storage.proofs.StorageBack.{is_unbrought, knows_each, never_erased, set_again}
 use Rattle.trac_storage.proofs.storage_back.unbring.Goals as goal
 
@@ -43,5 +44,6 @@ returns g c =
       storage =
           rw (c.put_each.ensures, c.set_block.ensures, left, c.take_block.ensures.erased, again)
           (is_unbrought store.known c.args.number (named_forms c.args.replaced.items) (storage_in store) held (sym c.in-Some.ensures.taken) c.requires).state;
+      recent = rw (c.put_each.ensures, c.set_block.ensures, left, c.take_block.ensures.erased) (stay_known (names_in (named_forms c.args.replaced.items)) store.recent);
       names = rw (c.put_each.ensures, c.set_block.ensures, left, c.take_block.ensures.erased) refl;
     }

@@ -14,5 +14,10 @@ invariant-loop-name g l =
     record l.store {
       forms = with_all (named_forms (drop l.name-index l.forms)) l.store.forms;
       known = knowing (names_in (named_forms (drop l.name-index l.forms))) l.store.known;
+      recent = knowing (names_in (named_forms (drop l.name-index l.forms))) l.store.recent;
     }
-    ≡ record nothing_stored { forms = forms_of (named_forms l.forms); known = knowing (names_in (named_forms l.forms)) set.empty }
+    ≡ record nothing_stored {
+      forms = forms_of (named_forms l.forms);
+      known = knowing (names_in (named_forms l.forms)) set.empty;
+      recent = knowing (names_in (named_forms l.forms)) set.empty;
+    }

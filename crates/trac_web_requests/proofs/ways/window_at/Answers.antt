@@ -1,8 +1,8 @@
 use Rattle.std.proofs.Common.{◌≡◌, ◌+◌, [], arith, refl, subst}
 use Rattle.trac_debug.proofs.Debugged.{ready_made}
 use Rattle.trac_run.specs.Runs.{TakesSteps}
-use Rattle.trac_window.specs.Windows.{IsWindow}
-use Rattle.trac_window.proofs.Kept.{ended}
+use Rattle.trac_moves.specs.Windows.{IsWindow}
+use Rattle.trac_moves.proofs.Kept.{ended}
 use Rattle.trac_web_requests.proofs.ways.window_at.Goals as goal
 
 pub returns-clause-reached : goal.returns-clause-reached

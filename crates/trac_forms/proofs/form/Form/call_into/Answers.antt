@@ -1,7 +1,7 @@
 -- A text alone is given as it is, whatever the call's texts are.
 use Rattle.std.proofs.Common.{◌≡◌, ◌++◌, ℕ, List, ap, ◌∙◌, refl}
 use Rattle.trac_rules.specs.Filling.{all_filled, called, filled}
-use Rattle.trac_forms.proofs.TextsAlone.{given_alone}
+use Rattle.trac_items.proofs.Alone.{given_alone}
 use Rattle.trac_forms.proofs.form.Form.call_into.Goals as goal
 
 pub returns-clause-ok : goal.returns-clause-ok

@@ -3,7 +3,7 @@ use Rattle.std.proofs.Common.{◌≡◌, ◌≤◌, ℕ, List, length, ap, subst
 use Rattle.std.specs.Prelude.{SomeIff}
 use Rattle.trac_rules.specs.declared.limit.TheConstants.{TEXT_LIMIT}
 use Rattle.trac_rules.specs.Filling.{all_filled, called, filled}
-use Rattle.trac_forms.proofs.TextsAlone.{given_alone}
+use Rattle.trac_items.proofs.Alone.{given_alone}
 use Rattle.trac_forms.proofs.form.Form.call_len.Goals as goal
 
 pub returns : goal.returns

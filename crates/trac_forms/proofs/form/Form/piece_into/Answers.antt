@@ -5,7 +5,7 @@ use Rattle.trac_rules.specs.declared.item.Item.{Item}
 use Rattle.trac_rules.specs.Pieces.{byte_of, bytes_in}
 use Rattle.trac_forms.specs.Taken.{items_from}
 use Rattle.trac_forms.proofs.Passing.{piece_added}
-use Rattle.trac_forms.proofs.TextsAlone.{given_alone, items_alone}
+use Rattle.trac_items.proofs.Alone.{given_alone, items_alone}
 use Rattle.trac_forms.proofs.form.Form.piece_into.Given.{Over}
 use Rattle.trac_forms.proofs.form.Form.piece_into.Goals as goal
 use Rattle.trac_forms.proofs.form.Form.piece_into.Goals.{After-is_empty}

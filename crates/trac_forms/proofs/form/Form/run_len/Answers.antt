@@ -5,7 +5,8 @@ use Rattle.std.proofs.lemmas.List.{length-take}
 use Rattle.std.proofs.lemmas.List.Sums.{prefix_len-le-length}
 use Rattle.trac_rules.specs.declared.item.Item.{Item}
 use Rattle.trac_rules.specs.Pieces.{is_gap}
-use Rattle.trac_forms.proofs.RunLengths.{run_after, run_goes_on, run_is, run_stops}
+use Rattle.trac_forms.proofs.RunLengths.{run_after, run_goes_on, run_stops}
+use Rattle.trac_items.proofs.Runs.{run_is}
 use Rattle.trac_forms.proofs.form.Form.run_len.Goals as goal
 
 pub returns-then-before-from : goal.returns-then-before-from

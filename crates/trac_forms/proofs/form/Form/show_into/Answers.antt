@@ -3,7 +3,7 @@ use Rattle.std.proofs.Common.{◌≡◌, ◌++◌, ℕ, List, append_assoc, ap, 
 use Rattle.std.specs.Prelude.{OnOk}
 use Rattle.trac_rules.specs.declared.item.Item.{Item}
 use Rattle.trac_rules.specs.Showing.{shown_item, shown_items}
-use Rattle.trac_forms.proofs.TextsAlone.{given_both}
+use Rattle.trac_items.proofs.Alone.{given_both}
 use Rattle.trac_forms.proofs.form.Form.show_into.Goals as goal
 
 all_put : (out before mark text items after first second third : List ℕ) → first ≡ out ++ before → second ≡ first ++ mark → third ≡ second ++ text → after ≡ text ++ items →

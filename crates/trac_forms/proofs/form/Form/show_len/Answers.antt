@@ -4,7 +4,7 @@ use Rattle.std.specs.Prelude.{SomeIff, codes}
 use Rattle.trac_rules.specs.declared.item.Item.{Item}
 use Rattle.trac_rules.specs.declared.limit.TheConstants.{OUTPUT_LIMIT}
 use Rattle.trac_rules.specs.Showing.{shown, shown_item, shown_items}
-use Rattle.trac_forms.proofs.TextsAlone.{given_both}
+use Rattle.trac_items.proofs.Alone.{given_both}
 use Rattle.trac_forms.proofs.form.Form.show_len.Goals as goal
 
 pub returns-in_err-text : goal.returns-in_err-text

@@ -9,8 +9,8 @@ use Rattle.trac_rules.specs.declared.item.Item.TheVariants.{Byte}
 use Rattle.trac_rules.specs.declared.limit.TheConstants.{FORM_LIMIT}
 use Rattle.trac_rules.specs.Form.{IsWide, all_items, extent, width_of}
 use Rattle.trac_rules.proofs.Cutting.{count_within_extent}
-use Rattle.trac_forms.specs.declared.run_gaps.RunGap.{RunGap}
-use Rattle.trac_forms.proofs.RunGaps.{IsRead, byte_read, gap_read}
+use Rattle.trac_items.specs.declared.run_gaps.RunGap.{RunGap}
+use Rattle.trac_items.proofs.RunGaps.{IsRead, byte_read, gap_read}
 use Rattle.trac_forms.proofs.form.Form.take_apart.Goals as goal
 
 next : (items : List Item) (i : ℕ) (item : Item) → i < length items → Some item ≡ slice_get items i → take (i + 1) items ≡ take i items ++ item ∷ []

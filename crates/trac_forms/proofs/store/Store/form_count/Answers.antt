@@ -8,4 +8,4 @@ pub returns : goal.returns
 returns g c =
     sym
     (counted c.self.inside.table.entries _ c.args.self.now c.self.view_is c.len-len.ensures.unique
-    ∙ parted_count c.self.inside.table.entries c.self.inside.live c.self.invariant)
+    ∙ parted_count c.self.inside.table.entries c.self.inside.live c.self.invariant.parted)

@@ -4,7 +4,7 @@ use Rattle.std.specs.Prelude.{Option, IfSome, option_map}
 use Rattle.trac_rules.specs.Cuts.{cut_of}
 use Rattle.trac_rules.specs.Form.{Form}
 use Rattle.trac_rules.specs.Segmenting.{segmented}
-use Rattle.trac_forms.proofs.Tables.{changed_in_place, form_found, kept_parted, no_form, none_changed}
+use Rattle.trac_forms.proofs.Tables.{changed_in_place, form_found, kept_order, no_form, none_changed}
 use Rattle.trac_forms.proofs.store.Store.segment.Goals as goal
 
 pub segment_at-requires-clause-cut : goal.segment_at-requires-clause-cut
@@ -20,7 +20,7 @@ returns-in_err-i-clause-cut g c =
 
 pub invariant_of-self : goal.invariant_of-self
 invariant_of-self g c =
-    kept_parted c.self.inside.table.entries c.self.inside.live c.self.invariant c.in_ok-i.i (λ form. segmented (g.T.Texts.texts c.args.texts.now) form) c.segment_at.new.table.entries
+    kept_order c.self.inside.table.entries c.self.inside.live c.self.inside.recent c.self.invariant c.in_ok-i.i (λ form. segmented (g.T.Texts.texts c.args.texts.now) form) c.segment_at.new.table.entries
     c.in_ok-i.ensures.within c.segment_at.ensures.cut
 
 pub returns-clause-old : goal.returns-clause-old

@@ -2,7 +2,7 @@
 use Rattle.std.proofs.Common.{length, sym, ap, ◌∙◌}
 use Rattle.std.specs.Prelude.{option_map}
 use Rattle.trac_rules.specs.Form.{Form, all_items, pointed_at}
-use Rattle.trac_forms.proofs.Tables.{changed_in_place, form_found, kept_parted, no_form, none_changed}
+use Rattle.trac_forms.proofs.Tables.{changed_in_place, form_found, kept_order, no_form, none_changed}
 use Rattle.trac_forms.proofs.store.Store.set_pointer.Goals as goal
 
 pub returns-in_err-i-clause-old : goal.returns-in_err-i-clause-old
@@ -15,7 +15,7 @@ returns-in_err-i-clause-set g c =
 
 pub invariant_of-self : goal.invariant_of-self
 invariant_of-self g c =
-    kept_parted c.self.inside.table.entries c.self.inside.live c.self.invariant c.in_ok-i.i (λ form. pointed_at c.args.place (all_items form)) c.point_at.new.table.entries
+    kept_order c.self.inside.table.entries c.self.inside.live c.self.inside.recent c.self.invariant c.in_ok-i.i (λ form. pointed_at c.args.place (all_items form)) c.point_at.new.table.entries
     c.in_ok-i.ensures.within c.point_at.ensures.set
 
 pub returns-clause-old : goal.returns-clause-old

@@ -4,7 +4,7 @@ use Rattle.std.specs.Prelude.{Option, IfSome, is_some}
 use Rattle.trac_rules.specs.Cuts.{joined}
 use Rattle.trac_rules.specs.Form.{Form, all_items}
 use Rattle.trac_forms.specs.Stored.{unsegmented}
-use Rattle.trac_forms.proofs.Tables.{changed_in_place, form_found, kept_parted, none_changed}
+use Rattle.trac_forms.proofs.Tables.{changed_in_place, form_found, kept_order, none_changed}
 use Rattle.trac_forms.proofs.store.Store.unsegment.Goals as goal
 
 pub returns-in_default : goal.returns-in_default
@@ -18,7 +18,7 @@ unsegment_at-requires-clause-there g c =
 
 pub invariant_of-self : goal.invariant_of-self
 invariant_of-self g c =
-    kept_parted c.self.inside.table.entries c.self.inside.live c.self.invariant c.in-Some.i (unsegmented (g.T.Texts.texts c.args.texts.now) c.args.cut c.args.pointer)
+    kept_order c.self.inside.table.entries c.self.inside.live c.self.inside.recent c.self.invariant c.in-Some.i (unsegmented (g.T.Texts.texts c.args.texts.now) c.args.cut c.args.pointer)
     c.unsegment_at.new.table.entries c.in-Some.ensures.within c.unsegment_at.ensures
 
 pub returns : goal.returns

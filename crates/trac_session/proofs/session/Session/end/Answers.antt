@@ -10,4 +10,4 @@ returns g c = End_of_fields _ _ _ c.self.inside.journal.records _ _ c.self.view_
 
 pub invariant_of-self : goal.invariant_of-self
 invariant_of-self g c =
-    answered End Done c.self.invariant refl c.self.invariant.sound (End_of_fields _ _ _ c.self.inside.journal.records _ _ refl) c.self.invariant.names
+    answered End Done c.self.invariant refl c.self.invariant.sound (End_of_fields _ _ _ c.self.inside.journal.records _ _ refl) c.self.invariant.names c.self.invariant.recent

@@ -28,7 +28,7 @@ returns g c =
 pub invariant_of-self : goal.invariant_of-self
 invariant_of-self g c =
     let inside = c.self.inside in
-    subst (λ (items : List ℕ). IsSession inside.limit inside.width items inside.ended inside.journal.records inside.machine) (sym (ap (λ (w : Window ℕ). w.items) c.in_default.ensures.err)) c.self.invariant
+    subst (λ (items : List ℕ). IsSession inside.limit inside.width items inside.ended inside.mark inside.journal.records inside.machine) (sym (ap (λ (w : Window ℕ). w.items) c.in_default.ensures.err)) c.self.invariant
 
 pub invariant_of-self-2 : goal.invariant_of-self-2
 invariant_of-self-2 g c =
@@ -36,4 +36,4 @@ invariant_of-self-2 g c =
     answered (Feed c.args.bytes.now) Done c.self.invariant refl
     (IsSound-feed _ _ _ c.args.bytes.now c.self.inside.journal.records _ c.in-Ok.ensures.ok (omega (arith, c.self.invariant.sound.tape_limit)) c.self.invariant.sound)
     (Feed_room_of_fields _ _ _ _ c.self.inside.journal.records _ _ _ refl c.if-self.false (omega (arith, c.self.invariant.sound.tape_limit)) c.in-Ok.ensures.ok)
-    c.self.invariant.names
+    c.self.invariant.names c.self.invariant.recent

@@ -10,6 +10,7 @@ use Rattle.trac_gap.specs.Window.{Window}
 use Rattle.trac_step.specs.Layout.{Shown}
 use Rattle.trac_session.specs.Journal.{AreRecords, IsSession, IsSound, IsWithinReach, plain_of}
 use Rattle.trac_session.specs.Knowing.{HasForgotten}
+use Rattle.trac_session.proofs.Aged.{recent_gone}
 use Rattle.trac_session.proofs.Known.{IsSound-forgotten, own_names, plain_forgotten, shows_as_before}
 use Rattle.trac_session.proofs.session.Session.new.Goals as goal
 
@@ -31,12 +32,13 @@ plain_at_first : (limit : ℕ) (width made : Width) (bytes : List ℕ) (journal 
 plain_at_first limit width made bytes journal last same none first at i = plain_of limit (same i) (none i) false (first i) (at i)
 
 session_at_first : (limit : ℕ) (width : Width) (bytes : List ℕ) (journal : List Record) (m n : Shown) → 1 ≤ limit → limit ≤ JOURNAL_LIMIT → bytes ≡ [] → journal ≡ [] → m.state ≡ initial → m.width ≡ width →
-    HasForgotten journal m n → IsSession limit width bytes false journal n
+    HasForgotten journal m n → IsSession limit width bytes false 0 journal n
 session_at_first limit width bytes journal m n some most none first at same forgotten = record {
   sound = IsSound-forgotten journal m n forgotten (sound_at_first limit bytes journal m some most none first at);
   wide = shows_as_before (λ s w. w) journal m n forgotten ∙ same;
   trail = subst IsTrail (sym (plain_forgotten journal m n forgotten ∙ plain_at_first limit width m.width bytes journal m.state same none first at)) (new_trail limit width);
   names = own_names journal m n forgotten;
+  recent = recent_gone 0 journal n first;
 }
 
 pub forget_names-requires : goal.forget_names-requires

@@ -1,7 +1,11 @@
-use Rattle.std.proofs.Common.{◌≡◌, length, refl, ap, sym, ◌∙◌, arith}
+use Rattle.std.proofs.Common.{◌≡◌, length, refl, ap, subst, sym, ◌∙◌, arith}
 use Rattle.trac_journal.specs.Journaled.{Journaled}
 use Rattle.trac_rules.specs.Session.{Step}
 use Rattle.trac_step.specs.Layout.{Shown}
+use Rattle.trac_forms.specs.Stored.{Names}
+use Rattle.trac_session.specs.Journal.{earlier_of}
+use Rattle.trac_session.specs.Knowing.{AreRecent}
+use Rattle.trac_session.proofs.Aged.{recent_passed}
 use Rattle.trac_session.proofs.Known.{own_passed}
 use Rattle.trac_session.proofs.Passed.{HasPassed, IsSound-passed, Step_moved, Step_passed, moved_weigh_nothing, no_plain_ahead}
 use Rattle.trac_session.proofs.Summed.{journal_weighs}
@@ -30,6 +34,10 @@ invariant_of-self g c =
     let sound = c.self.invariant.sound in
     walked Step c.move_plain-count.result c.self.invariant (ap (λ (u : Shown). u.width) c.move_plain-count.ensures.moved) (IsSound-passed run sound) (Step_passed run sound refl)
     (own_passed c.move_plain-count.result c.self.inside.journal.records c.push_moved.new.self.records c.self.inside.machine c.move_plain-count.new.self run.kept run.moved c.self.invariant.names)
+    (subst (λ (names : Names). AreRecent c.self.inside.mark names (earlier_of c.push_moved.new.self.records c.move_plain-count.new.self.state)) (sym (ap (λ (u : Shown). u.recent) run.moved))
+    (recent_passed c.self.inside.mark c.move_plain-count.result c.self.inside.machine.recent c.self.inside.machine.state (earlier_of c.self.inside.journal.records c.self.inside.machine.state)
+    (earlier_of c.push_moved.new.self.records c.move_plain-count.new.self.state) (Step_moved run {bytes = c.self.inside.tape.items} {ended = c.self.inside.ended} refl).earlier c.move_plain-count.ensures.recent
+    c.self.invariant.recent))
 
 pub returns-clause-passed : goal.returns-clause-passed
 returns-clause-passed g c = Step_passed (passed g (goal.at.returns-clause-passed g c).After-push_moved) c.self.invariant.sound c.self.view_is

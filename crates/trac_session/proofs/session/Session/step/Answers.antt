@@ -2,6 +2,8 @@ use Rattle.std.proofs.Common.{◌≡◌, ◌<◌, length, subst, sym, arith}
 use Rattle.std.specs.Prelude.{Err, Ok}
 use Rattle.trac_rules.specs.declared.reply.Reply.TheVariants.{Done, Refused}
 use Rattle.trac_rules.specs.Session.{PlainSession, Answers, Step}
+use Rattle.trac_session.specs.Journal.{plain_of}
+use Rattle.trac_session.proofs.Aged.{recent_after_step, recent_stays}
 use Rattle.trac_session.proofs.Journaled.{Step_full_of_fields, Step_of_fields, IsSound-step}
 use Rattle.trac_session.proofs.Known.{answered_forgotten, at_start, own_after_step, plain_forgotten}
 use Rattle.trac_session.proofs.Trailed.{answered}
@@ -33,6 +35,8 @@ invariant_of-self g c =
     (Step_of_fields _ _ _ inside.ended inside.journal.records c.step_into.new.journal.records _ _ (Err c.in-Err.refusal) room c.self.invariant.sound.records
     tt tt (rw (← c.as_slice.ensures.items) c.in-Err.ensures.refused) c.in-Err.ensures.unchanged c.step_into.ensures.room.width)
     c.forget_names.ensures.forgotten
+    (recent_stays inside.mark inside.journal.records c.step_into.new.journal.records inside.machine c.step_into.new.self c.in-Err.ensures.unchanged.1 c.in-Err.ensures.unchanged.0 c.step_into.ensures.room.recent
+    c.self.invariant.recent)
 
 pub returns-in-Err : goal.returns-in-Err
 returns-in-Err g c =
@@ -50,13 +54,17 @@ invariant_of-self-in_default g c =
     let count : c.len.result ≡ length c.self.inside.journal.records = c.len.ensures in
     let room : length c.self.inside.journal.records < c.self.inside.limit = omega arith in
     let inside = c.self.inside in
+    let taken = Step_of_fields _ _ _ inside.ended inside.journal.records c.step_into.new.journal.records _ _ (Ok (record {})) room c.self.invariant.sound.records
+    (rw (← c.as_slice.ensures.items) c.in_default.ensures.taken) (rw (← c.as_slice.ensures.items) c.in_default.ensures.kept)
+    tt tt c.step_into.ensures.room.width in
     answered Step Done c.self.invariant c.step_into.ensures.room.width
     (IsSound-step _ _ inside.ended inside.journal.records c.step_into.new.journal.records _ _ (Ok (record {})) room c.self.invariant.sound
     c.step_into.ensures.room c.in_default.ensures.held (rw (← c.as_slice.ensures.items) c.in_default.ensures.taken) (rw (← c.as_slice.ensures.items) c.in_default.ensures.kept) tt)
-    (Step_of_fields _ _ _ inside.ended inside.journal.records c.step_into.new.journal.records _ _ (Ok (record {})) room c.self.invariant.sound.records
-    (rw (← c.as_slice.ensures.items) c.in_default.ensures.taken) (rw (← c.as_slice.ensures.items) c.in_default.ensures.kept)
-    tt tt c.step_into.ensures.room.width)
+    taken
     (own_after_step inside.journal.records c.step_into.new.journal.records c.in_default.ensures.kept.newest c.step_into.new.self c.in_default.ensures.kept.added)
+    (recent_after_step inside.mark inside.machine.recent c.step_into.new.self.recent (plain_of inside.limit inside.machine.width inside.tape.items inside.ended inside.journal.records inside.machine.state)
+    (plain_of inside.limit c.step_into.new.self.width inside.tape.items inside.ended c.step_into.new.journal.records c.step_into.new.self.state) taken c.step_into.ensures.room.recent c.step_into.ensures.recent
+    c.self.invariant.recent)
 
 pub returns : goal.returns
 returns g c =

@@ -41,7 +41,7 @@ invariant_of-self g c =
     let done = subst (λ (storage : Storage). OnOk c.change_forms.result (storage_in after ≡ storage)) (λ j. changed (given j) change (storage_of (c.self.view_is j).state)) c.change_forms.ensures.storage in
     record {
       sound =
-          stored_sound p (storage_in after) after.known after.spare c.self.invariant.sound
+          stored_sound p (storage_in after) after.known after.recent after.spare c.self.invariant.sound
           (proper_either c.change_forms.result (storage_in i.store) (storage_in after) made done c.change_forms.ensures.unchanged c.self.invariant.sound.storage c.requires.proper);
       counted = c.self.invariant.counted;
     }
@@ -79,5 +79,5 @@ returns-clause-room g c =
     let i = c.self.inside in
     let p = parts_of (g.E.TwoEnds.ends i.text) (g.M.TwoEnds.ends i.marks) i.store i.meta i.trace i.position i.output in
     let after = c.change_forms.new.store in
-    IsNoLess-parts p (record p { storage = storage_in after; known = after.known; spare = after.spare }) c.args.self.now c.self.view_is (omega arith) (omega arith) (omega arith)
-    (none_forgotten c.change_forms.result (names_put c.arguments_at-arguments.result c.args.change.now) i.store.known after.known c.change_forms.ensures.names c.change_forms.ensures.some)
+    IsNoLess-parts p (record p { storage = storage_in after; known = after.known; recent = after.recent; spare = after.spare }) c.args.self.now c.self.view_is (omega arith) (omega arith) (omega arith)
+    (none_forgotten c.change_forms.result (names_put c.arguments_at-arguments.result c.args.change.now) i.store.known after.known c.change_forms.ensures.names c.change_forms.ensures.some) c.change_forms.ensures.recent

@@ -77,4 +77,4 @@ returns-clause-room g c =
     let cut = g.E.TwoEnds.ends c.cut_function.new.text in
     let q = parts_of (g.E.TwoEnds.ends c.put_value.new.text) (g.M.TwoEnds.ends c.cut_function.new.marks) i.store c.unwrap_or-meta.result c.unwrap_or-trace.result plan.position c.put_printed.new.output in
     let kept = ap (λ (x : Ends ℕ). x.capacity) c.put_value.ensures ∙ value_capacity plan.beginning.kind plan.forced c.as_slice.result.now cut ∙ ap (λ (x : Ends ℕ). x.capacity) c.cut_function.ensures.text in
-    IsNoLess-parts (parts_of (g.E.TwoEnds.ends c.self.inside.text) (g.M.TwoEnds.ends c.self.inside.marks) c.self.inside.store c.self.inside.meta c.self.inside.trace c.self.inside.position c.self.inside.output) q c.args.self.now c.self.view_is (omega (arith, kept)) (omega (arith, ap (λ (x : Ends Mark). x.capacity) c.cut_function.ensures.marks)) c.put_printed.ensures.grows (λ name h. h)
+    IsNoLess-parts (parts_of (g.E.TwoEnds.ends c.self.inside.text) (g.M.TwoEnds.ends c.self.inside.marks) c.self.inside.store c.self.inside.meta c.self.inside.trace c.self.inside.position c.self.inside.output) q c.args.self.now c.self.view_is (omega (arith, kept)) (omega (arith, ap (λ (x : Ends Mark). x.capacity) c.cut_function.ensures.marks)) c.put_printed.ensures.grows (λ name h. h) (λ name h. h)

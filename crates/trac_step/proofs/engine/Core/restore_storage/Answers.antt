@@ -8,6 +8,7 @@ use Rattle.trac_forms.specs.Stored.{KnowsAll, storage_in}
 use Rattle.trac_text.specs.Framing.{marked_in}
 use Rattle.trac_text.specs.Neutral.{AreMarks, MarkedText, Neutral, neutral_of}
 use Rattle.trac_change.specs.Undone.{undone_in}
+use Rattle.trac_storage.specs.Changing.{AreAmong}
 use Rattle.trac_step.specs.Calling.{arguments_in}
 use Rattle.trac_step.specs.Layout.{parts_of, Shown}
 use Rattle.trac_step.proofs.CallsUndone.{marked_same}
@@ -49,7 +50,7 @@ invariant_of-self g c =
     let after = c.put_storage.new.store in
     record {
       sound =
-          stored_sound p (storage_in after) after.known after.spare c.self.invariant.sound
+          stored_sound p (storage_in after) after.known after.recent after.spare c.self.invariant.sound
           (proper_before c.args.self.now.known _ (storage_in after) (sym same ∙ c.put_storage.ensures.storage) c.requires.there);
       counted = c.self.invariant.counted;
     }
@@ -67,4 +68,5 @@ returns g c =
       others =
           stored_shows (g.E.TwoEnds.ends i.text) (g.M.TwoEnds.ends i.marks) i.store c.put_storage.new.store i.meta i.trace i.position i.output c.args.self.now (storage_in c.put_storage.new.store) c.self.view_is refl
           c.put_storage.ensures.names;
+      recent = subst (λ (m : Shown). AreAmong m.recent c.put_storage.new.store.recent) c.self.view_is c.put_storage.ensures.recent;
     }

@@ -22,3 +22,6 @@ returns-clause-proper g c = proper_after c.next_step_into.result (environment_of
 
 pub returns-clause-held : goal.returns-clause-held
 returns-clause-held g c = held_after c.next_step_into.result _ c.args.self.now c.next_step_into.new.self c.args.self.now.state c.next_step_into.ensures.room c.recall_room.ensures.room c.next_step_into.ensures.taken
+
+pub returns-clause-recent : goal.returns-clause-recent
+returns-clause-recent g c = λ name h. c.next_step_into.ensures.room.recent name (c.recall_room.ensures.recent name h)

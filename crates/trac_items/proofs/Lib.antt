@@ -1,0 +1,5 @@
+pub mod Alone
+pub mod ByteRuns
+pub mod Cuts
+pub mod RunGaps
+pub mod Runs

@@ -1,0 +1,54 @@
+-- What a window shows of the output, as it is made, walked and cut.
+use Rattle.std.proofs.Common.{◌≡◌, ℕ, ◌+◌, ◌-◌, ◌^◌, false, List, [], ◌++◌, length, min, sym, ap, subst, ◌∙◌, arith}
+use Rattle.std.specs.Prelude.{Some}
+use Rattle.std.proofs.lemmas.List.{length-append}
+use Rattle.trac_rules.specs.declared.width.Width.{Width}
+use Rattle.trac_rules.specs.Session.{PlainSession, Back, Commit, End, Feed, Step, answer, done, first_kept, new_session, repeated}
+use Rattle.trac_rules.proofs.GoingOn.{after_repeated}
+use Rattle.trac_rules.proofs.Released.{length-committed}
+use Rattle.trac_rules.proofs.Replies.{Commit_done, End_done, Feed_done}
+use Rattle.trac_session.specs.Outputs.{HasReleased}
+use Rattle.trac_session.proofs.Released.{back_released, commit_released, end_released, last_on_tape, new_released, stepped_released}
+use Rattle.trac_session.proofs.Returned.{back_count}
+use Rattle.trac_moves.specs.Windows.{IsWindow}
+
+-- a window over a tape has released nothing
+pub over_tape : (tape : List ℕ) (limit : ℕ) (width : Width) (p : PlainSession) → answer (Feed tape) (new_session limit width) ≡ done p → IsWindow tape 0 [] 0 0 p
+over_tape tape limit width p fed = record {
+  has = subst (λ (q : PlainSession). HasReleased tape 0 [] q) (sym (Feed_done tape (new_session limit width) p fed).0) (new_released limit width (record { bytes = tape; ended = false }));
+  steps_forgotten = omega arith;
+  bytes_forgotten = omega arith;
+}
+
+-- steps forward and back
+pub forward : (n : ℕ) (input text : List ℕ) (steps forgotten released : ℕ) (p q : PlainSession) → IsWindow input steps text forgotten released p → repeated Step n p ≡ Some q →
+    IsWindow input (steps + n) text forgotten released q
+forward n input text steps forgotten released p q w walked =
+    let longer = (after_repeated n p q (last_on_tape p w.has.trail w.has.on_tape) walked).earlier in
+    record { has = stepped_released n input text steps p q w.has walked; steps_forgotten = omega (arith, w.steps_forgotten, longer); bytes_forgotten = w.bytes_forgotten }
+
+pub backward : (n : ℕ) (input text : List ℕ) (steps forgotten released : ℕ) (p q : PlainSession) → IsWindow input steps text forgotten released p → repeated Back n p ≡ Some q →
+    IsWindow input (steps - n) text forgotten released q
+backward n input text steps forgotten released p q w walked = record {
+  has = (back_released n input text steps p q w.has walked).1;
+  steps_forgotten = omega (arith, w.steps_forgotten, back_count n p q walked);
+  bytes_forgotten = w.bytes_forgotten;
+}
+
+-- the end of the input
+pub ended : (input text : List ℕ) (steps forgotten released : ℕ) (p q : PlainSession) → IsWindow input steps text forgotten released p → answer End p ≡ done q →
+    IsWindow input steps text forgotten released q
+ended input text steps forgotten released p q w h =
+    record { has = end_released input text steps p q w.has h; steps_forgotten = omega (arith, w.steps_forgotten, ap (λ (r : PlainSession). length r.earlier) (End_done p q h)); bytes_forgotten = w.bytes_forgotten }
+
+-- some of the steps are kept, and the others counted
+pub kept : (keep forgotten released forgets releases : ℕ) (p q : PlainSession) (input text : List ℕ) (steps : ℕ) → IsWindow input steps text forgotten released p → answer (Commit keep) p ≡ done q →
+    forgets ≡ min (forgotten + (length p.earlier - keep)) (2 ^ 64 - 1) → releases ≡ min (released + length (first_kept keep p).output) (2 ^ 64 - 1) →
+    IsWindow input steps (text ++ (first_kept keep p).output) forgets releases q
+kept keep forgotten released forgets releases p q input text steps w h forgot freed =
+    let left : length q.earlier ≡ min keep (length p.earlier) = ap (λ (r : PlainSession). length r.earlier) (Commit_done keep p q h) ∙ length-committed keep p in
+    record {
+      has = commit_released keep input text steps p q w.has h;
+      steps_forgotten = omega (arith, w.steps_forgotten, w.has.counted, forgot, left);
+      bytes_forgotten = omega (arith, w.bytes_forgotten, freed, length-append text (first_kept keep p).output);
+    }

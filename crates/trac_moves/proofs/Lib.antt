@@ -1,0 +1,4 @@
+pub mod Kept
+pub mod Searched
+pub mod SearchedOn
+pub mod SteppedBack

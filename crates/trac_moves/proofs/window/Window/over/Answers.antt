@@ -1,0 +1,5 @@
+use Rattle.trac_moves.proofs.Kept.{over_tape}
+use Rattle.trac_moves.proofs.window.Window.over.Goals as goal
+
+pub returns-clause-output : goal.returns-clause-output
+returns-clause-output g c = over_tape c.args.tape.now c.args.limit c.args.width c.in-Ok.session c.in-Ok.ensures

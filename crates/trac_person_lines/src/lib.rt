@@ -1,0 +1,28 @@
+//! What a person is shown of a machine: the step that comes next, calls with their values, forms, and all of it on one
+//! screen. All of it is this project's profile.
+#![tactic(auto)]
+
+mod calls;
+mod doubting;
+mod form_list;
+mod given;
+mod notes;
+mod piece;
+mod screen;
+mod screen_line;
+mod standing_line;
+mod way;
+
+pub use calls::{Before, call_into, outcome_into};
+pub use doubting::doubt_into;
+pub use form_list::{form_into, list_into};
+pub use given::{given_into, only_byte};
+pub use notes::{
+    Later, NO_PLACE, NO_PRIMITIVE, SEARCH_LIMIT, Stop, later_into, no_end_into, refused, stop_into,
+    window_into,
+};
+pub use piece::piece_into;
+pub use screen::screen_into;
+pub use screen_line::ScreenLine;
+pub use standing_line::standing_into;
+pub use way::{Origin, Treatment, left_out_into, origin_into, step_line, treatment_into};

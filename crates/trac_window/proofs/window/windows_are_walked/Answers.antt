@@ -1,5 +1,0 @@
-use Rattle.trac_window.proofs.Kept.{backward, ended, forward}
-use Rattle.trac_window.proofs.window.windows_are_walked.Goals as goal
-
-pub returns : goal.returns
-returns c = record { forward = forward; back = backward; end = ended }

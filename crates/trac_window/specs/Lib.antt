@@ -1,2 +1,0 @@
--- What a window shows of the output.
-pub mod Windows
