@@ -21,7 +21,7 @@ use Rattle.trac_rules.specs.declared.byte.TheConstants.{LINE_FEED}
 use Rattle.trac_streams.specs.Lines.{feed_count, lines_of, is_within}
 use Rattle.trac_debug.specs.Commands.{LineCommand, Forward, Back, Until, Return, Print, Commit, Quit, command_of}
 use Rattle.trac_debug.specs.Replies.{Replies, is_walk}
-use Rattle.trac_debug.specs.Debugging.{Turn, Passes, Does, Ends, Takes, MayWrite, MayFollow, FollowsFirst, MayShow, RepliesToFirst, ready, shown_where, turn_at, turn_of}
+use Rattle.trac_debug.specs.Debugging.{Turn, Passes, Does, Ends, Takes, TurnLeads, LeadsTo, MayWrite, MayFollow, FollowsFirst, MayShow, RepliesToFirst, ready, shown_where, turn_at, turn_of}
 use Rattle.trac_debug.specs.Debugs.{UnlessFault, UnlessWrite, IsReading, BeginsWith, FaultsAt, Debugs, DebugsBy, MOST_READ, IsReady, IsNotReplied, ReadsInLines, Settles, Stops, Advances, Halts}
 use Rattle.trac_streams.specs.Pending.{Pending}
 use Rattle.trac_streams.specs.Tape.{MayRefuseTape}
@@ -52,23 +52,22 @@ turn_late number (b ∷ bs) late =
 Appends-none : (a b : Option (List ℕ)) → Keeps a b → Appends a b []
 Appends-none a b kept = Appends-kept a a b [] (Appends-nothing a) kept
 
--- what a turn that is done with has written stands before what is written from there on
+-- what a turn that is done with has written, and where it leads
 pub record IsSettled (turn : Turn) (p q : PlainSession) (a b : Option (List ℕ)) : Type 0 where
   pub written : List ℕ
   pub gave : Appends a b written
-  pub takes : (lines : List (List ℕ)) → (number : ℕ) → (text : List ℕ) → (stop : Ending) → MayWrite lines number q text stop →
-      Takes turn p (λ r rest. MayWrite lines number r rest stop) (written ++ text) stop
+  pub leads : TurnLeads turn p (λ r rest. (rest ≡ []) × (q ≡ r)) written
 
 settled : (turn : Turn) (p q : PlainSession) (a b : Option (List ℕ)) → Settles turn p q a b → IsSettled turn p q a b
 settled Passes p q a b over = record {
   written = [];
   gave = Appends-none a b over.1;
-  takes = λ lines number text stop rest. subst (λ r. MayWrite lines number r text stop) over.0 rest;
+  leads = (refl, over.0);
 }
 settled (Does command) p q a b over = record {
   written = over.reply;
   gave = over.gave;
-  takes = λ lines number text stop rest. (over.reply, q, text, over.replies, refl, rest);
+  leads = (over.reply, q, [], over.replies, sym (append-nil over.reply), (refl, refl));
 }
 settled (Ends stop) p q a b over = absurd over
 
@@ -153,13 +152,17 @@ unless_Read : (ending : Ending) (Fact : Type 0) → ending ≡ Read → UnlessFa
 unless_Read ending Fact is = subst (λ e. UnlessFault e Fact) (sym is) tt
 
 -- the same of an ending but a fault of the writer
-always_unless : (ending : Ending) (Fact : Type 0) → Fact → UnlessWrite ending Fact
+pub always_unless : (ending : Ending) (Fact : Type 0) → Fact → UnlessWrite ending Fact
 always_unless Write Fact fact = tt
 always_unless ending Fact fact = fact
 
 also_unless : (ending : Ending) (Fact Other : Type 0) → (Fact → Other) → UnlessWrite ending Fact → UnlessWrite ending Other
 also_unless Write Fact Other go fact = tt
 also_unless ending Fact Other go fact = go fact
+
+both_unless : (ending : Ending) (One Fact Other : Type 0) → (One → Fact → Other) → UnlessWrite ending One → UnlessWrite ending Fact → UnlessWrite ending Other
+both_unless Write One Fact Other go one fact = tt
+both_unless ending One Fact Other go one fact = go one fact
 
 write_unless : (ending : Ending) (Fact : Type 0) → ending ≡ Write → UnlessWrite ending Fact
 write_unless ending Fact is = subst (λ e. UnlessWrite e Fact) (sym is) tt
@@ -245,7 +248,7 @@ advances in_old in_new out_old out_new reads_old reads_new number old mid new p 
       splits = λ more none.
           ap lines_of (sym (read_on old mid read.got more read.bytes)) ∙ front.2 more (λ over. none (ended ∙ over))
           ∙ ap (λ (l : Pending). line ∷ lines_of (l.bytes ++ more)) (sym after);
-      rest = λ lines text stop rest_. turn.takes lines (number + 1) text stop rest_;
+      leads = turn.leads;
       few = omega (arith, held.0, left, short, front.3);
       held = λ old_held. omega (arith, held.1 old_held, left);
       full = by.full;
@@ -423,10 +426,55 @@ reads_later before done far got lines saw_end fewer splits reads (inr last) =
           omega (arith, ap feed_count whole, reading.1, fewer);
     }
 
+-- ---- where lines lead
+
+-- more after a turn that does not end the session
+turn_on : (turn : Turn) (p : PlainSession) (Before After : PlainSession → List ℕ → Type 0) (written text : List ℕ) → ((r : PlainSession) (rest : List ℕ) → Before r rest → After r (rest ++ text)) →
+    TurnLeads turn p Before written → TurnLeads turn p After (written ++ text)
+turn_on Passes p Before After written text on leads = on p written leads
+turn_on (Does command) p Before After written text on leads =
+    (leads.0, leads.1, leads.2 ++ text, leads.3, ap (λ t. t ++ text) leads.4 ∙ append_assoc leads.0 leads.2 text, on leads.1 leads.2 leads.5)
+turn_on (Ends stop) p Before After written text on leads = absurd leads
+
+-- it is one of those that there may be
+turn_taken : (turn : Turn) (p : PlainSession) (Rest : PlainSession → List ℕ → Type 0) (written : List ℕ) (stop : Ending) → TurnLeads turn p Rest written → Takes turn p Rest written stop
+turn_taken Passes p Rest written stop leads = leads
+turn_taken (Does command) p Rest written stop leads = leads
+turn_taken (Ends last) p Rest written stop leads = absurd leads
+
+-- no line is counted yet
+at_start : (number next : ℕ) → 0 + number ≡ next → number ≡ next
+at_start number next count = omega (arith, count)
+
+-- lines after others
+leads_on : (before later : List (List ℕ)) (number next : ℕ) (p q r : PlainSession) (written text : List ℕ) → length before + number ≡ next → LeadsTo before number p written q → LeadsTo later next q text r →
+    LeadsTo (before ++ later) number p (written ++ text) r
+leads_on [] later number next p q r written text count leads more =
+    subst (λ w. LeadsTo later number p (w ++ text) r) (sym leads.0) (subst (λ n. LeadsTo later n p text r) (sym (at_start number next count)) (subst (λ s. LeadsTo later next s text r) leads.1 more))
+leads_on (line ∷ before) later number next p q r written text count leads more =
+    turn_on (turn_at number line) p (λ s rest. LeadsTo before (number + 1) s rest q) (λ s rest. LeadsTo (before ++ later) (number + 1) s rest r) written text
+    (λ s rest led. leads_on before later (number + 1) next s q r rest text (omega (arith, count)) led more) leads
+
+-- what may be written after lines
+leads_before : (before later : List (List ℕ)) (number next : ℕ) (p q : PlainSession) (written text : List ℕ) (stop : Ending) → length before + number ≡ next → LeadsTo before number p written q →
+    MayWrite later next q text stop → MayWrite (before ++ later) number p (written ++ text) stop
+leads_before [] later number next p q written text stop count leads may =
+    subst (λ w. MayWrite later number p (w ++ text) stop) (sym leads.0) (subst (λ n. MayWrite later n p text stop) (sym (at_start number next count)) (subst (λ s. MayWrite later next s text stop) leads.1 may))
+leads_before (line ∷ before) later number next p q written text stop count leads may =
+    turn_taken (turn_at number line) p (λ s rest. MayWrite (before ++ later) (number + 1) s rest stop) (written ++ text) stop
+    (turn_on (turn_at number line) p (λ s rest. LeadsTo before (number + 1) s rest q) (λ s rest. MayWrite (before ++ later) (number + 1) s rest stop) written text
+    (λ s rest led. leads_before before later (number + 1) next s q rest text stop (omega (arith, count)) led may) leads)
+
+-- what they write, if they are all
+leads_may : (lines : List (List ℕ)) (number : ℕ) (p q : PlainSession) (written : List ℕ) → LeadsTo lines number p written q → MayWrite lines number p written Ended
+leads_may lines number p q written leads =
+    subst (λ ls. MayWrite ls number p written Ended) (append-nil lines)
+    (subst (λ w. MayWrite (lines ++ []) number p w Ended) (append-nil written)
+    (leads_before lines [] number (length lines + number) p q written [] Ended refl leads (refl, refl)))
+
 -- ---- a whole session
 
--- what a session has done so far: what was read, what was written, the lines that were replied to, and that what may be written from the
--- line of this number on is the rest. No more was read than these lines may have and is held, and so often
+-- what a session has done so far: what was read, what was written, the lines that were replied to, and where they lead. No more was read than these lines may have and is held, and so often
 pub record SoFar (in_old in_now out_old out_now : Option (List ℕ)) (start : PlainSession) (reads number : ℕ) (lines : Pending) (p : PlainSession) : Type 0 where
   pub got : List ℕ
   pub written : List ℕ
@@ -435,7 +483,7 @@ pub record SoFar (in_old in_now out_old out_now : Option (List ℕ)) (start : Pl
   pub at_end : lines.ended ≡ true → IsAtEnd in_now
   pub before : List (List ℕ)
   pub splits : (more : List ℕ) → (lines.ended ≡ true → more ≡ []) → lines_of (got ++ more) ≡ before ++ lines_of (lines.bytes ++ more)
-  pub rest : (later : List (List ℕ)) → (text : List ℕ) → (stop : Ending) → MayWrite later number p text stop → MayWrite (before ++ later) 1 start (written ++ text) stop
+  pub leads : LeadsTo before 1 start written p
   pub count : length before + 1 ≡ number
   pub in_lines : ReadsInLines (length before) lines.ended got
   pub few : length got ≤ length before * (LINE_LIMIT + 2) + length lines.bytes
@@ -465,7 +513,7 @@ so_far_none input output lines p none = record {
   at_end = λ over. absurd (false≢true (sym (ap (λ (l : Pending). l.ended) none) ∙ over));
   before = [];
   splits = λ more _. ap (λ (l : Pending). lines_of (l.bytes ++ more)) (sym none);
-  rest = λ later text stop may. may;
+  leads = (refl, refl);
   count = refl;
   in_lines = record { before = []; piece = []; all = refl; few = omega arith; feeds = omega arith; at_end = λ over. omega arith };
   few = omega arith;
@@ -489,10 +537,7 @@ so_far_more in_old in_now in_new out_old out_now out_new start reads_now reads_n
   splits = λ more none.
       ap lines_of (append_assoc far.got on.got more) ∙ far.splits (on.got ++ more) (λ over. let at = on.closed over in ap (λ g. g ++ more) at.0 ∙ none at.1)
       ∙ ap (λ ls. far.before ++ ls) (on.splits more none) ∙ sym (append_assoc far.before (on.line ∷ []) (lines_of (after.bytes ++ more)));
-  rest = λ later text stop may.
-      let here = far.rest (on.line ∷ later) (on.written ++ text) stop (on.rest later text stop may) in
-      subst (λ ls. MayWrite ls 1 start ((far.written ++ on.written) ++ text) stop) (sym (append_assoc far.before (on.line ∷ []) later))
-      (subst (λ w. MayWrite (far.before ++ (on.line ∷ later)) 1 start w stop) (sym (append_assoc far.written on.written text)) here);
+  leads = leads_on far.before (on.line ∷ []) 1 number start p q far.written on.written far.count far.leads on.leads;
   count = omega (arith, length-append far.before (on.line ∷ []), far.count);
   in_lines =
       reads_later far.before (length (far.before ++ (on.line ∷ []))) far.got on.got lines after.ended (omega (arith, length-append far.before (on.line ∷ [])))
@@ -518,12 +563,14 @@ unless_also Write Fact Other go fact = tt
 unless_also ending Fact Other go fact = go fact
 
 -- the first lines of all, and nothing after the replies to them
-first_replied : (start : PlainSession) (before later lines : List (List ℕ)) (written nothing : List ℕ) → lines ≡ before ++ later → nothing ≡ [] →
-    MayWrite (before ++ []) 1 start (written ++ []) Ended → MayWrite (take (length before) lines) 1 start (written ++ nothing) Ended
-first_replied start before later lines written nothing splits none may =
-    subst (λ ls. MayWrite ls 1 start (written ++ nothing) Ended)
-    (append-nil before ∙ sym (take-append_seam before later) ∙ ap (take (length before)) (sym splits))
-    (subst (λ t. MayWrite (before ++ []) 1 start (written ++ t) Ended) (sym none) may)
+first_replied : (start p q : PlainSession) (before later lines : List (List ℕ)) (written nothing : List ℕ) → lines ≡ before ++ later → nothing ≡ [] → q ≡ p →
+    LeadsTo before 1 start written p → (length before ≤ length lines) × LeadsTo (take (length before) lines) 1 start (written ++ nothing) q
+first_replied start p q before later lines written nothing splits none same leads = (
+  omega (arith, ap length splits, length-append before later),
+  subst (λ ls. LeadsTo ls 1 start (written ++ nothing) q) (sym (take-append_seam before later) ∙ ap (take (length before)) (sym splits))
+      (subst (λ t. LeadsTo before 1 start t q) (sym (append-nil written) ∙ ap (λ t. written ++ t) (sym none))
+      (subst (λ r. LeadsTo before 1 start written r) (sym same) leads)),
+)
 
 -- the next line comes after others
 begins_later : (IsKind : LineCommand → Type 0) (number : ℕ) (before lines all : List (List ℕ)) → length before + 1 ≡ number → all ≡ before ++ lines →
@@ -552,11 +599,11 @@ faults_later Write number before saw_end far got held more count splits none fau
 faults_later ending number before saw_end far got held more count splits none faults = tt
 
 -- the end
-pub debugged : (in_old in_now in_new out_old out_now out_new : Option (List ℕ)) (start : PlainSession) (reads_now reads_new number count : ℕ) (lines : Pending) (p : PlainSession) (ending : Ending) →
+pub debugged : (in_old in_now in_new out_old out_now out_new : Option (List ℕ)) (start : PlainSession) (reads_now reads_new number count : ℕ) (lines : Pending) (p q : PlainSession) (ending : Ending) →
     number ≤ LINE_COUNT_LIMIT + 1 → count + 1 ≡ number →
-    SoFar in_old in_now out_old out_now start reads_now number lines p → Halts in_now in_new out_now out_new reads_now reads_new number lines p ending →
-    DebugsBy in_old in_new out_old out_new (MayFollow start) (FollowsFirst start) count reads_new ending
-debugged in_old in_now in_new out_old out_now out_new start reads_now reads_new number count lines p ending few_lines counts far last =
+    SoFar in_old in_now out_old out_now start reads_now number lines p → Halts in_now in_new out_now out_new reads_now reads_new number lines p ending → UnlessWrite ending (q ≡ p) →
+    DebugsBy in_old in_new out_old out_new (MayFollow start) (FollowsFirst start q) count reads_new ending
+debugged in_old in_now in_new out_old out_now out_new start reads_now reads_new number count lines p q ending few_lines counts far last kept =
     let splits : (more : List ℕ) → (last.saw_end ≡ true → more ≡ []) → lines_of ((far.got ++ last.got) ++ more) ≡ far.before ++ lines_of (lines.bytes ++ (last.got ++ more)) =
     λ more none.
     ap lines_of (append_assoc far.got last.got more) ∙ far.splits (last.got ++ more) (λ over. let at = last.closed over in ap (λ g. g ++ more) at.0 ∙ none at.1) in
@@ -564,7 +611,7 @@ debugged in_old in_now in_new out_old out_now out_new start reads_now reads_new 
     MayFollow start ((far.got ++ last.got) ++ more) (far.written ++ text) stop =
     λ more none text stop may.
     subst (λ ls. MayWrite ls 1 start (far.written ++ text) stop) (sym (splits more none))
-    (far.rest (lines_of (lines.bytes ++ (last.got ++ more))) text stop may) in
+    (leads_before far.before (lines_of (lines.bytes ++ (last.got ++ more))) 1 number start p far.written text stop far.count far.leads may) in
     let lines_done : length far.before ≡ count = omega (arith, far.count, counts) in
     record {
       debugs = record {
@@ -585,12 +632,12 @@ debugged in_old in_now in_new out_old out_now out_new start reads_now reads_new 
         replied = length far.before;
         few_lines = omega (arith, far.count, few_lines);
         replies = λ more none.
-            also_unless ending (last.written ≡ []) (FollowsFirst start (length far.before) ((far.got ++ last.got) ++ more) (far.written ++ last.written))
-            (λ nothing.
-            let first = first_replied start far.before (lines_of (lines.bytes ++ (last.got ++ more))) (lines_of ((far.got ++ last.got) ++ more)) far.written last.written (splits more none) nothing
-            (far.rest [] [] Ended (refl, refl)) in
-            (first, λ input steps text has. all_told _ input 1 steps text start _ Ended has first))
-            last.nothing;
+            both_unless ending (last.written ≡ []) (q ≡ p) (FollowsFirst start q (length far.before) ((far.got ++ last.got) ++ more) (far.written ++ last.written))
+            (λ nothing same.
+            let first = first_replied start p q far.before (lines_of (lines.bytes ++ (last.got ++ more))) (lines_of ((far.got ++ last.got) ++ more)) far.written last.written (splits more none) nothing same far.leads in
+            let may = leads_may (take (length far.before) (lines_of ((far.got ++ last.got) ++ more))) 1 start q (far.written ++ last.written) first.1 in
+            (first.0, first.1, λ input steps text has. all_told _ input 1 steps text start _ Ended has may))
+            last.nothing kept;
         faults = λ more none. faults_later ending number far.before last.saw_end far.got last.got lines.bytes more far.count splits none (last.faults more none);
         reads = reads_later far.before (length far.before) far.got last.got lines last.saw_end (omega arith) far.splits far.in_lines last.in_line;
       };
@@ -606,9 +653,9 @@ few_reads_by in_old in_new out_old out_new Stated ToFirst lines reads ending by 
     omega (arith, by.debugs.few, reads_counted reads by.debugs.got by.debugs.saw_end ending by.counted)
 
 -- the same over a tape that is not too long
-pub debugged_over : (in_old in_new out_old out_new : Option (List ℕ)) (tape : List ℕ) (limit : ℕ) (width : Width) (p : PlainSession) (ending : Ending) → IsReady tape limit width p →
-    Debugs in_old in_new out_old out_new (MayFollow p) (FollowsFirst p) ending → Debugs in_old in_new out_old out_new (MayShow tape limit width) (RepliesToFirst tape limit width) ending
-debugged_over in_old in_new out_old out_new tape limit width p ending is all =
+pub debugged_over : (in_old in_new out_old out_new : Option (List ℕ)) (tape : List ℕ) (limit : ℕ) (width : Width) (p q : PlainSession) (ending : Ending) → IsReady tape limit width p →
+    Debugs in_old in_new out_old out_new (MayFollow p) (FollowsFirst p q) ending → Debugs in_old in_new out_old out_new (MayShow tape limit width) (RepliesToFirst tape limit width) ending
+debugged_over in_old in_new out_old out_new tape limit width p q ending is all =
     let shown : (commands text : List ℕ) (stop : Ending) → MayFollow p commands text stop → MayShow tape limit width commands text stop =
     λ commands text stop may. shown_within tape limit width commands text stop is.within (subst (λ q. MayFollow q commands text stop) is.is may) in
     record {
@@ -626,8 +673,10 @@ debugged_over in_old in_new out_old out_new tape limit width p ending is all =
       replied = all.replied;
       few_lines = all.few_lines;
       replies = λ more none.
-          also_unless ending (FollowsFirst p all.replied (all.got ++ more) all.written) (RepliesToFirst tape limit width all.replied (all.got ++ more) all.written)
-          (λ first. let over = subst (λ q. FollowsFirst q all.replied (all.got ++ more) all.written) is.is first in (over.0, over.1 tape 0 [] (ready_released tape limit width)))
+          also_unless ending (FollowsFirst p q all.replied (all.got ++ more) all.written) (RepliesToFirst tape limit width all.replied (all.got ++ more) all.written)
+          (λ first.
+          let over = subst (λ r. FollowsFirst r q all.replied (all.got ++ more) all.written) is.is first in
+          (leads_may (take all.replied (lines_of (all.got ++ more))) 1 (ready tape limit width) q all.written over.1, over.2 tape 0 [] (ready_released tape limit width)))
           (all.replies more none);
       faults = all.faults;
       reads = all.reads;

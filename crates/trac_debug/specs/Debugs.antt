@@ -10,7 +10,7 @@ use Rattle.trac_streams.specs.declared.ending.Ending.TheVariants.{Memory, Read, 
 use Rattle.trac_streams.specs.Lines.{feed_count, lines_of}
 use Rattle.trac_debug.specs.Commands.{LineCommand}
 use Rattle.trac_debug.specs.Replies.{Replies, is_walk}
-use Rattle.trac_debug.specs.Debugging.{Turn, Passes, Does, Ends, MayWrite, ready, turn_at}
+use Rattle.trac_debug.specs.Debugging.{Turn, Passes, Does, Ends, LeadsTo, MayWrite, ready, turn_at}
 use Rattle.trac_streams.specs.declared.input.TheConstants.{READ_SIZE}
 use Rattle.trac_streams.specs.declared.lines.TheConstants.{LINE_LIMIT, LINE_COUNT_LIMIT}
 use Rattle.trac_streams.specs.Pending.{Pending}
@@ -139,8 +139,7 @@ Stops (Does command) old out_old out_new ending = IsNotReplied command old out_o
 Stops (Ends stop) old out_old out_new ending = (ending ≡ stop) × Keeps out_old out_new
 
 -- a line stands at the front of the text, whatever comes after it, and is taken with what ends it; no read came once it
--- was read. What may be written from the next line on, after what was written, may be written from the line of this
--- number on
+-- was read. With this number it leads from one session to the other, and the reply to it was written
 pub record Advances (in_old in_new out_old out_new : Option (List ℕ)) (reads_old reads_new number : ℕ)
     (lines_old : Pending) (p : PlainSession) (lines_new : Pending) (q : PlainSession) : Type 0 where
   pub got : List ℕ
@@ -153,8 +152,7 @@ pub record Advances (in_old in_new out_old out_new : Option (List ℕ)) (reads_o
   pub line : List ℕ
   pub splits : (more : List ℕ) → (lines_new.ended ≡ true → more ≡ []) →
       lines_of (lines_old.bytes ++ (got ++ more)) ≡ line ∷ lines_of (lines_new.bytes ++ more)
-  pub rest : (lines : List (List ℕ)) → (text : List ℕ) → (stop : Ending) → MayWrite lines (number + 1) q text stop →
-      MayWrite (line ∷ lines) number p (written ++ text) stop
+  pub leads : LeadsTo (line ∷ []) number p written q
   pub few : length lines_old.bytes + length got ≤ length lines_new.bytes + (LINE_LIMIT + 2)
   pub held : length lines_old.bytes ≤ HELD_LIMIT → length lines_new.bytes ≤ HELD_LIMIT
   pub full : ℕ

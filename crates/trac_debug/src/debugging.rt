@@ -5,7 +5,7 @@ ghost use Rattle.std.specs.Io.KnownBytes.{Appends, IsAtEnd};
 ghost use Rattle.trac_rules.specs.Session.{PlainSession};
 ghost use Rattle.trac_debug.specs.Debugging.{FollowsFirst, MayFollow, MayShow, RepliesToFirst, turn_at, turn_of};
 ghost use Rattle.trac_debug.specs.Debugs.{Advances, Debugs, DebugsBy, Halts, MOST_READ, IsReady, IsReplied};
-ghost use Rattle.trac_debug.specs.Debugs.{IsNotReplied, Settles, Stops};
+ghost use Rattle.trac_debug.specs.Debugs.{IsNotReplied, Settles, Stops, UnlessWrite};
 ghost use Rattle.trac_debug.specs.Views.{command_seen};
 ghost use Rattle.trac_streams.specs.Tape.{MayRefuseTape};
 ghost use Rattle.trac_streams.specs.Written.{WritesFront};
@@ -66,7 +66,8 @@ pub fn debug<R: Read, W: Write, A: Allocator + Copy>(
 }
 
 /// Takes the lines of the commands, as `debug` does, from the session as it stands, and counts what it does:
-/// there are at most 1,048,576 lines. Each read but the last gave a byte at least, and so did the last,
+/// there are at most 1,048,576 lines. The session is left as the lines left it that were replied to: if the writer
+/// failed, it may be as the line after them left it. Each read but the last gave a byte at least, and so did the last,
 /// unless it saw the end or failed.
 pub fn debug_session<R: Read, W: Write, A: Allocator + Copy>(
     alloc: A,
@@ -76,7 +77,7 @@ pub fn debug_session<R: Read, W: Write, A: Allocator + Copy>(
 ) -> DebugReport
     ensures debugs { DebugsBy (R.remaining commands.old)
         (R.remaining commands.new) (W.contents output.old) (W.contents output.new)
-        (MayFollow session.old) (FollowsFirst session.old) result.lines result.reads result.ending }
+        (MayFollow session.old) (FollowsFirst session.old session.new) result.lines result.reads result.ending }
     ensures few_lines { result.lines ≤ LINE_COUNT_LIMIT }
     ensures few_reads { result.reads ≤ MOST_READ + 1 }
 {
@@ -162,6 +163,7 @@ fn take_line<R: Read, W: Write, A: Allocator + Copy>(
         (W.contents output.new) reads.old reads.new number lines.old session.old lines.new session.new) }
     ensures err { IfErr result (Halts (R.remaining commands.old) (R.remaining commands.new) (W.contents output.old)
         (W.contents output.new) reads.old reads.new number lines.old session.old) }
+    ensures kept { IfErr result (λ ending. UnlessWrite ending (session.new ≡ session.old)) }
 {
     match lines.seek_counted(commands, reads)? {
         NextLine::End => Err(Ending::Ended),
@@ -192,6 +194,7 @@ fn carry_out<W: Write, A: Allocator + Copy>(
         (Settles (turn_at number line.now) session.old session.new (W.contents output.old) (W.contents output.new)) }
     ensures err { IfErr result
         (Stops (turn_at number line.now) session.old (W.contents output.old) (W.contents output.new)) }
+    ensures kept { IfErr result (λ ending. UnlessWrite ending (session.new ≡ session.old)) }
 {
     if line.is_empty() {
         return Ok(());
@@ -216,6 +219,7 @@ fn reply<W: Write, A: Allocator + Copy>(
         (W.contents output.new)) }
     ensures err { IfErr result
         (IsNotReplied (command_seen command.entry) session.old (W.contents output.old) (W.contents output.new)) }
+    ensures kept { IfErr result (λ ending. UnlessWrite ending (session.new ≡ session.old)) }
 {
     if let Some(line) = reply_to_walk(session, command) {
         return write_reply(output, line.as_slice());

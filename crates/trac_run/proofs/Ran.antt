@@ -16,7 +16,7 @@ use Rattle.trac_run.specs.Runs.{Shows, Runs, RunsAnew, RunsBy, FeedsSteps, Feeds
 use Rattle.trac_streams.specs.Reading.{end_reads}
 use Rattle.trac_streams.proofs.Gathered.{end_reads_one}
 use Rattle.trac_streams.proofs.Known.{Appends-nothing, Consumes-nothing, front_after, front_of_nothing, empty_front}
-use Rattle.trac_run.proofs.Stepped.{feeds_both, feeds_none, no_step}
+use Rattle.trac_run.proofs.Stepped.{feeds_both, feeds_late, feeds_none, no_step}
 use Rattle.trac_run.proofs.Transfers.{only_written, both_moved, goes_on_twice, rest_left}
 use Rattle.trac_run.proofs.Turned.{Shows-Write, no_steps_write}
 
@@ -27,7 +27,7 @@ pub record SoFar (in_old in_now out_old out_now : Option (List ℕ)) (width : Wi
   pub on : GoesOn in_old in_now out_old out_now 0 reads start budget p left
   pub fits : length p.tape.bytes ≤ TAPE_LIMIT
   pub within : left ≤ budget
-  pub steps : FeedsSteps in_old in_now (budget - left) [] start p
+  pub steps : FeedsSteps in_old in_now out_old out_now (budget - left) [] [] start p
 
 -- at the beginning nothing is read, and nothing written
 pub so_far_new : (input output : Option (List ℕ)) (width : Width) (budget limit : ℕ) (p : PlainSession) → 1 ≤ limit → p ≡ new_session limit width → SoFar input input output output width budget p p budget 0
@@ -47,7 +47,7 @@ so_far_new input output width budget limit p some e =
       };
       fits = omega arith;
       within = omega arith;
-      steps = subst (λ n. FeedsSteps input input n [] (new_session limit width) (new_session limit width)) (no_step budget) (feeds_none input (new_session limit width) (new_session limit width) refl);
+      steps = subst (λ n. FeedsSteps input input output output n [] [] (new_session limit width) (new_session limit width)) (no_step budget) (feeds_none input output (new_session limit width) (new_session limit width) refl);
     })
 
 -- what is stated of the input is what goes on from the new session; and what was read is no more than its steps may take
@@ -69,15 +69,15 @@ few_so_far in_old in_now out_old out_now width budget start p left reads few far
     omega (arith, few, (so_far far).1, far.on.moved.came.0, (so_far far).0, far.fits, far.within, end_reads_one p.tape.ended)
 
 -- the steps so far and those of a turn
-steps_so_far : {in_old in_now in_new : Option (List ℕ)} {rest : List ℕ} (budget m n : ℕ) (start p q : PlainSession) → m ≤ budget → n ≤ m → FeedsSteps in_old in_now (budget - m) [] start p → FeedsSteps in_now in_new (m - n) rest p q →
-    FeedsSteps in_old in_new (budget - n) rest start q
-steps_so_far {in_old} {in_now} {in_new} {rest} budget m n start p q within fewer first second =
-    let count : (budget - m) + (m - n) ≡ budget - n = omega arith in
-    subst (λ k. FeedsSteps in_old in_new k rest start q) count (feeds_both (budget - m) (m - n) start p q first second)
+steps_so_far : {in_old in_now in_new out_old out_now out_new : Option (List ℕ)} {rest late : List ℕ} (budget m n : ℕ) (start p q : PlainSession) → m ≤ budget → n ≤ m → FeedsSteps in_old in_now out_old out_now (budget - m) [] [] start p →
+    FeedsSteps in_now in_new out_now out_new (m - n) rest late p q → FeedsSteps in_old in_new out_old out_new (budget - n) rest late start q
+steps_so_far {in_old} {in_now} {in_new} {out_old} {out_now} {out_new} {rest} {late} budget m n start p q within fewer first second =
+    let count : (budget - m) + (m - n) ≡ budget - n = omega (arith, within, fewer) in
+    subst (λ k. FeedsSteps in_old in_new out_old out_new k rest late start q) count (feeds_both (budget - m) (m - n) start p q first second)
 
 -- a turn
 pub so_far_turn : (in_old in_now in_new out_old out_now out_new : Option (List ℕ)) (width : Width) (budget : ℕ) (start p q : PlainSession) (m n reads_now reads_new : ℕ) →
-    SoFar in_old in_now out_old out_now width budget start p m reads_now → GoesOn in_now in_new out_now out_new reads_now reads_new p m q n → n ≤ m → FeedsSteps in_now in_new (m - n) [] p q → IsFresh q →
+    SoFar in_old in_now out_old out_now width budget start p m reads_now → GoesOn in_now in_new out_now out_new reads_now reads_new p m q n → n ≤ m → FeedsSteps in_now in_new out_now out_new (m - n) [] [] p q → IsFresh q →
     SoFar in_old in_new out_old out_new width budget start q n reads_new
 so_far_turn in_old in_now in_new out_old out_now out_new width budget start p q m n reads_now reads_new far on fewer steps fresh = record {
   new = far.new;
@@ -144,9 +144,9 @@ ran in_old in_now in_new out_old out_now out_new width budget start p m n reads_
     }
 
 -- the steps of the last turn too
-pub ran_steps : (in_old in_now in_new out_old out_now : Option (List ℕ)) (width : Width) (budget : ℕ) (start p q : PlainSession) (m n reads : ℕ) →
-    SoFar in_old in_now out_old out_now width budget start p m reads → n ≤ m → FeedsToLast in_now in_new (m - n) p q → FeedsToLast in_old in_new (budget - n) start q
-ran_steps in_old in_now in_new out_old out_now width budget start p q m n reads far fewer steps = (steps.0, steps_so_far budget m n start p q far.within fewer far.steps steps.1)
+pub ran_steps : {in_new out_new : Option (List ℕ)} (in_old in_now out_old out_now : Option (List ℕ)) (width : Width) (budget : ℕ) (start p q : PlainSession) (m n reads : ℕ) →
+    SoFar in_old in_now out_old out_now width budget start p m reads → n ≤ m → FeedsToLast in_now in_new out_now out_new (m - n) p q → FeedsToLast in_old in_new out_old out_new (budget - n) start q
+ran_steps in_old in_now out_old out_now width budget start p q m n reads far fewer steps = (steps.0, steps.1, steps_so_far budget m n start p q far.within fewer far.steps steps.2)
 
 -- a run that did not begin for want of memory
 pub ran_not : (input : Option (List ℕ)) (out_old out_new : Option (List ℕ)) (text : List ℕ) (width : Width) (budget : ℕ) (result : Ending) → text ≡ [] → Closes out_old out_new text Memory result →
@@ -182,16 +182,16 @@ unfolding ran_not
 ran_not_anew input out_old out_new text journal width budget result none closes = record {
   runs = ran_not input out_old out_new text width budget result none closes;
   session = new_session journal width;
-  feeds = ([], feeds_none input (new_session journal width) (new_session journal width) refl);
+  feeds = ([], closes.written, feeds_late (new_session journal width) (new_session journal width) refl (record { written = closes.written; front = subst (IsFrontOf closes.written) none closes.front; gave = closes.gave }));
 }
 
 -- a run from a new session
 pub ran_anew : {in_old in_new out_old out_new : Option (List ℕ)} (journal : ℕ) (width : Width) (budget steps reads : ℕ) (start q : PlainSession) (ending : Ending) → start ≡ new_session journal width →
-    RunsBy in_old in_new out_old out_new start.width budget steps reads ending → FeedsToLast in_old in_new steps start q → RunsAnew in_old in_new out_old out_new journal width budget ending
+    RunsBy in_old in_new out_old out_new start.width budget steps reads ending → FeedsToLast in_old in_new out_old out_new steps start q → RunsAnew in_old in_new out_old out_new journal width budget ending
 ran_anew {in_old} {in_new} {out_old} {out_new} journal width budget steps reads start q ending made by feeds =
     let here : start ≡ new_session journal start.width = made ∙ ap (λ (s : PlainSession). new_session journal s.width) (sym made) in
     subst (λ w. RunsAnew in_old in_new out_old out_new journal w budget ending) (ap (λ (s : PlainSession). s.width) made) (record {
       runs = by.runs;
       session = q;
-      feeds = subst (λ n. FeedsToLast in_old in_new n (new_session journal start.width) q) (sym by.taken) (subst (λ p. FeedsToLast in_old in_new steps p q) here feeds);
+      feeds = subst (λ n. FeedsToLast in_old in_new out_old out_new n (new_session journal start.width) q) (sym by.taken) (subst (λ p. FeedsToLast in_old in_new out_old out_new steps p q) here feeds);
     })

@@ -76,6 +76,13 @@ wanted_open q h = wants_input_of_open (over q.width q.tape) q.last (Step_refused
 pub wanted_open_after : (q r : PlainSession) → answer Step q ≡ refused refusals.NeedInput q → answer (Commit 0) q ≡ done r → r.tape.ended ≡ false
 wanted_open_after q r h e = ended_after_Commit q r e ∙ wanted_open q h
 
+-- where a step waits, the tape is not ended; nor once what is pending was committed, if nothing was fed
+pub wanted_never_ended : {At_end : Type 0} (q : PlainSession) → answer Step q ≡ refused refusals.NeedInput q → q.tape.ended ≡ true → At_end
+wanted_never_ended {At_end} q h over = absurd (false≢true (sym (wanted_open q h) ∙ over))
+
+pub unfed_never_ended : {At_end : Type 0} (q r s : PlainSession) → answer Step q ≡ refused refusals.NeedInput q → answer (Commit 0) q ≡ done r → s ≡ r → s.tape.ended ≡ true → At_end
+unfed_never_ended {At_end} q r s h e same over = absurd (false≢true (sym (wanted_open_after q r h e) ∙ sym (ap (λ (p : PlainSession). p.tape.ended) same) ∙ over))
+
 -- the tape after the commit is what was unread
 pub tape_after_Commit : (q r : PlainSession) → answer (Commit 0) q ≡ done r → r.tape.bytes ≡ drop q.last.position q.tape.bytes
 tape_after_Commit q r e = ap (λ (s : PlainSession). s.tape.bytes) (Commit_done 0 q r e)
@@ -202,15 +209,9 @@ unwritten_finish input out_old out_new reads q n ending wanted fault front =
     finishes_here input out_old out_new reads q n front.written ending (writer_sound ending fault) (λ over. absurd (false≢true (sym (wanted_open q wanted) ∙ over))) front.front front.gave
     (λ more none. Shows-Write ending front.written (going_on_from q more n) fault) (λ sound. absurd (sound fault))
 
--- all that is pending was written, and a flush failed
-pub unflushed_finish : (input : Option (List ℕ)) (out_old out_mid out_new : Option (List ℕ)) (reads : ℕ) (q : PlainSession) (n : ℕ) (ending : Ending) → answer Step q ≡ refused refusals.NeedInput q → ending ≡ Write →
-    Appends out_old out_mid q.last.output → Keeps out_mid out_new → Finishes input input out_old out_new reads reads q n n ending
-unflushed_finish input out_old out_mid out_new reads q n ending wanted fault gave kept =
-    unwritten_finish input out_old out_new reads q n ending wanted fault (record {
-      written = q.last.output;
-      front = front_of_itself q.last.output;
-      gave = Appends-kept out_old out_mid out_new q.last.output gave kept;
-    })
+-- all of a text was written, and a flush failed
+pub unflushed_front : (out_old out_mid out_new : Option (List ℕ)) (text : List ℕ) → Appends out_old out_mid text → Keeps out_mid out_new → WritesFront out_old out_new text
+unflushed_front out_old out_mid out_new text gave kept = record { written = text; front = front_of_itself text; gave = Appends-kept out_old out_mid out_new text gave kept }
 
 -- what an ending without a feed says, with all that is pending written
 pub shows_unfed : (q r : PlainSession) (n : ℕ) (got : List ℕ) (ending : Ending) → answer Step q ≡ refused refusals.NeedInput q → q.last.position ≤ length q.tape.bytes → answer (Commit 0) q ≡ done r → EndsFor ending r got →

@@ -147,6 +147,18 @@ refused_for_none q refusal h not_full not_long not_input not_ended =
     others)
     (Step_refusals q q refusal h)
 
+-- ---- the end of the tape
+
+-- the tape is ended after a walk only if it was before
+pub still_at_end : {p q : PlainSession} {m k : ℕ} {At_end : Type 0} → AfterWalk p m k q → (p.tape.ended ≡ true → At_end) → q.tape.ended ≡ true → At_end
+still_at_end {p} {q} {m} {k} {At_end} after at_end over = at_end (sym (ap (λ t. t.ended) after.tape) ∙ over)
+
+-- and after what follows, if that does not end it, however it ends itself
+pub at_end_either : {T : Type 0} (result : Result T Ending) {p q : PlainSession} (r : PlainSession) {m k : ℕ} {At_end : Type 0} → AfterWalk p m k q → (p.tape.ended ≡ true → At_end) →
+    r.tape.ended ≡ q.tape.ended → IfErr result (λ ending. r.tape.ended ≡ true → At_end)
+at_end_either (Ok done) r after at_end same = tt
+at_end_either (Err ending) r after at_end same = λ over. still_at_end after at_end (sym same ∙ over)
+
 -- ---- the end of a run
 
 -- what is pending is a front of what is written

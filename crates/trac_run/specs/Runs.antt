@@ -5,7 +5,7 @@ use Rattle.std.specs.Io.KnownBytes.{Appends, Consumes, IsAtEnd}
 use Rattle.trac_rules.specs.declared.limit.TheConstants.{TEXT_LIMIT, TAPE_LIMIT}
 use Rattle.trac_rules.specs.declared.refusal.Refusal.{Refusal}
 use Rattle.trac_rules.specs.declared.refusal.Refusal.TheVariants as refusals
-use Rattle.trac_rules.specs.Session.{PlainSession, Command, Feed, End, Step, Back, done, new_session, refused, answer}
+use Rattle.trac_rules.specs.Session.{PlainSession, Command, Feed, End, Step, Back, Commit, done, first_kept, new_session, refused, answer}
 use Rattle.trac_rules.specs.declared.width.Width.{Width}
 use Rattle.trac_rules.specs.Running.{Output, BudgetSpent, InputEnded, LimitPassed, output_of}
 use Rattle.trac_rules.specs.GoingOn.{prepended, going_on_from}
@@ -96,19 +96,22 @@ abbrev pub IsOfRead : List ℕ → Type 0
 IsOfRead bytes = (0 < length bytes) × (length bytes ≤ READ_SIZE)
 
 -- each of these commands is done, one after another, and none of them is a step back. Input comes only while the next
--- step waits for it: what one read gave, or the end
-abbrev pub AreDone : List Command → PlainSession → PlainSession → Type 0
-AreDone [] p q = q ≡ p
-AreDone (Back ∷ commands) p q = ⊥
-AreDone (Feed bytes ∷ commands) p q =
-    Waits p × IsOfRead bytes × ((r : PlainSession) × (answer (Feed bytes) p ≡ done r) × AreDone commands r q)
-AreDone (End ∷ commands) p q = Waits p × ((r : PlainSession) × (answer End p ≡ done r) × AreDone commands r q)
-AreDone (command ∷ commands) p q = (r : PlainSession) × (answer command p ≡ done r) × AreDone commands r q
+-- step waits for it: what one read gave, or the end. The commits release this text
+abbrev pub AreDone : List Command → PlainSession → List ℕ → PlainSession → Type 0
+AreDone [] p text q = (text ≡ []) × (q ≡ p)
+AreDone (Back ∷ commands) p text q = ⊥
+AreDone (Feed bytes ∷ commands) p text q =
+    Waits p × IsOfRead bytes × ((r : PlainSession) × (answer (Feed bytes) p ≡ done r) × AreDone commands r text q)
+AreDone (End ∷ commands) p text q = Waits p × ((r : PlainSession) × (answer End p ≡ done r) × AreDone commands r text q)
+AreDone (Commit keep ∷ commands) p text q = (r : PlainSession) × (answer (Commit keep) p ≡ done r)
+    × ((rest : List ℕ) × (text ≡ (first_kept keep p).output ++ rest) × AreDone commands r rest q)
+AreDone (command ∷ commands) p text q = (r : PlainSession) × (answer command p ≡ done r) × AreDone commands r text q
 
 -- one session became the other by so many accepted steps, with feeds, the end of the input and commits between them
 pub record TakesSteps (steps : ℕ) (p q : PlainSession) : Type 0 where
   pub commands : List Command
-  pub are_done : AreDone commands p q
+  pub released : List ℕ
+  pub are_done : AreDone commands p released q
   pub count : step_count commands ≡ steps
 
 -- what these commands feed
@@ -118,30 +121,37 @@ fed_by (Feed bytes ∷ commands) = bytes ++ fed_by commands
 fed_by (command ∷ commands) = fed_by commands
 
 -- the same, and what was read is what the feeds between the steps were, and a rest: nothing, or what the last read gave
--- while the next step waited, whose feed was refused. So no byte was read but while a step waited
-pub record FeedsSteps (in_old in_new : Option (List ℕ)) (steps : ℕ) (rest : List ℕ) (p q : PlainSession)
-    : Type 0 where
+-- while the next step waited, whose feed was refused. So no byte was read but while a step waited. And what was written
+-- is what the commits between the steps released, and then a front of what is pending
+pub record FeedsSteps (in_old in_new out_old out_new : Option (List ℕ)) (steps : ℕ) (rest late : List ℕ)
+    (p q : PlainSession) : Type 0 where
   pub takes : TakesSteps steps p q
   pub took : Consumes in_old in_new (fed_by takes.commands ++ rest)
   pub unfed : (rest ≡ []) ⊎ (Waits q × IsOfRead rest)
+  pub gave : Appends out_old out_new (takes.released ++ late)
+  pub pending : IsFrontOf late q.last.output
 
--- the same, whatever the rest is
-abbrev pub FeedsToLast : Option (List ℕ) → Option (List ℕ) → ℕ → PlainSession → PlainSession → Type 0
-FeedsToLast in_old in_new steps p q = (rest : List ℕ) × FeedsSteps in_old in_new steps rest p q
+-- the same, whatever the rest is, and that front
+abbrev pub FeedsToLast : Option (List ℕ) → Option (List ℕ) → Option (List ℕ) → Option (List ℕ) → ℕ → PlainSession →
+    PlainSession → Type 0
+FeedsToLast in_old in_new out_old out_new steps p q =
+    (rest : List ℕ) × (late : List ℕ) × FeedsSteps in_old in_new out_old out_new steps rest late p q
 
--- a part of a run took so many steps: if the run goes on after it, all that it read is fed
-abbrev pub FeedsAsFar :
-    {T : Type 0} → Result T Ending → Option (List ℕ) → Option (List ℕ) → ℕ → PlainSession → PlainSession → Type 0
-FeedsAsFar (Ok x) in_old in_new steps p q = FeedsSteps in_old in_new steps [] p q
-FeedsAsFar (Err ending) in_old in_new steps p q = FeedsToLast in_old in_new steps p q
+-- a part of a run took so many steps: if the run goes on after it, all that it read is fed, and all that it wrote is
+-- released
+abbrev pub FeedsAsFar : {T : Type 0} → Result T Ending → Option (List ℕ) → Option (List ℕ) → Option (List ℕ) →
+    Option (List ℕ) → ℕ → PlainSession → PlainSession → Type 0
+FeedsAsFar (Ok x) in_old in_new out_old out_new steps p q = FeedsSteps in_old in_new out_old out_new steps [] [] p q
+FeedsAsFar (Err ending) in_old in_new out_old out_new steps p q = FeedsToLast in_old in_new out_old out_new steps p q
 
 -- a whole run: its session began new, and may keep so many states. What was read is what was fed to it while the next
--- of its steps waited for input, and perhaps what a last such read gave: so no byte was read once the program halted
+-- of its steps waited for input, and perhaps what a last such read gave: so no byte was read once the program halted.
+-- What was written is what it released, and a front of what was pending
 pub record RunsAnew (in_old in_new out_old out_new : Option (List ℕ)) (journal : ℕ) (width : Width) (budget : ℕ)
     (ending : Ending) : Type 0 where
   pub runs : Runs in_old in_new out_old out_new width budget ending
   pub session : PlainSession
-  pub feeds : FeedsToLast in_old in_new runs.steps (new_session journal width) session
+  pub feeds : FeedsToLast in_old in_new out_old out_new runs.steps (new_session journal width) session
 
 -- ---- parts of a run
 

@@ -4,7 +4,7 @@ ghost use Rattle.std.specs.Prelude.{OnOk, IfOk, IfErr};
 ghost use Rattle.std.specs.Io.KnownBytes.{Appends, IsAtEnd};
 ghost use Rattle.trac_rules.specs.Session.{PlainSession, Feed, Step, Commit, done, new_session, refused, answer};
 ghost use Rattle.trac_streams.specs.Written.{WritesFront};
-ghost use Rattle.trac_run.specs.Runs.{RunsAnew, RunsBy, FeedsAsFar, FeedsSteps, FeedsToLast, TakesSteps};
+ghost use Rattle.trac_run.specs.Runs.{RunsAnew, RunsBy, FeedsAsFar, FeedsToLast, TakesSteps};
 ghost use Rattle.trac_run.specs.Runs.{ending_of_feed as ending_of};
 ghost use Rattle.trac_run.specs.Runs.{most_reads, IsFresh, GoesOn, Finishes, TakesMore, TakesNone, StillWaits};
 ghost use Rattle.trac_run.specs.Runs.{turns_left};
@@ -64,9 +64,10 @@ pub fn run<R: Read, W: Write, A: Allocator + Copy>(
 }
 
 /// Runs a new session as `run` does, by so many steps at most, and counts what it does. The session is left as the last
-/// step or commit made it: it took just the steps that are counted. No byte is read but while the next step waits for
-/// input, and so none once the program halts. Each read but the last gave a byte at least, and so did the last, unless
-/// it saw the end or failed. For each step, and once more, there are at most 33,554,433 reads.
+/// step or commit made it: it took just the steps that are counted. What it released is written, and its tape is ended
+/// only if the reader came to its end. No byte is read but while the next step waits for input, and so none once the
+/// program halts. Each read but the last gave a byte at least, and so did the last, unless it saw the end or failed. For
+/// each step, and once more, there are at most 33,554,433 reads.
 pub fn run_session<R: Read, W: Write, A: Allocator + Copy>(
     session: &mut Session<A>,
     input: &mut R,
@@ -81,7 +82,9 @@ pub fn run_session<R: Read, W: Write, A: Allocator + Copy>(
         session.old.width budget result.steps result.reads result.ending }
     ensures within { result.steps ≤ budget }
     ensures steps { TakesSteps result.steps session.old session.new }
-    ensures feeds { FeedsToLast (R.remaining input.old) (R.remaining input.new) result.steps session.old session.new }
+    ensures feeds { FeedsToLast (R.remaining input.old) (R.remaining input.new) (W.contents output.old)
+        (W.contents output.new) result.steps session.old session.new }
+    ensures ended { session.new.tape.ended ≡ true → IsAtEnd (R.remaining input.new) }
 {
     let mut left = budget;
     let mut reads = 0;
@@ -114,10 +117,11 @@ fn take_turn<R: Read, W: Write, A: Allocator + Copy>(
     ensures err { IfErr result (Finishes (R.remaining input.old) (R.remaining input.new) (W.contents output.old)
         (W.contents output.new) reads.old reads.new session.old left.old left.new) }
     ensures within { left.new ≤ left.old }
-    ensures steps { FeedsAsFar result (R.remaining input.old) (R.remaining input.new) (left.old - left.new)
-        session.old session.new }
+    ensures steps { FeedsAsFar result (R.remaining input.old) (R.remaining input.new) (W.contents output.old)
+        (W.contents output.new) (left.old - left.new) session.old session.new }
     ensures fresh { OnOk result (IsFresh session.new) }
     ensures fewer { OnOk result (turns_left session.new left.new < turns_left session.old left.old) }
+    ensures ended { IfErr result (λ ending. session.new.tape.ended ≡ true → IsAtEnd (R.remaining input.new)) }
 {
     let walk = session.forward_within((*left).min(TURN_STEPS), JOURNAL_WEIGHT);
     *left -= walk.done;
@@ -147,7 +151,9 @@ fn release<W: Write, A: Allocator + Copy>(
     ensures committed { OnOk result (answer (Commit 0) session.old ≡ done session.new) }
     ensures err { IfErr result (λ ending.
         (ending ≡ Ending.Write) × WritesFront (W.contents output.old) (W.contents output.new) session.old.last.output) }
-    ensures steps { (input : Option (List ℕ)) → FeedsSteps input input 0 [] session.old session.new }
+    ensures steps { (input : Option (List ℕ)) → FeedsAsFar result input input (W.contents output.old)
+        (W.contents output.new) 0 session.old session.new }
+    ensures ended { session.new.tape.ended ≡ session.old.tape.ended }
 {
     write_whole(output, session.pending())?;
     session.commit(0);
@@ -171,8 +177,10 @@ fn take_input<R: Read, W: Write, A: Allocator + Copy>(
         (W.contents output.new) reads.old reads.new session.old n session.new n) }
     ensures err { (n : ℕ) → IfErr result (Finishes (R.remaining input.old) (R.remaining input.new)
         (W.contents output.old) (W.contents output.new) reads.old reads.new session.old (n + 1) (n + 1)) }
-    ensures steps { FeedsAsFar result (R.remaining input.old) (R.remaining input.new) 0 session.old session.new }
+    ensures steps { FeedsAsFar result (R.remaining input.old) (R.remaining input.new) (W.contents output.old)
+        (W.contents output.new) 0 session.old session.new }
     ensures fresh { OnOk result (IsFresh session.new) }
+    ensures ended { IfErr result (λ ending. session.new.tape.ended ≡ true → IsAtEnd (R.remaining input.new)) }
     ensures fewer { (n : ℕ) → session.old.last.position ≡ 0 →
         OnOk result (turns_left session.new n < turns_left session.old n) }
 {
@@ -198,8 +206,10 @@ fn take_piece<R: Read, W: Write, A: Allocator + Copy>(
         (W.contents output.new) reads.old reads.new session.old n session.new n) }
     ensures err { (n : ℕ) → IfErr result (Finishes (R.remaining input.old) (R.remaining input.new)
         (W.contents output.old) (W.contents output.new) reads.old reads.new session.old (n + 1) (n + 1)) }
-    ensures steps { FeedsAsFar result (R.remaining input.old) (R.remaining input.new) 0 session.old session.new }
+    ensures steps { FeedsAsFar result (R.remaining input.old) (R.remaining input.new) (W.contents output.old)
+        (W.contents output.new) 0 session.old session.new }
     ensures fresh { OnOk result (IsFresh session.new) }
+    ensures ended { IfErr result (λ ending. session.new.tape.ended ≡ true → IsAtEnd (R.remaining input.new)) }
     ensures fewer { (n : ℕ) → session.old.last.position ≡ 0 →
         OnOk result (turns_left session.new n < turns_left session.old n) }
     ensures waits { IfOk result

@@ -6,7 +6,7 @@ use Rattle.trac_rules.specs.declared.refusal.Refusal.{Refusal}
 use Rattle.trac_rules.specs.declared.reply.Reply.TheVariants.{Refused}
 use Rattle.trac_rules.specs.Session.{PlainSession, Answers, Commit, HasEnded, IsWalk, Step, answer, done, first_kept, no_goal, repeated}
 use Rattle.trac_run.specs.Runs.{TakesSteps}
-use Rattle.trac_run.proofs.Stepped.{steps_both, steps_many}
+use Rattle.trac_run.proofs.Stepped.{steps_both, steps_commit, steps_many}
 use Rattle.trac_moves.specs.Windows.{IsWindow}
 use Rattle.trac_moves.proofs.Kept.{forward}
 use Rattle.trac_web_requests.specs.Ways.{WindowGoes}
@@ -17,9 +17,6 @@ walked_all n old new steps why walk none =
     let stopped : HasEnded no_goal n steps new =
     subst (λ w. MatchOption w (HasEnded no_goal n steps new) (λ refusal. (steps < n) × (0 < steps → no_goal new.last ≡ false) × Answers Step new (Refused refusal) new)) none walk.stopped in
     ⊎_elim (λ all. all) (λ met. absurd (cc met.1)) stopped
-
-steps_commit_some : (keep : ℕ) (p q : PlainSession) → answer (Commit keep) p ≡ done q → TakesSteps 0 p q
-steps_commit_some keep p q h = record { commands = Commit keep ∷ []; are_done = (q, h, refl); count = refl }
 
 module _ (steps left : ℕ) (why : Option Refusal) (start old new : PlainSession) (most : left ≤ steps) (before : TakesSteps (steps - left) start old) where
   -- after a walk of all steps that were left, all are taken
@@ -36,7 +33,7 @@ module _ (steps left : ℕ) (why : Option Refusal) (start old new : PlainSession
       let count : ((steps - left) + k) + 0 ≡ steps - (left - k) = omega (arith, most, walk.within) in (
         omega (arith, most),
         subst (λ n. TakesSteps n start after) count
-            (steps_both ((steps - left) + k) 0 start new after (steps_both (steps - left) k start old new before (steps_many k old new walk.walked)) (steps_commit_some keep new after kept)),
+            (steps_both ((steps - left) + k) 0 start new after (steps_both (steps - left) k start old new before (steps_many k old new walk.walked)) (steps_commit keep new after kept)),
       )
 
 -- ---- what the window shows of the output

@@ -12,7 +12,7 @@ pub returns-in-Err-clause-unread : goal.returns-in-Err-clause-unread
 returns-in-Err-clause-unread g c long = refl
 
 pub returns-clause-debugs : goal.returns-clause-debugs
-returns-clause-debugs g c = debugged_over _ _ _ _ c.args.tape.now c.args.options.journal c.args.options.decimals c.in-Ok.session c.debug_session.result.ending c.in-Ok.ensures.made c.debug_session.ensures.debugs.debugs
+returns-clause-debugs g c = debugged_over _ _ _ _ c.args.tape.now c.args.options.journal c.args.options.decimals c.in-Ok.session c.debug_session.new.session c.debug_session.result.ending c.in-Ok.ensures.made c.debug_session.ensures.debugs.debugs
 
 pub returns-clause-too_long : goal.returns-clause-too_long
 returns-clause-too_long g c long = absurd (omega (arith, c.in-Ok.ensures.made.within, long))
