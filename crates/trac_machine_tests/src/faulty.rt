@@ -1,7 +1,10 @@
-//! Readers and writers of which a call fails.
+//! Readers, writers and memory of which a call fails.
 use std::alloc::Global;
 use std::io::ErrorKind;
-use trac_faults::{FaultyReader, FaultyWriter};
+use trac_faults::{FaultyReader, FaultyWriter, Refusing};
+
+/// Memory of which a request may be refused.
+pub type Memory<'a> = &'a Refusing<Global>;
 
 /// What fails: the call of this number.
 #[derive(Clone, Copy)]

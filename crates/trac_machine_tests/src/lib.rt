@@ -9,11 +9,10 @@
 
 pub mod faulty;
 mod shown;
-mod texts;
 mod whole_programs;
 
+pub use faulty::Memory;
 pub use shown::{shown_after, texts_shown};
-pub use texts::{Memory, expect_text};
 pub use whole_programs::programs;
 
 /// The whole input of a program that performs each primitive but `hl`, and what it prints.

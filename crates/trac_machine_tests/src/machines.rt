@@ -3,7 +3,7 @@
 //!
 //! Helpers are over any two lists: a proof for certain ones shows anew, at each call of the
 //! machine, that they are such lists.
-use crate::{Memory, expect_text, programs, shown_after};
+use crate::{Memory, programs, shown_after};
 use std::alloc::{Allocator, Global};
 use std::process::Abort;
 use trac_faults::Refusing;
@@ -38,13 +38,18 @@ pub(crate) fn let_go<E: TwoEnds<u8, A>, M: TwoEnds<Mark, A>, A: Allocator + Copy
     let _last = machine;
 }
 
+// The text is this one.
+fn expect_text(rt: &impl Abort, text: &[u8], wanted: &[u8]) {
+    assert_eq!(rt; text, wanted);
+}
+
 /// What a machine shows.
 pub(crate) fn shown_by<E: TwoEnds<u8, A>, M: TwoEnds<Mark, A>, A: Allocator + Copy>(
     rt: &impl Abort,
     plain: Global,
     machine: &Core<E, M, A>,
 ) -> Vec<u8> {
-    shown_after(rt, plain, machine, b"", 0)
+    shown_after(plain, machine, b"", 0).expect(rt, "there was no memory")
 }
 
 /// A machine shows this.

@@ -181,7 +181,8 @@ fn shows<E: TwoEnds<u8, A>, M: TwoEnds<Mark, A>, A: Allocator + Copy>(
     machine: &Core<E, M, A>,
     text: &[u8],
 ) -> bool {
-    texts_shown(rt, alloc, machine).as_slice() == text
+    let shown = texts_shown(alloc, machine).expect(rt, "there was no memory");
+    shown.as_slice() == text
 }
 
 // Whether all parts but the texts are those in which a processor begins.

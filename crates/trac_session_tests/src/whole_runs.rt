@@ -5,7 +5,7 @@ use crate::sessions::{let_go, made};
 use std::alloc::Global;
 use std::process::Abort;
 use trac_faults::Refusing;
-use trac_machine_tests::{EACH_PRIMITIVE, Memory, expect_text, programs, shown_after};
+use trac_machine_tests::{EACH_PRIMITIVE, Memory, programs, shown_after};
 use trac_rules::refusal::Refusal;
 use trac_rules::width::Width;
 use trac_session::{Session, Walk};
@@ -78,6 +78,11 @@ fn rest(text: &[u8], count: usize) -> &[u8] {
     text.split_at(count.min(text.len())).1
 }
 
+// The text is this one.
+fn expect_text(rt: &impl Abort, text: &[u8], wanted: &[u8]) {
+    assert_eq!(rt; text, wanted);
+}
+
 // What the session shows of its last state, with all that was released before it.
 fn shown(
     rt: &impl Abort,
@@ -86,7 +91,10 @@ fn shown(
     released: Released,
 ) -> Vec<u8> {
     let printed = front(run.output, released.printed);
-    shown_after(rt, run.plain, session.machine(), printed, released.read)
+    shown_after(run.plain, session.machine(), printed, released.read).expect(
+        rt,
+        "there was no memory",
+    )
 }
 
 // A session shows this, with what was released.
