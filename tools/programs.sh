@@ -160,7 +160,8 @@ keep_built() {
 
 # How many tasks rt is to run at once: as many as there are processors, where 4 GB are free for each. By itself it plans
 # on far more memory than its checks take (docs/checks.md), and then leaves processors idle. Says nothing where there is
-# less, where that cannot be read, or where a control group sets a limit: then rt judges by itself.
+# less, where that cannot be read, or where a control group sets a limit: then rt judges by itself. With MOST, says
+# nothing either where more than so many GB are free for each.
 tasks() {
     local free count limit
     for limit in memory.max cpu.max; do
@@ -168,5 +169,5 @@ tasks() {
     done
     count=$(nproc)
     free=$(awk '/^MemAvailable:/ { print $2 }' /proc/meminfo 2>/dev/null) || true
-    [ "${free:-0}" -lt $((count * 4000000)) ] || echo "$count"
+    [ "${free:-0}" -lt $((count * 4000000)) ] || [ "$free" -gt $((count * ${1-1000} * 1000000)) ] || echo "$count"
 }

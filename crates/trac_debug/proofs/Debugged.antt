@@ -676,7 +676,7 @@ debugged_over in_old in_new out_old out_new tape limit width p q ending is all =
           also_unless ending (FollowsFirst p q all.replied (all.got ++ more) all.written) (RepliesToFirst tape limit width all.replied (all.got ++ more) all.written)
           (λ first.
           let over = subst (λ r. FollowsFirst r q all.replied (all.got ++ more) all.written) is.is first in
-          (leads_may (take all.replied (lines_of (all.got ++ more))) 1 (ready tape limit width) q all.written over.1, over.2 tape 0 [] (ready_released tape limit width)))
+          ((q, over), over.2 tape 0 [] (ready_released tape limit width)))
           (all.replies more none);
       faults = all.faults;
       reads = all.reads;
@@ -709,7 +709,7 @@ debugged_not input output tape limit width ending why = record {
       why;
   replied = 0;
   few_lines = omega arith;
-  replies = λ more none. always_unless ending (RepliesToFirst tape limit width 0 more []) ((refl, refl), (ready_released tape limit width, refl));
+  replies = λ more none. always_unless ending (RepliesToFirst tape limit width 0 more []) ((ready tape limit width, (omega arith, (refl, refl), λ input steps text has. (has, refl))), (ready_released tape limit width, refl));
   faults = λ more none. ⊎_elim
       (λ (memory : (ending ≡ Memory) × (length tape ≤ TAPE_LIMIT)). subst (λ e. FaultsAt e 0 1 false [] more) (sym memory.0) (inl (refl, refl)))
       (λ (beyond : (ending ≡ Limit) × (TAPE_LIMIT < length tape)). subst (λ e. FaultsAt e 0 1 false [] more) (sym beyond.0) tt)

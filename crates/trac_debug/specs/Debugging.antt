@@ -1,6 +1,6 @@
 -- A whole session of the debugger: what is written, and how it ends.
-use Rattle.std.specs.Prelude.{◌≡◌, ℕ, ◌+◌, ◌≤◌, nat_le, List, [], ◌∷◌, ◌++◌, length, take, if◌then◌else◌, Bool, true, false}
-use Rattle.std.specs.Prelude.{Option, None, Some}
+use Rattle.std.specs.Prelude.{◌≡◌, ℕ, ◌+◌, ◌≤◌, nat_le, List, [], ◌∷◌, ◌++◌, length, take, if◌then◌else◌}
+use Rattle.std.specs.Prelude.{Bool, true, false, Option, None, Some}
 use Rattle.trac_rules.specs.declared.width.Width.{Width}
 use Rattle.trac_rules.specs.declared.limit.TheConstants.{TAPE_LIMIT}
 use Rattle.trac_rules.specs.Session.{PlainSession, new_session}
@@ -88,23 +88,23 @@ TellsOutput input (line ∷ lines) number steps text p written = HasReleased inp
 abbrev pub MayFollow : PlainSession → List ℕ → List ℕ → Ending → Type 0
 MayFollow p commands text ending = MayWrite (lines_of commands) 1 p text ending
 
--- a turn that does not end the session, and the text that is written from it on. `Rest` says the same of the lines
--- after, from the session after the turn
+-- the turn does not end the session, and this text is written from it on. `Rest` says the same of the lines after,
+-- from the session after the turn
 abbrev pub TurnLeads : Turn → PlainSession → (PlainSession → List ℕ → Type 0) → List ℕ → Type 0
 TurnLeads Passes p Rest text = Rest p text
 TurnLeads (Does command) p Rest text = (reply : List ℕ) × (q : PlainSession) × (rest : List ℕ)
     × Replies command p reply q × (text ≡ reply ++ rest) × Rest q rest
 TurnLeads (Ends stop) p Rest text = ⊥
 
--- these lines, from this number on, lead from one session to the other: each is passed over or replied to, and the
--- replies are this text
+-- these lines, from this number on, lead from one session to the other. Each of them is passed over or replied to, and
+-- the replies are this text
 abbrev pub LeadsTo : List (List ℕ) → ℕ → PlainSession → List ℕ → PlainSession → Type 0
 LeadsTo [] number p text q = (text ≡ []) × (q ≡ p)
 LeadsTo (line ∷ lines) number p text q =
     TurnLeads (turn_at number line) p (λ r rest. LeadsTo lines (number + 1) r rest q) text
 
--- these commands have so many lines at least. The first so many of them lead from one session to the other, and this
--- text are the replies to them. These tell what becomes of the output, however the session came where it is
+-- these commands have so many lines at least. The first so many of them lead from one session to the other, and the
+-- replies to them are this text. These tell what becomes of the output, however the session came where it is
 abbrev pub FollowsFirst : PlainSession → PlainSession → ℕ → List ℕ → List ℕ → Type 0
 FollowsFirst p q count commands written = (count ≤ length (lines_of commands))
     × LeadsTo (take count (lines_of commands)) 1 p written q
@@ -140,9 +140,9 @@ abbrev pub ShowsWithMemory : List ℕ → ℕ → Width → List ℕ → List �
 ShowsWithMemory tape limit width commands text ending =
     shown_by (WritesBy RepliesWithMemory) tape limit width commands text ending (nat_le (length tape) TAPE_LIMIT)
 
--- over this tape, with such a journal and such numbers, this text may be written if the first so many of the lines of
--- these commands are all that there are. Each of them is replied to whole. The replies tell what becomes of the output
+-- the same of a session over this tape, with such a journal and such numbers: the first so many lines of these commands
+-- lead to some session. The replies tell how many steps lead to each session, and what it has released
 abbrev pub RepliesToFirst : List ℕ → ℕ → Width → ℕ → List ℕ → List ℕ → Type 0
 RepliesToFirst tape limit width count commands text =
-    MayWrite (take count (lines_of commands)) 1 (ready tape limit width) text Ended
+    ((q : PlainSession) × FollowsFirst (ready tape limit width) q count commands text)
     × TellsOutput tape (take count (lines_of commands)) 1 0 [] (ready tape limit width) text

@@ -57,9 +57,8 @@ FaultsAt ending done number saw_end read commands = Unit {0}
 abbrev pub MOST_READ : ℕ
 MOST_READ = LINE_COUNT_LIMIT * (LINE_LIMIT + 2) + HELD_LIMIT
 
--- the reads of a session that is done with so many lines, which gave this in all. Each came while a line was still
--- being read: before the last that gave anything no more lines had ended than these, and so none had before an earlier
--- one; nor have more if the end was seen
+-- the reads of a session that is done with so many lines, which gave this in all. No byte was read but while a line was
+-- being read: before the last read that gave any, no more lines had ended than these. Nor have more if the end was seen
 pub record ReadsInLines (done : ℕ) (saw_end : Bool) (got : List ℕ) : Type 0 where
   pub before : List ℕ
   pub piece : List ℕ
@@ -71,9 +70,9 @@ pub record ReadsInLines (done : ℕ) (saw_end : Bool) (got : List ℕ) : Type 0 
 -- a session read some commands, no more than it may, and perhaps saw the end of them, and wrote some bytes. However the
 -- commands go on after what was read (not at all if the end was seen), what was written is a front of a text that is
 -- stated for all of the commands. If the ending of the session is not a fault or want of memory, what was written is a
--- whole one, with that ending. Unless the writer failed, what was written are whole replies, those to the first so many
--- lines: so a reply for which memory was refused is not written in part. A fault comes where it may come after them. No
--- read came once the line was read that ended the session
+-- whole one, with that ending. Unless the writer failed, it is the replies to the first so many lines: no reply for
+-- which memory was refused is written in part. A fault comes where it may come after them. No byte was read once the
+-- line was read that ended the session
 pub record Debugs (in_old in_new out_old out_new : Option (List ℕ)) (Stated : List ℕ → List ℕ → Ending → Type 0)
     (ToFirst : ℕ → List ℕ → List ℕ → Type 0) (ending : Ending) : Type 0 where
   pub got : List ℕ
@@ -138,8 +137,8 @@ Stops Passes old out_old out_new ending = ⊥
 Stops (Does command) old out_old out_new ending = IsNotReplied command old out_old out_new ending
 Stops (Ends stop) old out_old out_new ending = (ending ≡ stop) × Keeps out_old out_new
 
--- a line stands at the front of the text, whatever comes after it, and is taken with what ends it; no read came once it
--- was read. With this number it leads from one session to the other, and the reply to it was written
+-- a line stands at the front of the text, whatever comes after it, and is taken with what ends it. No byte was read
+-- once it was read. With this number it leads from one session to the other, and the reply to it was written
 pub record Advances (in_old in_new out_old out_new : Option (List ℕ)) (reads_old reads_new number : ℕ)
     (lines_old : Pending) (p : PlainSession) (lines_new : Pending) (q : PlainSession) : Type 0 where
   pub got : List ℕ

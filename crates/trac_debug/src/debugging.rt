@@ -65,10 +65,10 @@ pub fn debug<R: Read, W: Write, A: Allocator + Copy>(
     debug_session(alloc, &mut session, commands, output).ending
 }
 
-/// Takes the lines of the commands, as `debug` does, from the session as it stands, and counts what it does:
-/// there are at most 1,048,576 lines. The session is left as the lines left it that were replied to: if the writer
-/// failed, it may be as the line after them left it. Each read but the last gave a byte at least, and so did the last,
-/// unless it saw the end or failed.
+/// Takes the lines of the commands, as `debug` does, from the session as it stands, and counts what it does: there are
+/// at most 1,048,576 lines. The session is left as the lines left it that were replied to. If the writer failed,
+/// nothing is said of it. Each read but the last gave a byte at least, and so did the last, unless it saw the end or
+/// failed.
 pub fn debug_session<R: Read, W: Write, A: Allocator + Copy>(
     alloc: A,
     session: &mut Session<A>,

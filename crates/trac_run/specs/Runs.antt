@@ -5,7 +5,8 @@ use Rattle.std.specs.Io.KnownBytes.{Appends, Consumes, IsAtEnd}
 use Rattle.trac_rules.specs.declared.limit.TheConstants.{TEXT_LIMIT, TAPE_LIMIT}
 use Rattle.trac_rules.specs.declared.refusal.Refusal.{Refusal}
 use Rattle.trac_rules.specs.declared.refusal.Refusal.TheVariants as refusals
-use Rattle.trac_rules.specs.Session.{PlainSession, Command, Feed, End, Step, Back, Commit, done, first_kept, new_session, refused, answer}
+use Rattle.trac_rules.specs.Session.{PlainSession, Command, Feed, End, Step, Back, Commit, done, first_kept}
+use Rattle.trac_rules.specs.Session.{new_session, refused, answer}
 use Rattle.trac_rules.specs.declared.width.Width.{Width}
 use Rattle.trac_rules.specs.Running.{Output, BudgetSpent, InputEnded, LimitPassed, output_of}
 use Rattle.trac_rules.specs.GoingOn.{prepended, going_on_from}
@@ -72,8 +73,8 @@ pub record Runs (in_old in_new out_old out_new : Option (List ℕ)) (width : Wid
 abbrev pub most_reads : ℕ → ℕ
 most_reads steps = (steps + 1) * (TAPE_LIMIT + 1)
 
--- a run, of which what it did is counted: it took so many steps, and read just so often, by one read for each byte at
--- most and one that gave nothing
+-- a run, of which what it did is counted. It took so many steps, and read so often as these bytes may have come by: one
+-- read for each byte at most, and one that gave nothing
 pub record RunsBy (in_old in_new out_old out_new : Option (List ℕ)) (width : Width) (budget steps reads : ℕ)
     (ending : Ending) : Type 0 where
   pub runs : Runs in_old in_new out_old out_new width budget ending
@@ -120,9 +121,9 @@ fed_by [] = []
 fed_by (Feed bytes ∷ commands) = bytes ++ fed_by commands
 fed_by (command ∷ commands) = fed_by commands
 
--- the same, and what was read is what the feeds between the steps were, and a rest: nothing, or what the last read gave
--- while the next step waited, whose feed was refused. So no byte was read but while a step waited. And what was written
--- is what the commits between the steps released, and then a front of what is pending
+-- the same, and what was read is what the feeds between the steps were, and a rest. The rest is nothing, or what a last
+-- read gave while the next step waited: so no byte was read but while a step waited. What was written is what the
+-- commits between the steps released, and then a front of what is pending
 pub record FeedsSteps (in_old in_new out_old out_new : Option (List ℕ)) (steps : ℕ) (rest late : List ℕ)
     (p q : PlainSession) : Type 0 where
   pub takes : TakesSteps steps p q
@@ -131,22 +132,22 @@ pub record FeedsSteps (in_old in_new out_old out_new : Option (List ℕ)) (steps
   pub gave : Appends out_old out_new (takes.released ++ late)
   pub pending : IsFrontOf late q.last.output
 
--- the same, whatever the rest is, and that front
+-- the same, whatever the rest and that front are
 abbrev pub FeedsToLast : Option (List ℕ) → Option (List ℕ) → Option (List ℕ) → Option (List ℕ) → ℕ → PlainSession →
     PlainSession → Type 0
 FeedsToLast in_old in_new out_old out_new steps p q =
     (rest : List ℕ) × (late : List ℕ) × FeedsSteps in_old in_new out_old out_new steps rest late p q
 
--- a part of a run took so many steps: if the run goes on after it, all that it read is fed, and all that it wrote is
+-- a part of a run took so many steps. If the run goes on after it, all that it read is fed, and all that it wrote is
 -- released
 abbrev pub FeedsAsFar : {T : Type 0} → Result T Ending → Option (List ℕ) → Option (List ℕ) → Option (List ℕ) →
     Option (List ℕ) → ℕ → PlainSession → PlainSession → Type 0
 FeedsAsFar (Ok x) in_old in_new out_old out_new steps p q = FeedsSteps in_old in_new out_old out_new steps [] [] p q
 FeedsAsFar (Err ending) in_old in_new out_old out_new steps p q = FeedsToLast in_old in_new out_old out_new steps p q
 
--- a whole run: its session began new, and may keep so many states. What was read is what was fed to it while the next
--- of its steps waited for input, and perhaps what a last such read gave: so no byte was read once the program halted.
--- What was written is what it released, and a front of what was pending
+-- a whole run: its session began new, and may keep so many states. What was read is what was fed to it while its next
+-- step waited for input, and perhaps what a last such read gave. So no byte was read once the program halted. What was
+-- written is what it released, and a front of what was pending
 pub record RunsAnew (in_old in_new out_old out_new : Option (List ℕ)) (journal : ℕ) (width : Width) (budget : ℕ)
     (ending : Ending) : Type 0 where
   pub runs : Runs in_old in_new out_old out_new width budget ending

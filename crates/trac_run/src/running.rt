@@ -64,10 +64,10 @@ pub fn run<R: Read, W: Write, A: Allocator + Copy>(
 }
 
 /// Runs a new session as `run` does, by so many steps at most, and counts what it does. The session is left as the last
-/// step or commit made it: it took just the steps that are counted. What it released is written, and its tape is ended
-/// only if the reader came to its end. No byte is read but while the next step waits for input, and so none once the
-/// program halts. Each read but the last gave a byte at least, and so did the last, unless it saw the end or failed. For
-/// each step, and once more, there are at most 33,554,433 reads.
+/// step, commit or read made it: it took just the steps that are counted. What it released is written, and its tape is
+/// ended only if the reader came to its end. No byte is read but while the next step waits for input, and so none once
+/// the program halts. Each read but the last gave a byte at least, and so did the last, unless it saw the end or
+/// failed. For each step, and once more, there are at most 33,554,433 reads.
 pub fn run_session<R: Read, W: Write, A: Allocator + Copy>(
     session: &mut Session<A>,
     input: &mut R,

@@ -47,7 +47,9 @@ fn lent_beside(session: &Session<Memory<'_>>) -> usize {
     let form = machine.store().get(b"A").map_or(0, |form| form.len());
     let block = machine.store().block(0).map_or(0, |block| block.len());
     let arguments = machine.frame(0).map_or(0, |frame| frame.1.count());
-    let counts = session.len() | session.weight() as usize;
+    let begun = machine.begun_functions().next().is_some();
+    let shared = machine.store().shared_name(b"A").is_some();
+    let counts = session.len() | session.weight() as usize | begun as usize | shared as usize;
     form | block | arguments | counts | session.unread().len()
 }
 

@@ -45,15 +45,15 @@ pub record Tells (Taken : Type 0) (wrong : Outcome) (decimals : ℕ)
 -- ---- texts that are written
 
 -- a run of a program, with all of its input, took so many steps, wrote this and ended so: it is what the rules print by
--- the budget. If the buffer is full, or memory was refused, it is a front of that. If the buffer is not full, it is
--- just what these steps print
+-- the budget. If the buffer is full, or memory was refused, it is a front of that. Unless it ended `Write`, it is just
+-- what these steps print
 pub record WritesRun (width : Width) (budget steps : ℕ) (input written : List ℕ) (ending : Ending) : Type 0 where
   pub front : IsFrontOf written (output_of width input budget).bytes
   pub shows : Shows ending written (output_of width input budget)
   pub exact : ending ≢ Write → Prints width input steps written
 
 -- the debugger over this tape replied so to these commands, and ended so: it is a text that may be shown. If the buffer
--- is full, or memory was refused, it is a front of one, and if the buffer is not full, of whole replies. A fault comes
+-- is full, or memory was refused, it is a front of one. Unless it ended `Write`, it is whole replies. A fault comes
 -- where it may come. It ends for the tape if that is too long
 pub record WritesReplies
     (tape : List ℕ) (limit : ℕ) (width : Width) (commands written : List ℕ) (ending : Ending) : Type 0 where
