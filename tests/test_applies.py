@@ -2,15 +2,20 @@
 crates/NAME/further-edits/*.edit, which ./check --edits tries. Each `old` has to stand exactly once in its file, in what
 the pairs before it made, and no more than 16 edits stand in one must-fail/. Whether the prover refuses them is not
 looked at, and no program is needed."""
+from __future__ import annotations
+
+import pathlib
+
 from support.cases import TOP, Case, each, near, tests
 
 MOST = 16
 CRATES = TOP / "crates"
 
 
-def why_not(crate, edit):
+def why_not(crate: pathlib.Path, edit: pathlib.Path) -> str | None:
     """Says why the edit cannot be applied to the crate, or nothing."""
-    path, old, texts = None, None, {}
+    path, old = None, None
+    texts: dict[str, str] = {}
     for line in edit.read_text(encoding="utf-8").splitlines():
         key, _, text = line.partition(": ")
         if key == "file":
@@ -38,7 +43,7 @@ class Applies(Case):
     takes_programs = False
 
     @each(sorted(crate.name for crate in CRATES.iterdir() if list(crate.glob("*/*.edit"))))
-    def test(self, name):
+    def test(self, name: str) -> None:
         crate = CRATES / name
         edits = sorted(crate.glob("must-fail/*.edit"))
         if len(edits) > MOST:

@@ -3,8 +3,10 @@ one is refused, lessons and exercises keep to their words, and `trac course` say
 import os
 import re
 import shlex
+from collections.abc import Iterable, Iterator, Sequence
+from typing import Any
 
-from support.cases import TOP, WALK, Case, Place, each, ran, scratch, tests
+from support.cases import TOP, WALK, Case, Place, Word, each, ran, scratch, tests
 
 COURSE, LAUNCHER = TOP / "programs" / "course", TOP / "trac"
 # How many words a lesson may have, with its programs, and an exercise or a hint.
@@ -16,7 +18,7 @@ BLOCK = re.compile(r"^```(\w+) ?(\S*)\n(.*?)^```$", re.M | re.S)
 LESSONS = sorted(name for name in os.listdir(COURSE) if name.isdigit())
 
 
-def exercises_of(lesson):
+def exercises_of(lesson: str) -> list[str]:
     """The folders of a lesson's exercises."""
     return [os.path.join(lesson, name) for name in sorted(os.listdir(COURSE / lesson)) if name.isdigit()]
 
@@ -24,7 +26,7 @@ def exercises_of(lesson):
 # The folders of all exercises, by their numbers.
 EXERCISES = {"{}.{}".format(*map(int, name.split("/"))): name for lesson in LESSONS for name in exercises_of(lesson)}
 # Words of trac course, a part of what it says, and its status.
-SAYS = (
+SAYS: tuple[tuple[list[str], str, int], ...] = (
     ([], "3. Forms\n    3.1 An address\n", 0),
     (["3"], "\n3. Forms\n\n`ds` keeps a text under a name.", 0),
     (["03"], "exercise 3.1 An address", 0),
@@ -52,23 +54,23 @@ CHECKED = (
 )
 
 
-def read(*parts):
+def read(*parts: str) -> str:
     """The text of a file of the course."""
     return COURSE.joinpath(*parts).read_text(encoding="utf-8")
 
 
-def called(words, given="", **more):
+def called(words: Sequence[Word], given: str = "", **more: Any) -> tuple[str, int]:
     """What a command says, both streams together, and its status."""
     run = ran(["bash", "-c", 'exec "$@" 2>&1', "-", *words], given.encode(), **more)
     return run.output.decode("utf-8", "replace"), run.status
 
 
-def courses(*words, **more):
+def courses(*words: Word, **more: Any) -> tuple[str, int]:
     """What trac course says, and its status."""
     return called([LAUNCHER, "course", *words], **more)
 
 
-def commands(block, first):
+def commands(block: str, first: int) -> Iterator[tuple[str, str, str, list[int]]]:
     """The commands of a block, each with what is typed, what it prints, and the lines of the lesson where that
     stands; the block begins at this line."""
     number = first
@@ -86,7 +88,7 @@ class Course(Case):
     """Lessons, exercises, and the command."""
 
     @each(LESSONS)
-    def test_lesson(self, name):
+    def test_lesson(self, name: str) -> None:
         """A lesson: its words, its programs, and its commands."""
         text = read(name, "lesson.md")
         size = len(text.split())
@@ -103,7 +105,7 @@ class Course(Case):
         self.check_lint(name, sorted(there))
         self.check_exercises_of(name)
 
-    def check_block(self, name, block, line, consoles):
+    def check_block(self, name: str, block: re.Match[str], line: int, consoles: str) -> None:
         """A block: a program, which is as its file and is run, or a console, whose commands print what it says."""
         kind, file, text = block.groups()
         if kind == "trac":
@@ -118,17 +120,17 @@ class Course(Case):
             place = Place("programs/course/{}/lesson.md".format(name), lines or line)
             self.same(command, said.rstrip("\n"), wanted.rstrip("\n"), place, "printed")
 
-    def check_lint(self, folder, files):
+    def check_lint(self, folder: str, files: Iterable[str]) -> None:
         """What trac lint says of the programs of a lesson, or of a solution on its inputs."""
         inputs = sorted(file for file in (COURSE / folder).iterdir() if file.suffix == ".in")
-        words = [["--input", file] for file in inputs] or [[]]
+        words: list[list[Word]] = [["--input", file] for file in inputs] or [[]]
         for file in files:
             file = os.path.join(folder, file)
             said = [called([WALK, "--lint", "--steps", "100000", *given, COURSE / file]) for given in words]
             is_doubted = any(status for _, status in said)
             self.holds("trac lint says of {}: {}".format(file, said), is_doubted == (file[:-5] in DOUBTED))
 
-    def check_exercises_of(self, name):
+    def check_exercises_of(self, name: str) -> None:
         """A lesson has two or three exercises, and README.md lists it."""
         there = [os.path.basename(folder) for folder in exercises_of(name)]
         self.holds("it has two or three exercises", there in (["1", "2"], ["1", "2", "3"]))
@@ -137,7 +139,7 @@ class Course(Case):
         self.holds("README.md of the course lists it", line in read("README.md"))
 
     @each(EXERCISES)
-    def test_exercise(self, number):
+    def test_exercise(self, number: str) -> None:
         """An exercise: its words, what must be printed, its solution and its wrong solution."""
         name = EXERCISES[number]
         text, folder = read(name, "exercise.md"), COURSE / name
@@ -160,10 +162,10 @@ class Course(Case):
         self.holds("it is shown with its runs: " + said, status == 0 and said.count("must be printed") == runs)
         self.check_lint(name, ["solution.trac"])
 
-    def test_number_of_lessons(self):
+    def test_number_of_lessons(self) -> None:
         self.holds("there are ten lessons", LESSONS == ["{:02}".format(number + 1) for number in range(10)])
 
-    def test_words_of_documents(self):
+    def test_words_of_documents(self) -> None:
         """docs/porting.md has at most 900 words, and the forms to copy in docs/programs.md 500."""
         count = len((TOP / "docs" / "porting.md").read_text(encoding="utf-8").split())
         self.holds("docs/porting.md has at most 900 words, and not {}".format(count), count <= 900)
@@ -171,13 +173,13 @@ class Course(Case):
         count = len(text.split("\n## Forms to copy\n")[1].split("\n## ")[0].split())
         self.holds("the forms to copy have at most 500 words, and not {}".format(count), count <= 500)
 
-    def test_what_the_command_says(self):
+    def test_what_the_command_says(self) -> None:
         for words, part, status in SAYS:
             said, ended = courses(*words)
             what = "trac course {}: {!r}, status {}".format(" ".join(words), said[:200], ended)
             self.holds(what, part in said and ended == status)
 
-    def test_what_a_check_says(self):
+    def test_what_a_check_says(self) -> None:
         file = scratch(self) / "try.trac"
         for program, part in CHECKED:
             file.write_text(program, encoding="utf-8")
@@ -185,18 +187,18 @@ class Course(Case):
             self.holds("a check of {!r} says {!r}, and not {!r}".format(program, said[:300], part),
                        part in said and status == (0 if "solved" in part else 1))
 
-    def test_file_without_its_last_line_end(self):
+    def test_file_without_its_last_line_end(self) -> None:
         file = scratch(self) / "line.trac"
         file.write_text(read("08/1/solution.trac").rstrip("\n"), encoding="utf-8")
         self.holds("it may lack that", courses("check", "8.1", file)[1] == 0)
 
-    def test_widths(self):
+    def test_widths(self) -> None:
         for width in 50, 200:
             said, _ = courses("6", env={**os.environ, "COLUMNS": str(width)})
             lines = [line for line in said.splitlines() if not line.startswith("    ") and str(LAUNCHER) not in line]
             self.holds("a lesson fits {} columns".format(width), max(map(len, lines)) <= min(width, 100))
 
-    def test_from_elsewhere(self):
+    def test_from_elsewhere(self) -> None:
         """A lesson names programs and files that are there."""
         said, _ = courses("1", folder="/")
         lines = [line[6:] for line in said.splitlines() if line.startswith("    $ ")]
@@ -204,17 +206,17 @@ class Course(Case):
         left = [word for word in words if not os.path.exists(os.path.join("/", word))]
         self.holds("of {} all are there, and not only those that are not {}".format(words, left), words and not left)
 
-    def test_from_a_folder_that_is_gone(self):
+    def test_from_a_folder_that_is_gone(self) -> None:
         """A lesson is shown also where the folder was taken away that it is asked for in."""
         gone = 'mkdir gone && cd gone && rmdir ../gone && exec "$0" course 1'
         said, status = called(["bash", "-c", gone, str(LAUNCHER)], folder=scratch(self))
         self.holds("to its end: {!r}".format(said[-80:]), status == 0 and said[-40:] == courses("1")[0][-40:])
 
-    def test_who_reads_no_more(self):
+    def test_who_reads_no_more(self) -> None:
         said, status = called(["bash", "-o", "pipefail", "-c", shlex.quote(str(LAUNCHER)) + " course 1 | head -c 1"])
         self.holds("gets no message: {!r}".format(said), said == "\n")
 
-    def test_doubts_in_a_check(self):
+    def test_doubts_in_a_check(self) -> None:
         """A check shows the first doubt of trac lint."""
         wrong, room = COURSE / "10" / "1" / "wrong.trac", scratch(self)
         said, status = courses("check", "10.1", wrong)
@@ -228,7 +230,7 @@ class Course(Case):
         said, status = courses("check", "10.1", COURSE / "10" / "1" / "solution.trac")
         self.holds("a right solution is not doubted: " + said, status == 0 and "trac lint" not in said)
 
-    def test_own_name(self):
+    def test_own_name(self) -> None:
         """It says how to go on by the name that it was called by; on PATH that is the word alone."""
         beside = ran(["./trac", "course"]).output.decode().splitlines()[-1]
         self.same("beside", beside, "./trac course 1 shows the first lesson, ./trac course 1.1 its first exercise")

@@ -1,5 +1,6 @@
 """What README.md of each crate names is there: files, crates, and the words of the language and of its proofs, each in
 some file of the crates. So a name that changed, or went, is changed there too."""
+import pathlib
 import re
 
 from support.cases import TOP, Case, each, tests
@@ -9,10 +10,10 @@ CRATES = TOP / "crates"
 CODE = re.compile(r"`([^`\n]+)`")
 WORD = re.compile(r"[A-Za-z_]\w*(?:::\w+)*")
 # Each word that stands in the files of the crates, read once.
-WORDS = set()
+WORDS: set[str] = set()
 
 
-def words():
+def words() -> set[str]:
     """These words, and those of the commands."""
     if not WORDS:
         for file in CRATES.glob("*/*/**/*"):
@@ -21,7 +22,7 @@ def words():
     return WORDS
 
 
-def is_there(crate, name):
+def is_there(crate: pathlib.Path, name: str) -> bool:
     """Whether what is named so in the README.md of a crate is there."""
     if "/" in name or re.search(r"\.(rt|antt|md)$", name):
         places = crate, CRATES, TOP, crate / "specs", crate / "src", crate / "proofs"
@@ -38,7 +39,7 @@ class Crates(Case):
     takes_programs = False
 
     @each(sorted(folder.name for folder in CRATES.iterdir()))
-    def test(self, name):
+    def test(self, name: str) -> None:
         crate = CRATES / name
         text = (crate / "README.md").read_text(encoding="utf-8")
         self.holds("it begins with the crate's name", text.startswith("# {}\n".format(name)))

@@ -4,9 +4,13 @@ mistakes there are no others.
 
 The example of docs/embedding.md is its crate, which the gate runs; the counts of definitions in docs/proof.md are
 those of tools/believed."""
-import re
+from __future__ import annotations
 
-from support.cases import TOP, Case, Place, each, lined, ran, scratch, tests
+import pathlib
+import re
+from collections.abc import Iterator
+
+from support.cases import TOP, Case, Place, Ran, each, lined, ran, scratch, tests
 
 COMMAND = re.compile(r'^ +(printf ".*") \| \./trac run')
 PRINTS = re.compile(r'^ +(printf ".*" \| \./trac run)  +# prints (.*)$')
@@ -18,13 +22,13 @@ SILENT = "nothing-printed.md"
 ABOUT = 100
 
 
-def shell(command):
+def shell(command: str) -> Ran:
     """What a command prints, both streams together, and its status."""
     run = ran(["bash", "-c", "exec 2>&1; " + command])
     return run._replace(command=command)
 
 
-def lines_of(file):
+def lines_of(file: pathlib.Path) -> Iterator[tuple[int, str]]:
     """The lines of a page, each with its number."""
     return enumerate(file.read_text(encoding="utf-8").split("\n"), 1)
 
@@ -34,20 +38,22 @@ class Documents(Case):
     """The commands of each page."""
 
     @each(name for name, file in PAGES.items() if any(COMMAND.match(line) for _, line in lines_of(file)))
-    def test(self, name):
+    def test(self, name: str) -> None:
         file = PAGES[name]
-        command, doubts = None, []
+        command: tuple[int, str] | None = None
+        doubts: list[tuple[int, str]] = []
         for number, line in lines_of(file):
-            if COMMAND.match(line):
+            begins, doubt, prints = COMMAND.match(line), DOUBT.match(line), PRINTS.match(line)
+            if begins:
                 self.check_doubts(name, command, doubts)
-                command, doubts = (number, COMMAND.match(line)[1]), []
-            elif DOUBT.match(line):
-                doubts.append((number, DOUBT.match(line)[1]))
-            if PRINTS.match(line):
-                self.check_output(file, number, *PRINTS.match(line).groups())
+                command, doubts = (number, begins[1]), []
+            elif doubt:
+                doubts.append((number, doubt[1]))
+            if prints:
+                self.check_output(file, number, prints[1], prints[2])
         self.check_doubts(name, command, doubts)
 
-    def check_output(self, file, number, command, wanted):
+    def check_output(self, file: pathlib.Path, number: int, command: str, wanted: str) -> None:
         """A command prints what its line says."""
         wanted, run = "" if wanted == "nothing" else wanted, shell(command)
         place = Place(file.relative_to(TOP), number)
@@ -55,20 +61,20 @@ class Documents(Case):
         self.same(what, run.output.decode("utf-8", "replace"), wanted, place, "printed")
         self.status(what, run, 0)
 
-    def check_doubts(self, name, command, doubts):
+    def check_doubts(self, name: str, command: tuple[int, str] | None, doubts: list[tuple[int, str]]) -> None:
         """Of what the last command prints trac lint says what stands below it."""
         if command is None or not doubts and name != SILENT:
             return
-        number, command = command
+        number, words = command
         file = scratch(self) / "it"
-        file.write_bytes(shell(command).output)
+        file.write_bytes(shell(words).output)
         said = ran([TOP / "trac", "lint", file]).output.decode("utf-8", "replace").replace("{}:".format(file), "")
         said = re.sub(r" +$", "", re.sub(r" \(step [0-9]+\)$", "", said, flags=re.M), flags=re.M)
         place = Place(PAGES[name].relative_to(TOP), [number for number, _ in doubts] or number)
-        what = "{}:{}: what trac lint says of {}".format(place.file, number, command)
+        what = "{}:{}: what trac lint says of {}".format(place.file, number, words)
         self.same(what, said, lined(text for _, text in doubts).decode(), place, "said by trac lint")
 
-    def test_embedding(self):
+    def test_embedding(self) -> None:
         """The program of the page is that of the example, and what it prints is what the gate compares."""
         page = (TOP / "docs" / "embedding.md").read_text(encoding="utf-8")
         example = TOP / "crates" / "trac_embedding_example"
@@ -77,7 +83,7 @@ class Documents(Case):
             place = Place(file.relative_to(TOP))
             self.same("docs/embedding.md shows " + place.file, blocks, file.read_text(encoding="utf-8"), place, "shown")
 
-    def test_counts_of_definitions(self):
+    def test_counts_of_definitions(self) -> None:
         """tools/believed counts as many files, and about as many lines, as docs/proof.md says."""
         rows = re.findall(r"^\| .* \| `([^`]+)` \| ([0-9]+) files, ([0-9,]+) lines \|$",
                           (TOP / "docs" / "proof.md").read_text(encoding="utf-8"), re.M)

@@ -24,7 +24,7 @@ ENDINGS = {0: b"", 3: b"trac: budget spent\n", 4: b"trac: limit passed\n"}
 MODELLED, MODEL_STEPS = 200, 2000
 
 
-def started(room, words, tape):
+def started(room: str, words: list[str], tape: bytes) -> tuple[bytes, bytes, int]:
     """What the built program does with an input: its output, standard error and exit status. (This is as cheap as a
     start can be.)"""
     place = [os.path.join(room, name) for name in ("in", "out", "err")]
@@ -38,9 +38,9 @@ def started(room, words, tape):
     return output, error, os.WEXITSTATUS(status) if os.WIFEXITED(status) else -os.WTERMSIG(status)
 
 
-def waited(process):
+def waited(process: int) -> int:
     """The status of a process that ends; one that does not is killed."""
-    def kill(_signal, _frame):
+    def kill(_signal: int, _frame: object) -> None:
         os.kill(process, signal.SIGKILL)
 
     signal.signal(signal.SIGALRM, kill)
@@ -50,7 +50,7 @@ def waited(process):
     return status
 
 
-def told(output, error, status):
+def told(output: bytes, error: bytes, status: int) -> bytes:
     """These as one text, to be compared."""
     return b"%s\n(standard error) %s\n(status) %d\n" % (output, error, status)
 
@@ -61,19 +61,19 @@ class Interpreter(Case):
 
     suite = "interpreter"
 
-    def __init__(self, method="runTest"):
+    def __init__(self, method: str = "runTest") -> None:
         super().__init__(method)
         # (those with a program that grows take longest)
         self.seconds = 40 if re.search("-[05]*000-", method) else 5
 
     @each("{}-to-{}".format(first, first + PART - 1) for first in range(0, COUNT, PART))
-    def test_programs(self, numbers):
+    def test_programs(self, numbers: str) -> None:
         first, last = map(int, numbers.split("-to-"))
         with tempfile.TemporaryDirectory() as room:
             for number in range(first, last + 1):
                 self.try_program(number, room)
 
-    def try_program(self, number, room):
+    def try_program(self, number: int, room: str) -> None:
         """A program: its runs with both widths, and a session over some of them."""
         writer = author.Author(SEED, number)
         tape, budget = writer.program(), writer.budget()
@@ -85,11 +85,11 @@ class Interpreter(Case):
             words = ["run", "--budget", str(budget)] + (["--decimals", "64"] if bits == 64 else [])
             self.compare(number, tape, words, (output, ENDINGS[status], status), started(room, words, tape))
         if number % DEBUGGED == 0:
-            self.debug(number, tape, writer, room)
+            self.try_session(number, tape, writer, room)
         if len(self.faults) + self.cut == faults:
             self.well()
 
-    def debug(self, number, tape, writer, room):
+    def try_session(self, number: int, tape: bytes, writer: author.Author, room: str) -> None:
         """A session over a program."""
         bits, journal, commands = writer.pick([128, 64]), writer.pick([5, 40, 65536, 65536]), writer.commands()
         words = ["debug", "--decimals", str(bits), "--journal", str(journal), os.path.join(room, "program")]
@@ -98,7 +98,8 @@ class Interpreter(Case):
         wanted = session.replies(tape, bits, journal, commands), b"", 0
         self.compare(number, tape, words[:-1] + ["with {}".format(commands)], wanted, given)
 
-    def compare(self, number, tape, words, wanted, given):
+    def compare(self, number: int, tape: bytes, words: list[str], wanted: tuple[bytes, bytes, int],
+                given: tuple[bytes, bytes, int]) -> None:
         """The built program does what the plain processor does."""
         if wanted != given:
             what = "program {} of seed {}, {!r}: trac {}".format(number, SEED, tape[:2000], " ".join(words))
@@ -112,7 +113,7 @@ class Worked(Case):
     suite = "interpreter"
 
     @each(stems(DATA / "programs"))
-    def test_worked(self, name):
+    def test_worked(self, name: str) -> None:
         file = DATA / "programs" / (name + ".trac")
         status = int((words_in(file.with_suffix(".status")) or ["0"])[0])
         for bits in 128, 64:
@@ -123,7 +124,7 @@ class Worked(Case):
             self.same("with {} bits".format(bits), output, wanted.read_bytes(), Place(near(wanted)), given)
             self.holds("status {}, and not {}".format(ending, status), ending == status)
 
-    def test_model(self):
+    def test_model(self) -> None:
         """The model prints what the plain processor prints, with both widths."""
         for number in range(MODELLED):
             tape = author.Author(SEED, number).program()

@@ -11,7 +11,7 @@ from support.cases import TRAC, Case
 TEXT = b"#(ps,a)#(ps,b)'"
 
 
-def writes(words):
+def writes(words: list[str]) -> bytes:
     """What a run of the text writes: each write is a line here."""
     ours, theirs = os.pipe2(os.O_DIRECT)
     with tempfile.TemporaryFile() as given:
@@ -30,10 +30,10 @@ class Journal(Case):
 
     suite = "journal"
 
-    def test_full(self):
+    def test_full(self) -> None:
         """With one step in it, each text that is printed is written by itself."""
         self.same("one step", writes(["--journal", "1"]), b"a\nb\n")
 
-    def test_not_full(self):
+    def test_not_full(self) -> None:
         """While there is room, what is printed is written together."""
         self.same("many steps", writes([]), b"ab\n")

@@ -5,6 +5,7 @@ Each has its page, NAME.md, and what it prints, NAME.out, and no file is left ov
 it reads: its doubts, without the numbers of their steps, must be those of NAME.lint, or none. In each NAME.walk, the
 lines after `> ` are typed in a walk through the program, and the others are its replies: five of them follow a byte
 of the output back to the text of the program."""
+import pathlib
 import re
 
 from support.cases import TOP, WALK, Case, Place, bytes_in, each, near, ran, stems, tests
@@ -19,7 +20,7 @@ class Library(Case):
     """The library, each program with all that belongs to it."""
 
     @each(stems(HERE))
-    def test(self, name):
+    def test(self, name: str) -> None:
         file = HERE / (name + ".trac")
         run_both_ways(self, file)
         for it in "trac", "md", "out":
@@ -29,13 +30,13 @@ class Library(Case):
         if file.with_suffix(".walk").exists():
             self.check_walk(file, file.with_suffix(".walk"))
 
-    def check_page(self, name):
+    def check_page(self, name: str) -> None:
         """Its page is short, and the list has it."""
         count = len(bytes_in(HERE / (name + ".md")).split())
         self.holds("{}.md has at most 150 words, and not {}".format(name, count), count <= 150)
         self.holds("README.md names it", "({}.md)".format(name) in (HERE / "README.md").read_text(encoding="utf-8"))
 
-    def check_doubts(self, file):
+    def check_doubts(self, file: pathlib.Path) -> None:
         """What trac lint says of it."""
         given = file.with_suffix(".in")
         words = ["--input", given.name] if given.exists() else []
@@ -43,7 +44,7 @@ class Library(Case):
         self.same("its doubts", STEP.sub(b"", run.output + run.error), bytes_in(file.with_suffix(".lint")),
                   Place(near(file.with_suffix(".lint"))), "said by trac lint")
 
-    def check_walk(self, file, walk):
+    def check_walk(self, file: pathlib.Path, walk: pathlib.Path) -> None:
         """A walk through it."""
         lines = walk.read_bytes().splitlines(keepends=True)
         typed = b"".join(line[2:] for line in lines if line.startswith(b"> "))
@@ -53,7 +54,7 @@ class Library(Case):
         self.same("its walk", run.output + run.error, wanted, Place(near(walk), kept), "replied")
         self.holds("its walk comes to a line of the program", re.search(rb"reads it: line [0-9]*, column", wanted))
 
-    def test_files(self):
+    def test_files(self) -> None:
         """Its files belong to its programs, five are walks, and its list is short."""
         endings = {".trac", ".md", ".in", ".out", ".64", ".lint", ".walk"}
         left = [near(file) for file in sorted(HERE.iterdir()) if file.suffix not in endings]

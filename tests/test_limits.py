@@ -7,7 +7,7 @@ needs. What a program prints follows from the rules."""
 import functools
 import resource
 
-from support.cases import TRAC, Case, each, ran, tests
+from support.cases import TRAC, Case, Ran, each, ran, tests
 
 LINES = {0: b"", 4: b"trac: limit passed\n", 5: b"trac: no memory\n"}
 MIB = 1 << 20
@@ -41,13 +41,13 @@ PROGRAMS = {
 }
 
 
-def run(text, limit):
+def run(text: bytes, limit: int) -> Ran:
     """A run under a limit."""
     return ran([TRAC, "run"], text, preexec_fn=lambda: resource.setrlimit(resource.RLIMIT_AS, (limit, limit)))
 
 
 @functools.lru_cache(None)
-def limits():
+def limits() -> list[int]:
     """Twenty limits, which begin with the least, to 64 KiB, under which an empty input ends as it should."""
     low, high = 0, 64 * MIB
     while high - low > MIB // 16:
@@ -61,7 +61,7 @@ class Limits(Case):
     """The programs under each limit."""
 
     @each(PROGRAMS)
-    def test(self, name):
+    def test(self, name: str) -> None:
         text, whole, status = PROGRAMS[name]
         for limit in limits():
             done = run(text, limit)

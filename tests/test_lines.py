@@ -7,8 +7,9 @@ import select
 import shutil
 import stat
 import sys
+from collections.abc import Iterable, Sequence
 
-from support.cases import DATA, EXAMPLES, TOP, Case, each, patience, ran, scratch, tests
+from support.cases import DATA, EXAMPLES, TOP, Case, Word, each, patience, ran, scratch, tests
 
 sys.path.insert(0, str(TOP / "python"))
 from trac_tools import walk  # noqa: E402
@@ -18,7 +19,7 @@ FACTORIAL = EXAMPLES / "wrong-factorial.trac"
 UP = "\x1b[A"
 FORMS = ["again", "all"]
 # A beginning of a line of the walk, and the words that may stand there.
-COMPLETED = {
+COMPLETED: dict[str, tuple[str, list[str]]] = {
     "nothing": ("", walk.COMMANDS), "w": ("w ", FORMS), "y": ("y ", FORMS), "f": ("f ", FORMS), "f-all": ("f all ", []),
     "u": ("u ", walk.PRIMITIVES), "r": ("r ", walk.PRIMITIVES), "r-cl": ("r cl ", FORMS), "r-CL": ("r CL ", FORMS),
     "r-ad": ("r ad ", []), "r-cl-again": ("r cl again ", []), "s": ("s ", ["end"]), "b": ("b ", ["start"]),
@@ -29,7 +30,7 @@ NAMED = (b"#(ds,again,(#(DS,all,x)))##(ds,b-2,y)#( ds,c,y)#(ds,,z)#(ds,a b,z)"
          b"#(ds,\x1b[1m,z)#(ds,\"q\",z)#(ds,#(cl,x),z)'")
 
 
-def at_terminal(words, typed, **environment):
+def at_terminal(words: Sequence[Word], typed: Iterable[str], **environment: str) -> tuple[str, int]:
     """What is seen at a pseudo-terminal where each of these is typed at a prompt, and the status."""
     pid, terminal = pty.fork()
     if pid == 0:
@@ -57,17 +58,17 @@ def at_terminal(words, typed, **environment):
 class Lines(Case):
     """What is typed at a pseudo-terminal."""
 
-    def setUp(self):
+    def setUp(self) -> None:
         self.room = scratch(self)
         self.state = {"XDG_STATE_HOME": os.fspath(self.room), "HOME": os.fspath(self.room / "home")}
 
-    def kept(self, name):
+    def kept(self, name: str) -> str:
         """What is kept under a name; nobody else can read it."""
         place = self.room / "trac" / name
         self.holds("it is for the user alone", stat.S_IMODE(place.stat().st_mode) == 0o600)
         return place.read_text(encoding="utf-8")
 
-    def test_walks(self):
+    def test_walks(self) -> None:
         """A walk brings back the lines of the one before."""
         _, status = at_terminal([TRAC, "walk", FIRST], ["s 3\n", "q\n"], **self.state)
         self.holds("it ends: {}".format(status), status == 0)
@@ -76,7 +77,7 @@ class Lines(Case):
         self.holds("it is brought back: {!r}".format(seen), re.search(r"^3  ", seen, re.M))
         self.same("and both are kept", self.kept("walk"), "s 3\nq\ns 3\nq\n")
 
-    def test_plays(self):
+    def test_plays(self) -> None:
         """A play has lines of its own."""
         program = self.room / "asks.trac"
         program.write_text("#(ps,<#(rs)>)'", encoding="utf-8")
@@ -86,43 +87,43 @@ class Lines(Case):
         self.holds("it is brought back: {!r}".format(seen), "<one>" in seen)
         self.holds("and walks have none of it", not (self.room / "trac" / "walk").exists())
 
-    def test_home(self):
+    def test_home(self) -> None:
         """Without a folder for it that is absolute, it is ~/.local/state."""
         at_terminal([TRAC, "walk", FIRST], ["q\n"], **{**self.state, "XDG_STATE_HOME": "relative"})
         place = self.room / "home" / ".local" / "state" / "trac" / "walk"
         self.holds("it is kept there", place.exists() and place.read_text(encoding="utf-8") == "q\n")
 
-    def test_where_nothing_can_be_kept(self):
+    def test_where_nothing_can_be_kept(self) -> None:
         seen, status = at_terminal([TRAC, "walk", FIRST], ["q\n"], **{**self.state, "XDG_STATE_HOME": "/dev/null"})
         self.same("nothing is said of it", seen, "h lists the commands, q ends\n0> q\n")
         self.holds("and it ends well", status == 0)
 
-    def test_tab(self):
+    def test_tab(self) -> None:
         """Tab completes the name of a form, and the walk takes the line."""
         seen, _ = at_terminal([TRAC, "walk", FACTORIAL], ["s end\n", "w Fac\t\n", "q\n"], **self.state)
         self.holds("it is completed: {!r}".format(seen), "> w Factorial\n" in seen)
         self.holds("and taken: {!r}".format(seen), re.search(r"^[0-9]+  #\((?:ss|ds),Factorial,", seen, re.M))
 
-    def test_without_python(self):
+    def test_without_python(self) -> None:
         """Lines are plain."""
         few = self.room / "few"
         few.mkdir()
         for name in "bash", "cksum":
-            os.symlink(shutil.which(name), few / name)
+            os.symlink(shutil.which(name) or "", few / name)
         seen, status = at_terminal([TRAC, "walk", FIRST], ["s 3\n", "q\n"], **{**self.state, "PATH": os.fspath(few)})
         is_plain = seen.startswith("0> s 3\n3  ") and seen.endswith("\n3> q\n")
         self.holds("it prompts and replies: {!r}".format(seen), is_plain)
         self.holds("and ends well", status == 0)
         self.holds("and nothing is kept", not (self.room / "trac").exists())
 
-    def test_file_that_the_shell_opens(self):
-        words = ["/bin/bash", "-c", 'exec "$0" walk /dev/fd/3 3<"$1"', TRAC, FIRST]
+    def test_file_that_the_shell_opens(self) -> None:
+        words: list[Word] = ["/bin/bash", "-c", 'exec "$0" walk /dev/fd/3 3<"$1"', TRAC, FIRST]
         seen, status = at_terminal(words, ["s 3\n", "q\n"], **self.state)
         self.holds("it is walked through: {!r}".format(seen), status == 0 and "> s 3\n3  " in seen)
 
-    def test_output_elsewhere(self):
+    def test_output_elsewhere(self) -> None:
         """Where standard output is no terminal, lines are plain too."""
-        words = ["/bin/sh", "-c", 'exec "$0" walk "$1" >"$2"', TRAC, FIRST, self.room / "out"]
+        words: list[Word] = ["/bin/sh", "-c", 'exec "$0" walk "$1" >"$2"', TRAC, FIRST, self.room / "out"]
         pid, terminal = pty.fork()
         if pid == 0:
             os.execv(words[0], [os.fspath(word) for word in words])
@@ -141,11 +142,11 @@ class Words(Case):
     takes_programs = False
 
     @each(COMPLETED)
-    def test_completed(self, name):
+    def test_completed(self, name: str) -> None:
         front, wanted = COMPLETED[name]
         self.same(repr(front), "\n".join(walk.completed(front, FORMS)), "\n".join(wanted))
 
-    def test_commands(self):
+    def test_commands(self) -> None:
         """They are those that `h` lists."""
         text = (DATA / "walks" / "help.out").read_text(encoding="utf-8")
         for word in walk.COMMANDS:
@@ -153,13 +154,13 @@ class Words(Case):
         listed = set(re.findall(r"(?:^|   )([a-zA-Z])(?:  | \[| [A-Z\"#])", text, re.M))
         self.holds("and none is missing: {}".format(listed - set(walk.COMMANDS)), listed <= set(walk.COMMANDS))
 
-    def test_primitives(self):
+    def test_primitives(self) -> None:
         text = (TOP / "docs" / "language.md").read_text(encoding="utf-8").split("\n## All names\n")[1].split("\n## ")[0]
         rows = re.findall(r"^\| (`[^|]*) \|", text, re.M)
         names = sorted({name for row in rows for name in re.findall("`([a-z]{2})`", row)})
         self.same("they are those of docs/language.md", "\n".join(sorted(walk.PRIMITIVES)), "\n".join(names))
 
-    def test_forms(self):
+    def test_forms(self) -> None:
         """Names are found in a file alone: a pipe gives its bytes once."""
         file, pipe = scratch(self) / "it.trac", scratch(self) / "pipe"
         file.write_bytes(NAMED)
@@ -168,7 +169,7 @@ class Words(Case):
         for it in pipe, None, file / "none", file.parent:
             self.holds("of {} there are none".format(it), walk.forms_of(it) == [])
 
-    def test_file(self):
+    def test_file(self) -> None:
         """FILE of a command line."""
         for line, wanted in (("--prompt F", "F"), ("--journal 9 --keep 5 F --memory 1G", "F"), ("--journal=9 F", "F"),
                              ("-- -F", "-F"), ("--prompt", None), ("--journal 9", None), ("", None)):
@@ -181,7 +182,7 @@ class Beginning(Case):
 
     suite = "lines"
 
-    def test_files_of_the_folder(self):
+    def test_files_of_the_folder(self) -> None:
         """No file of the folder where one is, or that PYTHONPATH names, is taken for a part of it; nothing is left."""
         room = scratch(self)
         for name in "argparse.py", "signal.py", "readline.py", "trac_tools.py":

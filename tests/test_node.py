@@ -4,9 +4,12 @@ Most rows are answered in one process, whose streams are held in memory: the pro
 sessions, the walks, and the command lines. Each is given its input at once, and in pieces, after each of which what
 waits is answered. Then the file itself is run: as a pipe that waits, with long streams, where nobody reads, and with
 Ctrl-C."""
+from __future__ import annotations
+
 import base64
 import json
 import os
+import pathlib
 import pty
 import random
 import re
@@ -15,14 +18,16 @@ import shutil
 import signal
 import subprocess
 import termios
+from collections.abc import Iterable, Sequence
+from typing import IO, Any
 
-from support.cases import (DATA, EXAMPLES, TESTS, TOP, TRAC, WALK, Case, Place, Ran, Silent, bytes_in, near, patience,
-                           ran, scratch, stems, words_in)
+from support.cases import (DATA, EXAMPLES, TESTS, TOP, TRAC, WALK, Case, Place, Process, Ran, Silent, Word, bytes_in,
+                           near, patience, ran, scratch, stems, words_in)
 from test_programs import ENDINGS
 from test_sessions import NOT_UNDERSTOOD, REPLIES, refusal
 
 FILE = TOP / "release" / "trac.mjs"
-NODE = shutil.which("node")
+NODE = shutil.which("node") or ""
 # A program that prints without end.
 LOOP = b"#(ds,L,(#(ps,x)#(cl,L)))'#(cl,L)'"
 # Words of which command lines are made, and the seed by which they are.
@@ -36,19 +41,20 @@ run debug help rum debgu walk version page x first.trac - -- -h -V -x -hV --help
 SEED, LINES = 78, 300
 
 
-def version():
+def version() -> int:
     """The number of the Node that is there, or 0."""
     said = re.match(r"v([0-9]+)\.", ran([NODE, "--version"]).output.decode()) if NODE else None
     return int(said[1]) if said else 0
 
 
-def row(words, given=b"", piece=0, folder=TOP):
+def row(words: Sequence[Word], given: bytes = b"", piece: int = 0,
+        folder: str | os.PathLike[str] = TOP) -> dict[str, Any]:
     """A row for tests/node/answers.mjs."""
     return {"words": [os.fspath(word) for word in words], "given": base64.b64encode(given).decode(), "piece": piece,
             "folder": os.fspath(folder)}
 
 
-def answers(rows):
+def answers(rows: Sequence[dict[str, Any]]) -> list[Ran]:
     """What is answered to rows, each as a run."""
     given = "".join(json.dumps(it) + "\n" for it in rows).encode()
     run = ran([NODE, TESTS / "node" / "answers.mjs"], given)
@@ -60,7 +66,7 @@ def answers(rows):
             for it, of in zip(lines, rows)]
 
 
-def pieces(given, count=6):
+def pieces(given: bytes, count: int = 6) -> tuple[int, int]:
     """How much comes at a time: each byte of what is short, and else so many pieces."""
     return 0, 1 if len(given) < 30 else len(given) // count + 1
 
@@ -70,18 +76,18 @@ class InNode(Case):
 
     suite = "node"
 
-    def setUp(self):
+    def setUp(self) -> None:
         if version() < 18:
             self.skipTest("there is no node of version 18 or later")
 
-    def are(self, rows):
+    def are(self, rows: Sequence[tuple[dict[str, Any], dict[str, Any]]]) -> None:
         """Checks that rows are answered so: each a row, and what ends() takes."""
         for run, (_, wanted) in zip(answers([it for it, _ in rows]), rows):
             self.ends("in Node", run, **wanted)
 
-    def begun(self, words, stdout=subprocess.PIPE):
+    def begun(self, words: Sequence[Word], stdout: int | IO[bytes] = subprocess.PIPE) -> Process:
         """The file itself, begun with pipes."""
-        process = subprocess.Popen([NODE, FILE, *words], stdin=subprocess.PIPE, stdout=stdout, stderr=subprocess.PIPE)
+        process = Process([NODE, FILE, *words], stdin=subprocess.PIPE, stdout=stdout, stderr=subprocess.PIPE)
         self.addCleanup(process.kill)
         for stream in process.stdin, process.stdout, process.stderr:
             if stream:
@@ -94,7 +100,7 @@ class Stored(InNode):
 
     seconds = 20
 
-    def test_programs(self):
+    def test_programs(self) -> None:
         """The programs of tests/data/programs and of programs/examples/, with numbers of both widths."""
         rows = []
         for folder in DATA / "programs", EXAMPLES:
@@ -109,7 +115,7 @@ class Stored(InNode):
                     rows += [(row(["run", "--decimals", width], tape, piece), how) for piece in pieces(tape)]
         self.are(rows)
 
-    def test_sessions(self):
+    def test_sessions(self) -> None:
         """The sessions of the debugger, and short lists of commands."""
         here, rows = DATA / "sessions", []
         stored = [(here / name, here / (name + ".in"), here / (name + ".trac")) for name in stems(here)]
@@ -135,7 +141,7 @@ class Stored(InNode):
                  for commands, output, status, error in short for piece in pieces(commands, 3)]
         self.are(rows)
 
-    def test_walks(self):
+    def test_walks(self) -> None:
         """The walks, and the short ones with prompts too, as the program gives them."""
         here, rows = DATA / "walks", []
         for name in stems(here, ".in"):
@@ -151,7 +157,7 @@ class Stored(InNode):
                 rows.append((row(["walk", "--prompt", *options, file], given), {"output": run.output}))
         self.are(rows)
 
-    def test_lint(self):
+    def test_lint(self) -> None:
         """What trac-lint says of all programs that are here."""
         here, lines = DATA / "lint", []
         lines += [(words_in(here / (name + ".options")) + [name + ".trac"], here) for name in stems(here)]
@@ -167,20 +173,21 @@ class Stored(InNode):
             rows.append((row(["lint", *words], folder=folder), how))
         self.are(rows)
 
-    def test_texts(self):
+    def test_texts(self) -> None:
         """Help, and command lines that are not understood."""
         rows = []
+        commands: dict[str, list[str]] = {"trac": [], "trac-walk": ["walk"], "trac-lint": ["lint"]}
         for name in stems(DATA / "texts", ".words"):
             program, *words = words_in(DATA / "texts" / (name + ".words"))
-            command = {"trac": [], "trac-walk": ["walk"], "trac-lint": ["lint"]}[program]
             out, err = (DATA / "texts" / (name + ending) for ending in (".out", ".err"))
-            rows.append((row([*command, *words]), {"output": bytes_in(out), "error": bytes_in(err),
-                                                   "status": 2 if err.exists() else 0}))
+            rows.append((row([*commands[program], *words]), {"output": bytes_in(out), "error": bytes_in(err),
+                                                             "status": 2 if err.exists() else 0}))
         self.are(rows)
 
-    def test_words(self):
+    def test_words(self) -> None:
         """Command lines of random words, as the programs take them."""
         chance, rows = random.Random(SEED), []
+        fronts: tuple[tuple[pathlib.Path, list[str]], ...]
         fronts = (TRAC, []), (TRAC, ["run"]), (TRAC, ["debug"]), (WALK, []), (WALK, ["--lint"])
         for number in range(LINES):
             program, front = fronts[number % len(fronts)]
@@ -193,7 +200,7 @@ class Stored(InNode):
             rows.append((row([*command, *words]), how))
         self.are(rows)
 
-    def test_what_is_refused(self):
+    def test_what_is_refused(self) -> None:
         """What the module cannot give is said, with the status of a line that is not understood."""
         memory = b": --memory is refused: trac.mjs has 512 MiB, counted otherwise\n"
         keep = b"trac-lint: --keep is refused: trac.mjs keeps 256 MiB\n"
@@ -202,7 +209,7 @@ class Stored(InNode):
             (["walk", "--memory", "5M", "F"], b"trac-walk" + memory),
             (["lint", "--memory", "5M", "F"], b"trac-lint" + memory), (["lint", "--keep", "5", "F"], keep))])
 
-    def test_endings(self):
+    def test_endings(self) -> None:
         """Budgets, limits and files that cannot be read, as the programs end."""
         room = scratch(self)
         (room / "long").write_bytes(b"")
@@ -219,10 +226,10 @@ class Stored(InNode):
             run = ran([TRAC, "run", *words], given)
             how = {"output": run.output, "status": run.status, "error": run.error}
             rows += [(row(["run", *words], given, piece), how) for piece in pieces(given, 2)]
-        programs = {"debug": [TRAC, "debug"], "walk": [WALK], "lint": [WALK, "--lint"]}
+        begins: dict[str, list[Word]] = {"debug": [TRAC, "debug"], "walk": [WALK], "lint": [WALK, "--lint"]}
         for words in (["debug", "long"], ["debug", "nowhere"], ["debug", "."], ["walk", "long"], ["walk", "no\nwhere"],
                       ["lint", "long"]):
-            run = ran([*programs[words[0]], *words[1:]], folder=room)
+            run = ran([*begins[words[0]], *words[1:]], folder=room)
             rows.append((row(words, folder=room), {"output": run.output, "status": run.status, "error": run.error}))
         self.are(rows)
 
@@ -233,7 +240,7 @@ class Made(Case):
     suite = "node"
     takes_programs = False
 
-    def test_release_is_current(self):
+    def test_release_is_current(self) -> None:
         """It is what node/assemble makes of the page of release/."""
         run = ran([TOP / "node" / "assemble", "--compare"])
         self.ends("node/assemble --compare", run, b"1 passed, 0 failed\n")
@@ -242,26 +249,26 @@ class Made(Case):
 class Streams(InNode):
     """The file itself, as a process."""
 
-    def test_file(self):
+    def test_file(self) -> None:
         run = ran([NODE, FILE, "run"], b"#(ps,A#(rs))'B'")
         self.ends("a file as standard input", run, b"AB")
         self.ends("a pipe", ran([NODE, FILE, "run"], b"#(ps,A#(rs))'B'", 3), b"AB")
         self.ends("no input", ran([NODE, FILE, "run"]))
         self.ends("a folder", subprocess_run(["run"], stdin=os.open(TOP, os.O_RDONLY)), b"", 6, b"trac: read fault\n")
 
-    def test_long_streams(self):
+    def test_long_streams(self) -> None:
         """16 MiB through pipes, each way."""
         for what, given in ("texts of a MiB", (b"x" * 1048575 + b"'") * 16), ("plain text", b"y" * 16000000):
             run, wanted = ran([NODE, FILE, "run"], given, 65536), ran([TRAC, "run"], given)
             self.status(what, run, wanted.status)
             self.holds(what + " are printed", run.output == wanted.output)
 
-    def test_input_without_end(self):
+    def test_input_without_end(self) -> None:
         """A run ends as soon as it can, and a text that grows without end passes the limit."""
         run = subprocess_run(["run"], stdin=os.open("/dev/zero", os.O_RDONLY))
         self.ends("a text without end", run, b"", 4, b"trac: limit passed\n")
 
-    def test_answer_before_the_end(self):
+    def test_answer_before_the_end(self) -> None:
         """What waits has written what it printed, and `hl` ends a run whose input may go on."""
         process = self.begun(["run"])
         for given, wanted in (b"#(ps,A)'", b"A"), (b"#(ps,#(ad,1,#(rs)))'", b""), (b"2'", b"3"), (b"#(hl)'x", b""):
@@ -280,7 +287,7 @@ class Streams(InNode):
         process.stdin.flush()
         self.holds("quit ends a walk", process.wait(patience()) == 0)
 
-    def test_nobody_reads(self):
+    def test_nobody_reads(self) -> None:
         process = self.begun(["run"])
         process.stdin.write(LOOP)
         process.stdin.close()
@@ -289,7 +296,7 @@ class Streams(InNode):
         self.holds("nobody reads: the status is 7", process.wait(patience()) == 7)
         self.same("nobody reads: standard error", process.stderr.read(), b"trac: write fault\n")
 
-    def test_full_disk(self):
+    def test_full_disk(self) -> None:
         if not os.path.exists("/dev/full"):
             self.skipTest("there is no /dev/full")
         fault = b"trac: write fault\n"
@@ -301,22 +308,23 @@ class Streams(InNode):
             self.same("a full disk: standard error", error, said)
             self.holds("a full disk: status", process.returncode == status)
 
-    def test_at_a_terminal(self):
+    def test_at_a_terminal(self) -> None:
         """A run says how a text ends, and answers each; a walk prompts."""
         begun = b"trac: reading from the terminal: ' and Enter end a text, Ctrl-D ends the input\r\n"
-        for words, typed, seen in (
-                (["run"], ((begun, b"#(ad,2,3)'\n"), (b"5", b"\x04")), begun + b"5"),
-                (["walk", EXAMPLES / "first.trac"], ((b"0> ", b"s\n"), (b"1> ", b"q\n")),
-                 b"h lists the commands, q ends\r\n0> 1  ")):
+        rows: list[tuple[list[Word], tuple[tuple[bytes, bytes], ...], bytes]] = [
+            (["run"], ((begun, b"#(ad,2,3)'\n"), (b"5", b"\x04")), begun + b"5"),
+            (["walk", EXAMPLES / "first.trac"], ((b"0> ", b"s\n"), (b"1> ", b"q\n")),
+             b"h lists the commands, q ends\r\n0> 1  ")]
+        for words, typed, seen in rows:
             status, text = self.typed(words, typed)
             self.holds("{} at a terminal: status {}, {}".format(words[0], status, text), status == 0 and seen in text)
 
-    def typed(self, words, typed):
+    def typed(self, words: Sequence[Word], typed: Iterable[tuple[bytes, bytes]]) -> tuple[int, bytes]:
         """The status, and what is seen at a pseudo-terminal without what is typed: each text is typed once that before
         it is seen."""
         pid, terminal = pty.fork()
         if pid == 0:
-            os.execv(NODE, [NODE, os.fspath(FILE), *map(os.fspath, words)])
+            os.execv(NODE, [NODE, os.fspath(FILE), *(os.fspath(word) for word in words)])
         settings = termios.tcgetattr(terminal)
         settings[3] &= ~termios.ECHO
         termios.tcsetattr(terminal, termios.TCSANOW, settings)
@@ -335,7 +343,7 @@ class Streams(InNode):
         os.close(terminal)
         return status, seen
 
-    def test_interrupted(self):
+    def test_interrupted(self) -> None:
         """Ctrl-C ends it at once, also while the module works."""
         process = self.begun(["run", "--budget", "1000000000000"])
         process.stdin.write(LOOP)
@@ -345,7 +353,7 @@ class Streams(InNode):
         self.holds("and ends by the signal", process.wait(patience()) == -signal.SIGINT)
 
 
-def taken(stream, count):
+def taken(stream: IO[bytes], count: int) -> bytes:
     """So many bytes of a stream, which must not be silent for long."""
     got = b""
     while len(got) < count:
@@ -358,7 +366,7 @@ def taken(stream, count):
     return got
 
 
-def subprocess_run(words, stdin):
+def subprocess_run(words: list[str], stdin: int) -> Ran:
     """The file itself, run with this standard input."""
     try:
         done = subprocess.run([NODE, FILE, *words], stdin=stdin, capture_output=True, timeout=patience())

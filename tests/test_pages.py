@@ -1,15 +1,20 @@
 """The pages that ./trac page makes: each program of tests/data/programs opens at the step that was asked for, or else
 where `trac walk` comes to an end, in the state that `trac debug` prints there. The page's own scripts say so, in Node
 (tests/support/pages.mjs), from version 18 on; without that, these tests are skipped. And command lines."""
+from __future__ import annotations
+
 import base64
 import json
 import os
+import pathlib
 import random
 import re
 import shutil
 import sys
+from collections.abc import Sequence
+from typing import Any
 
-from support.cases import DATA, EXAMPLES, TESTS, TOP, TRAC, WALK, Case, near, ran, scratch, stems
+from support.cases import DATA, EXAMPLES, TESTS, TOP, TRAC, WALK, Case, Word, near, ran, scratch, stems
 from support.paging import GIVEN, MAKER, PAGE, a_checkout, made, opened
 from support.strange import ASKING, ENDLESS, HOSTILE, HOSTILE_NAME, VARIOUS
 
@@ -22,7 +27,7 @@ NARROW = ["--decimals", "64"]
 GONE = ("--last", "--first", "--steps", "--to", "--program")
 
 
-def states_at(file, steps, words):
+def states_at(file: Word, steps: Sequence[int], words: list[str]) -> list[dict[str, Any]]:
     """The states that trac debug prints at rising steps: each without what its journal has, and without what was read
     and printed, which is beside that."""
     moves = [("s {}\n".format(to - at) if to > at else "") + "p\n" for at, to in zip([0, *steps], steps)]
@@ -32,12 +37,12 @@ def states_at(file, steps, words):
             for text, position, printed in found]
 
 
-def end_of(file, words):
+def end_of(file: Word, words: list[str]) -> int:
     """The step where trac walk comes to an end."""
     return int(re.findall(rb"^(?:here: )?([0-9]+)  ", ran([WALK, *words, file], b"s end\n").output, re.M)[-1])
 
 
-def printed(state):
+def printed(state: dict[str, Any]) -> str:
     """A state as a text."""
     return json.dumps(state, indent=1)
 
@@ -45,7 +50,7 @@ def printed(state):
 class Program:
     """A file; and a copy of it under a name that is ASCII, which `trac` takes on a command line."""
 
-    def __init__(self, file, room):
+    def __init__(self, file: str | pathlib.Path, room: pathlib.Path) -> None:
         self.file, self.copy = file, file
         if not os.fspath(file).isascii():
             self.copy = shutil.copy(file, room / "copy.trac")
@@ -59,7 +64,7 @@ class Pages(Case):
 
     seconds = 20
 
-    def test_programs(self):
+    def test_programs(self) -> None:
         """Each program, at its end and at some step."""
         room = scratch(self)
         programs = [Program(DATA / "programs" / (name + ".trac"), room) for name in stems(DATA / "programs")]
@@ -70,12 +75,12 @@ class Pages(Case):
             programs.append(Program(os.fsdecode(place), room))
         self.compare(programs, [])
 
-    def test_narrow(self):
+    def test_narrow(self) -> None:
         """Those that differ with numbers of 64 bits."""
-        names = stems(DATA / "programs", ".64")
-        self.compare([Program(DATA / "programs" / (name + ".trac"), None) for name in names], NARROW)
+        room, names = scratch(self), stems(DATA / "programs", ".64")
+        self.compare([Program(DATA / "programs" / (name + ".trac"), room) for name in names], NARROW)
 
-    def compare(self, programs, words):
+    def compare(self, programs: list[Program], words: list[str]) -> None:
         """Each page opens where it was asked to, with all bytes of its program. Its states there and at two other steps
         are those that there are."""
         chance, pages, rows = random.Random(79), [], []
@@ -96,21 +101,21 @@ class Pages(Case):
                 self.same("{} at step {}".format(name, step), printed(state), printed(there[step]))
             self.judge(name, page, program.bytes)
 
-    def judge(self, name, page, program):
+    def judge(self, name: str, page: bytes, program: bytes) -> None:
         """A page is trac.html, but for what was put there, which cannot be markup; and it is not too large."""
-        block = GIVEN.search(page)[1]
+        block = GIVEN.findall(page)[0]
         self.holds("{}: what is put there is no markup".format(name), not re.search(rb"[<>&]|[^ -~]", block))
         self.holds("{}: the rest is trac.html".format(name), page.replace(block, b"null", 1) == PAGE.read_bytes())
         self.holds("{}: {:,} bytes".format(name, len(page)), len(page) <= MOST_BYTES + len(program))
 
-    def test_options(self):
+    def test_options(self) -> None:
         """Input, a step past the end, and where a run stops by its budget or goes on to its step."""
         room = scratch(self)
         for name, text in (("asking", ASKING), ("answer", b"Ann'\n"), ("endless", ENDLESS)):
             (room / name).write_bytes(text)
         asking, endless = room / "asking", room / "endless"
-        rows = (["--input", room / "answer", asking], ["--step", "5000", asking], ["--budget", "1000", endless],
-                ["--step", "2000001", endless])
+        rows: tuple[list[Word], ...] = (["--input", room / "answer", asking], ["--step", "5000", asking],
+                                        ["--budget", "1000", endless], ["--step", "2000001", endless])
         said = opened(self, "states", [made(self, row) for row in rows])
         answered, past, spent, far = map(json.loads, said.splitlines())
         self.same("the answer is read", base64.b64decode(answered["states"][0]["printed"]), b"Who? Hello Ann!")
@@ -126,9 +131,10 @@ class Lines(Case):
 
     suite = "pages"
 
-    def test_words(self):
+    def test_words(self) -> None:
         """What is wrong with a command line is said, of an option that there was also what is so instead."""
         file, none = EXAMPLES / "wrong-factorial.trac", scratch(self) / "none"
+        rows: list[tuple[list[Word], int]]
         rows = [(["--step", "-1", file], 2), (["--step", "100000001", file], 2), (["--step", "x", file], 2),
                 (["--budget", "0", file], 2), (["--decimals", "32", file], 2), (["--input", none, file], 6),
                 ([none], 6), ([TESTS], 6), ([], 2)]
@@ -141,7 +147,7 @@ class Lines(Case):
                 what = "{} is no option any more: the page ".format(words[0]).encode()
                 self.holds("{}: {}".format(run.command, run.error), what in run.error)
 
-    def test_version(self):
+    def test_version(self) -> None:
         """The version of trac is shown, whatever else the line has; so it is by the other scripts in Python."""
         said = ran([TRAC, "--version"]).output
         for words in (["page", "none", "-V"], ["page", "--step", "5", "--version"],
@@ -149,26 +155,27 @@ class Lines(Case):
             run = ran([TOP / "trac", *words])
             self.ends(run.command, run, said)
 
-    def test_damaged(self):
+    def test_damaged(self) -> None:
         """No page is made of a trac.html that is not there, not whole, or has a program."""
         room, whole = scratch(self), PAGE.read_bytes()
         copy, file = a_checkout(room), EXAMPLES / "first.trac"
         place = room / "release" / "trac.html"
         missing, wrong = b"trac page: trac.html is missing: ", b" takes no program: it is not whole, or not of this "
+        damaged: bytes | int | None
         for what, damaged, said in (("that is missing", None, missing), ("that is a folder", 0, b"html is no file\n"),
                                     ("that is empty", b"", wrong), ("that is cut", whole[:-1], wrong),
                                     ("that has a program", made(self, [file]), wrong)):
             if place.is_dir():
                 place.rmdir()
-            if damaged == 0:
-                place.mkdir()
-            elif damaged is not None:
+            if isinstance(damaged, bytes):
                 place.write_bytes(damaged)
+            elif damaged is not None:
+                place.mkdir()
             run = ran([copy, "page", file])
             self.status("of a page " + what, run, 70)
             self.holds("of a page {}: {}".format(what, run.error), said in run.error and not run.output)
 
-    def test_same(self):
+    def test_same(self) -> None:
         """The same program makes the same page, from a pipe too."""
         file = EXAMPLES / "wrong-factorial.trac"
         page = made(self, [file])
@@ -177,7 +184,7 @@ class Lines(Case):
         renamed = piped.replace(b'"name":"stdin"', b'"name":"wrong-factorial.trac"')
         self.holds("a program from a pipe", renamed == page)
 
-    def test_limits(self):
+    def test_limits(self) -> None:
         """More than a program and its input may have together, and too little memory for them."""
         room = scratch(self)
         (room / "few").write_bytes(bytes(600_000))

@@ -18,12 +18,12 @@ COUNTS = re.compile(r"(?:([0-9]+) skipped, )?([0-9]+) passed, ([0-9]+) failed")
 SHOWN = 40
 
 
-def said_by(script):
+def said_by(script: str) -> tuple[list[str], int]:
     """The lines that a script says, and its status. What it has begun ends with this process."""
     done = subprocess.Popen([TESTS / script], stdin=subprocess.DEVNULL, stdout=subprocess.PIPE,
                             stderr=subprocess.STDOUT, start_new_session=True)
 
-    def end(*_):
+    def end(*_: object) -> None:
         os.killpg(done.pid, signal.SIGTERM)
         os._exit(1)
 
@@ -43,13 +43,13 @@ class Script(Case):
 
     suite = "scripts"
 
-    def __init__(self, method="runTest"):
+    def __init__(self, method: str = "runTest") -> None:
         super().__init__(method)
-        self.skips = []
+        self.skips: list[str] = []
         name = method.replace("test_", "", 1)
         self.seconds = next((seconds for script, seconds in SCRIPTS.items() if name_of(script) == name), 0)
 
-    def run_script(self, script):
+    def run_script(self, script: str) -> None:
         """Runs it, and takes its counts."""
         lines, status = said_by(script)
         counts = COUNTS.fullmatch(lines[-1])
@@ -66,7 +66,7 @@ class Script(Case):
             self.failed = failed
 
 
-def name_of(script):
+def name_of(script: str) -> str:
     """The name of a script: its own, or its folder's."""
     return script.replace("/run", "")
 
@@ -76,5 +76,5 @@ class Scripts(Script):
     """All of them."""
 
     @each(map(name_of, SCRIPTS))
-    def test(self, name):
+    def test(self, name: str) -> None:
         self.run_script(next(script for script in SCRIPTS if name_of(script) == name))

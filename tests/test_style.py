@@ -1,26 +1,31 @@
-"""How scripts are written: what shellcheck says of those in Bash, flake8 of those in Python, and tsc of the page's,
-where they are installed in the versions that are known here; that no line of a script has more than 120 columns, but
-for those of support/long-lines, which are still to be mended; and that four commands stand at the top, of which the
-launcher is short."""
+"""How scripts are written: what shellcheck says of those in Bash, flake8 and mypy of those in Python, and tsc of the
+page's, where they are installed in the versions that are known here; that no line of a script has more than 120
+columns, but for those of support/long-lines, which are still to be mended; and that four commands stand at the top, of
+which the launcher is short."""
 import os
+import pathlib
 import re
 import shutil
 import subprocess
+from collections.abc import Iterator
 
 from support.cases import TOP, Case, near, ran
 
 WIDTH, SOME = 120, 12
 # The tools, and the versions of them whose findings are mended: others find other things.
-KNOWN = {"shellcheck": r"version: 0\.9\.0$", "flake8": r"^5\.0\.", "tsc": r"^Version 4\.8\."}
+KNOWN = {"shellcheck": r"version: 0\.9\.0$", "flake8": r"^5\.0\.", "mypy": r"^mypy 1\.0\.",
+         "tsc": r"^Version 4\.8\."}
 # The folders whose files are not looked at: Rattle, what is made, and the pages, which have their own measures.
 ELSEWHERE = re.compile("^(?:crates|release|web|tests/web|tests/webpage)/")
+# The folders where functions do not say their types, and the modules that are looked at where others take them.
+UNTYPED = re.compile(r"^(?!python/|tests/|tools/)|^tests/(?:web/|support/.*\.py$)")
 # What is no script: texts, programs, what is wanted of them, and manual pages.
 TEXTS = re.compile(r"\.(?:md|png|trac|out|in|err|64|words|txt|json|1|edit|vim|input)$|/edits-tried$|/LICENSE$")
 # What shellcheck finds that is meant: files that are sourced, and set what others use; words that are to be split.
 MEANT = "SC1090,SC1091,SC2034,SC2064,SC2086,SC2128,SC2154,SC2164,SC2166,SC2178,SC2209,SC2217,SC2261"
 
 
-def listed():
+def listed() -> list[str]:
     """The files of the repository, as git lists them; none where it does not."""
     try:
         found = subprocess.run(["git", "ls-files", "-z"], cwd=TOP, stdout=subprocess.PIPE, stderr=subprocess.DEVNULL,
@@ -30,13 +35,18 @@ def listed():
     return [name for name in found.stdout.decode().split("\0") if name]
 
 
-def scripts():
-    """The scripts of the repository, with their first lines and their texts."""
-    files = [TOP / name for name in listed() if not ELSEWHERE.match(name) and not TEXTS.search(name)]
+def scripts(elsewhere: re.Pattern[str] = ELSEWHERE) -> Iterator[tuple[pathlib.Path, str, str]]:
+    """The scripts of the repository, but for those elsewhere, with their first lines and their texts."""
+    files = [TOP / name for name in listed() if not elsewhere.match(name) and not TEXTS.search(name)]
     for file in files:
         if file.is_file() and not file.is_symlink():
             text = file.read_text(encoding="utf-8", errors="replace")
             yield file, text.split("\n", 1)[0], text
+
+
+def is_python(file: pathlib.Path, first: str) -> bool:
+    """Whether a script with this first line is in Python."""
+    return file.suffix == ".py" or bool(re.match("#!.*python", first))
 
 
 class Style(Case):
@@ -45,11 +55,11 @@ class Style(Case):
     suite = "style"
     takes_programs = False
 
-    def setUp(self):
+    def setUp(self) -> None:
         if not listed():
             self.skipTest("git does not list the files")
 
-    def tool(self, name):
+    def tool(self, name: str) -> str:
         """A tool, if it is there in a version that is known."""
         if not shutil.which(name):
             self.skipTest("there is no " + name)
@@ -57,7 +67,7 @@ class Style(Case):
             self.skipTest("{} is of another version than {}".format(name, KNOWN[name]))
         return name
 
-    def finds_nothing(self, words, files):
+    def finds_nothing(self, words: list[str], files: list[pathlib.Path]) -> None:
         """A check that a tool finds nothing in files. It is given some at a time, and says nothing meanwhile."""
         for at in range(0, len(files), SOME):
             run = ran([*words, *map(near, files[at:at + SOME])])
@@ -65,29 +75,44 @@ class Style(Case):
             self.status(words[0], run, 0)
         self.holds("there are files to look at", len(files) > 10)
 
-    def test_shell(self):
+    def test_shell(self) -> None:
         tool = self.tool("shellcheck")
         files = [file for file, first, _ in scripts() if re.match("#!.*[ /]bash$", first)]
         self.finds_nothing([tool, "-S", "warning", "-f", "gcc", "-e", MEANT], files)
 
-    def test_python(self):
+    def test_python(self) -> None:
         tool = self.tool("flake8")
-        files = [file for file, first, _ in scripts() if file.suffix == ".py" or re.match("#!.*python", first)]
-        self.finds_nothing([tool], files)
+        self.finds_nothing([tool], [file for file, first, _ in scripts() if is_python(file, first)])
 
-    def test_top(self):
+    def test_python_types(self) -> None:
+        """The package, the tests and the tools by the types that they say themselves (pyproject.toml), and what of
+        Python they take: python/README.md says so of the package. The tests of the page are looked at apart, since of
+        some of their modules there are others of the same names."""
+        tool = self.tool("mypy")
+        names = [near(file) for file, first, _ in scripts(UNTYPED) if is_python(file, first)]
+        package, of_page = ([name for name in names if name.startswith(it)] for it in ("python/", "tests/webpage/"))
+        others = [name for name in names if name not in package + of_page]
+        for files, version, path in (
+                (package, "3.8", ""), (others, "3.9", ""), (of_page, "3.9", "tests/webpage:tests/support")):
+            words = [tool, "--no-error-summary", "--python-version", version]
+            run = ran([*words, *files], env={**os.environ, "MYPYPATH": path})
+            self.same(tool, run.output, b"", None, "found")
+            self.status(tool, run, 0)
+            self.holds("there are files to look at", len(files) > 5)
+
+    def test_top(self) -> None:
         there = sorted(it.name for it in TOP.iterdir() if it.is_file() and os.access(it, os.X_OK))
         self.same("the commands at the top", "\n".join(there), "build\ncheck\ninstall\ntrac")
         count = len((TOP / "trac").read_text(encoding="utf-8").splitlines())
         self.holds("trac has at most 60 lines, and not {}".format(count), count <= 60)
 
-    def test_types(self):
+    def test_types(self) -> None:
         """The modules of the page, by the types that they say themselves (web/tsconfig.json)."""
         run = ran([self.tool("tsc"), "--project", TOP / "web"])
         self.same("tsc", run.output, b"", None, "found")
         self.status("tsc", run, 0)
 
-    def test_lines(self):
+    def test_lines(self) -> None:
         later = set((TOP / "tests" / "support" / "long-lines").read_text(encoding="utf-8").split())
         gone = sorted(name for name in later if not (TOP / name).exists())
         self.holds("long-lines names files that are there, and not {}".format(gone), not gone)

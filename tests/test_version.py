@@ -12,12 +12,12 @@ class Version(Case):
 
     takes_programs = False
 
-    def test_all_files_have_it(self):
+    def test_all_files_have_it(self) -> None:
         run = ran([TOP / TOOL, "--check"])
         self.status("tools/set-version --check", run, 0)
         self.holds("no file has another one: " + run.output.decode(), run.output.endswith(b" passed, 0 failed\n"))
 
-    def test_another_version(self):
+    def test_another_version(self) -> None:
         room = scratch(self)
         shutil.copytree(TOP / "share", room / "share")
         for name in TOOL, "CHANGELOG.md", "crates/trac_words/src/help.rt":
@@ -34,7 +34,7 @@ class Version(Case):
         log = (room / "share" / "packaging" / "debian" / "changelog").read_text(encoding="utf-8")
         self.holds("the package has it", log.startswith("trac-t64 (9.8.7-1) ") and "  Wed, 02 Jan 2030 " in log)
 
-    def test_words_that_are_not_understood(self):
+    def test_words_that_are_not_understood(self) -> None:
         for words in ["x"], ["1.2"], ["1.2.3", "today"], ["1.2.3", "2030-01-02", "x"], ["--fast"]:
             run = ran([TOP / TOOL, *words])
             self.holds("{} is not understood".format(words), run.status in (1, 2) and not run.output)

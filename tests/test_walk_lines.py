@@ -40,11 +40,11 @@ class Lines(Walker):
 
     suite = "walk-lines"
 
-    def says(self, lines, replies, *options):
+    def says(self, lines: bytes, replies: bytes, *options: str) -> None:
         """These lines are replied to so."""
         self.ends("the lines {}".format(lines), self.walk(AB, lines, *options), replies)
 
-    def test_not_understood(self):
+    def test_not_understood(self) -> None:
         """Each of these lines is not understood, and changes nothing."""
         for reply, lines in REFUSED:
             for line in lines:
@@ -52,11 +52,11 @@ class Lines(Walker):
                 self.says(line, said)
                 self.says(line + b"\ns\n", said + b'1  "p" is taken as it is: ps,#(rs))\n')
 
-    def test_empty_lines(self):
+    def test_empty_lines(self) -> None:
         self.says(b"", b"")
         self.says(b"\n\r\n \t\n", START * 3)
 
-    def test_empty_line_after_y(self):
+    def test_empty_line_after_y(self) -> None:
         """It repeats `y` too: three of them go as far as to type it three times more."""
         again = b"y . 2 1\n"
         wanted = self.walk(FACTORIAL, b"s 1000\ny #\n" + again * 4)
@@ -64,14 +64,14 @@ class Lines(Walker):
         self.ends("an empty line after y", run, wanted.output)
         self.holds("and they come to the place in the program", b"reads it: line 1, column 26" in run.output)
 
-    def test_blanks(self):
+    def test_blanks(self) -> None:
         self.says(b"  s   2  \r\n\n", b'2  "s" is taken as it is: s,#(rs))\n4  "#(" begins a call: #(rs))\n')
 
-    def test_ends_by_word(self):
+    def test_ends_by_word(self) -> None:
         for word in b"q", b"quit", b"exit":
             self.says(word + b"\nx", b"")
 
-    def test_calls_that_are_not_met(self):
+    def test_calls_that_are_not_met(self) -> None:
         """Where no primitive has the name, how a form is met is said too."""
         for line in b"u AB", b"u #(cl,AB", b"u p", b"u psx", b'u ""', b"u AB cl":
             self.says(line, UNMET + HINT + START)
@@ -81,37 +81,37 @@ class Lines(Walker):
         self.says(b"s 19\nr AB", ENDED + UNMET_BACK + HINT + ENDED)
         self.says(b"s 19\nr cl AB", ENDED + UNMET_BACK + ENDED)
 
-    def test_without_a_doubt(self):
+    def test_without_a_doubt(self) -> None:
         """Then `d` and `D` stay."""
         self.says(b"d\nm\n", UNMET + START + ENDED)
         self.says(b"s 19\nD\n\n", ENDED + (UNMET_BACK + ENDED) * 2)
 
-    def test_input_that_does_not_end_the_text(self):
+    def test_input_that_does_not_end_the_text(self) -> None:
         """Of a line of input that does not end the text that rs reads that is said; not where FILE has a text yet
         that rs reads first."""
         self.says(b"s 19\ni xy\ni z'\n", ENDED + b"no ' in this line: rs reads on until one comes\n" + ENDED * 2)
         self.says(b"i xy\n", START)
         self.says(b"s 7\ni xy\n", b"7  #(rs)\n" * 2)
 
-    def test_bytes_that_are_not_there(self):
+    def test_bytes_that_are_not_there(self) -> None:
         """Byte 0, and a text that has no byte."""
         for line in b"w #0", b"y #0", b"y A 0", b"y . 0 0":
             self.says(b"s 19\n" + line + b"\n", ENDED + b"bytes are counted from 1\n" + ENDED)
         for line in b'w ""', b'y ""':
             self.says(b"s 19\n" + line + b"\n", ENDED + b"an empty text has no last byte\n" + ENDED)
 
-    def test_to_the_end_and_back(self):
+    def test_to_the_end_and_back(self) -> None:
         """To where the program waits and back to the start, and what there is to go back to."""
         self.says(b"s end\nb start\nm\nm\nm\n", WAITS + ENDED + START + ENDED + START + NO_EARLIER + START)
         self.says(b"b start\nm\n", START + NO_EARLIER + START)
 
-    def test_prompt(self):
+    def test_prompt(self) -> None:
         self.says(b"s\n", b'0> 1  "p" is taken as it is: ps,#(rs))\n1> ', "--prompt")
 
-    def test_most_memory_that_may_be_kept(self):
+    def test_most_memory_that_may_be_kept(self) -> None:
         self.says(b"s\n", b'1  "p" is taken as it is: ps,#(rs))\n', "--keep", "1048576")
 
-    def test_many_doubts_of_a_step(self):
+    def test_many_doubts_of_a_step(self) -> None:
         """Of 40 doubts 30 are said. Argument 2 begins in column 18, and each further one two columns after that
         before it."""
         run = self.walk(b"#(ds,F,ab)#(ss,F" + b",x" * 40 + b")'", b"d\n")
@@ -121,12 +121,12 @@ class Lines(Walker):
         self.same("standard error", run.error, b"")
         self.same("40 doubts of a step", run.output.split(b"\n", 1)[1], lined(wanted + [".. 10 more .."]))
 
-    def test_what_scanning_deletes(self):
+    def test_what_scanning_deletes(self) -> None:
         wanted = (b"8  a tab is deleted, before: A\\x0d\\x0aB)\n" b'9  "A" is taken as it is: A\\x0d\\x0aB)\n'
                   b"10  a line end is deleted, before: \\x0aB)\n" b"11  a line end is deleted, before: B)\n")
         self.ends("tabs and line ends", self.walk(b"\tA\r\nB'", b"s 8\ns\ns\ns\n"), wanted)
 
-    def test_commands(self):
+    def test_commands(self) -> None:
         """The commands, by each of their three words: they fit the screen, and all are there."""
         commands = self.walk(AB, b"h\n").output
         for word in b"h", b"help", b"?":
@@ -134,18 +134,18 @@ class Lines(Walker):
         lines = commands.decode().splitlines()
         self.holds("the commands take at most 24 lines", len(lines) <= 24)
         self.holds("and at most 80 columns", max(map(len, lines)) <= 80)
-        for word in COMMANDS:
-            there = re.search("(^|  )" + re.escape(word) + " ", commands.decode(), re.M)
-            self.holds(word + " is among the commands", there)
+        for name in COMMANDS:
+            there = re.search("(^|  )" + re.escape(name) + " ", commands.decode(), re.M)
+            self.holds(name + " is among the commands", there)
 
-    def test_long_lines(self):
+    def test_long_lines(self) -> None:
         """A line of any length is not understood, and the next one is."""
         for size in 4095, 4096, 4097, 8192, 1048576:
             run = self.walk(AB, b"x" * size + b"\nq\n", piece=65536)
             self.ends("a line of {} bytes".format(size), run, b"not understood; h lists the commands\n")
         self.status("any bytes", self.walk(AB, os.urandom(1000000)), 0)
 
-    def fits(self, what, program, steps):
+    def fits(self, what: str, program: bytes, steps: int) -> None:
         """After so many steps the state fits the screen."""
         run = self.walk(program, b"s %d\np\n" % steps, "--journal", "1000")
         lines = run.output.decode().splitlines()
@@ -154,13 +154,13 @@ class Lines(Walker):
         self.holds(what + ": at most 24 lines", len(lines) <= 24)
         self.holds(what + ": at most 80 columns", max(map(len, lines), default=0) <= 80)
 
-    def test_many_begun_functions(self):
+    def test_many_begun_functions(self) -> None:
         self.fits("64,000 begun functions", b"#(" * 64000 + b"'\n", 64005)
 
-    def test_large_form(self):
+    def test_large_form(self) -> None:
         self.fits("a form of 4 MB", b"#(ds,A," + b"[" * 4000000 + b")'#(ps,##(cl,A))'\n", 5000000)
 
-    def test_long_line_of_a_program(self):
+    def test_long_line_of_a_program(self) -> None:
         self.fits("a line of 1 MiB", b"#(ps," + b"," * 1048576 + b")'\n", 500000)
 
 
@@ -169,7 +169,7 @@ class Endings(Walker):
 
     suite = "walk-lines"
 
-    def test_no_file(self):
+    def test_no_file(self) -> None:
         run = ran([WALK, self.room / "none"])
         self.status("no FILE", run, 6)
         wanted = "trac-walk: {} cannot be read".format(self.room / "none")
@@ -178,28 +178,29 @@ class Endings(Walker):
         self.status("a FILE of an empty name", run, 6)
         self.holds("and which one", b"trac-walk: '' cannot be read" in run.error.splitlines())
 
-    def test_long_file(self):
+    def test_long_file(self) -> None:
         self.status("a long FILE", self.walk(bytes(33554433), b""), 4)
 
-    def test_closed_streams(self):
+    def test_closed_streams(self) -> None:
         file = self.file(AB)
         self.status("no standard input", ran([WALK, file], preexec_fn=lambda: os.close(0)), 6)
         self.status("no standard output", ran([WALK, file], b"s\n", 9, preexec_fn=lambda: os.close(1)), 7)
 
-    def test_no_file_named(self):
-        for words in [], ["--prompt"]:
+    def test_no_file_named(self) -> None:
+        lines: tuple[list[str], ...] = [], ["--prompt"]
+        for words in lines:
             run = ran([WALK, *words])
             self.status("no FILE named", run, 2)
             self.holds("and the usage", b"Usage: trac-walk [OPTIONS] <FILE>" in run.error.splitlines())
 
-    def test_memory_that_may_not_be_kept(self):
+    def test_memory_that_may_not_be_kept(self) -> None:
         for size in "0", "1048577":
             run = self.walk(AB, b"", "--keep", size)
             self.status("--keep " + size, run, 2)
             wanted = "invalid value '{0}' for '--keep <SIZE>': {0} is not in 1..=1048576".format(size)
             self.holds("and from where to where: {}".format(run.error), wanted in run.error.decode())
 
-    def test_file_whose_name_begins_with_a_sign(self):
+    def test_file_whose_name_begins_with_a_sign(self) -> None:
         run = ran([WALK, "-file"])
         lines = run.error.decode().splitlines()
         self.status("a FILE whose name begins with -", run, 2)

@@ -6,11 +6,15 @@ twice: with the lines as a file, and byte by byte through a pipe. Five of the pr
 lines find it: these are at most five. NAME.found.in finds it by `y`, in at most three lines beside those that feed
 and run the program, and its output names the bug. Five more programs have one that is found in as many lines. Then
 the walks that README and docs/walking.md show, and the launcher at a pseudo-terminal, ended by Ctrl-C too."""
-import re
+from __future__ import annotations
 
-from support.cases import (DATA, EXAMPLES, TESTS, TOP, TRAC, WALK, Case, Place, each, lined, near, ran, scratch,
+import pathlib
+import re
+from collections.abc import Iterator
+
+from support.cases import (DATA, EXAMPLES, TESTS, TOP, TRAC, WALK, Case, Place, Ran, each, lined, near, ran, scratch,
                            stems, tests, words_in)
-from support.pages import walks_of
+from support.pages import Walk, walks_of
 
 HERE = DATA / "walks"
 FACTORIAL, DAYS = EXAMPLES / "wrong-factorial.trac", EXAMPLES / "long-way-back.trac"
@@ -98,20 +102,20 @@ class Walker(Case):
 
     suite = "walks"
 
-    def setUp(self):
+    def setUp(self) -> None:
         self.room = scratch(self)
 
-    def file(self, text):
+    def file(self, text: bytes) -> pathlib.Path:
         """A file that holds a program."""
         file = self.room / "program"
         file.write_bytes(text)
         return file
 
-    def walk(self, program, lines, *options, piece=None):
+    def walk(self, program: bytes | pathlib.Path, lines: bytes, *options: str, piece: int | None = None) -> Ran:
         """A walk through a program, or its file: these lines are typed."""
         return ran([WALK, *options, self.file(program) if isinstance(program, bytes) else program], lines, piece)
 
-    def finds(self, what, run, pattern, wanted):
+    def finds(self, what: str, run: Ran, pattern: bytes, wanted: bytes) -> None:
         """Checks of a walk that ends well: what is found in its lines is this; the first groups are kept."""
         self.status(what, run, 0)
         self.same(what + ": standard error", run.error, b"")
@@ -123,7 +127,7 @@ class Walks(Walker):
     """The stored walks."""
 
     @each(stems(HERE))
-    def test(self, name):
+    def test(self, name: str) -> None:
         file = HERE / (name + ".trac")
         lines, wanted, options = (file.with_suffix(it) for it in (".in", ".out", ".options"))
         for piece in None, 1:
@@ -131,7 +135,7 @@ class Walks(Walker):
             self.ends(name + (", in pieces" if piece else ""), run, wanted.read_bytes(), place=Place(near(wanted)))
 
     @each(BUGS)
-    def test_bug_by_y(self, name):
+    def test_bug_by_y(self, name: str) -> None:
         file = HERE / (name + ".trac")
         lines, wanted = (HERE / (name + it) for it in (".found.in", ".found.out"))
         self.holds(name + ": at most five lines", file.with_suffix(".in").read_bytes().count(b"\n") <= 5)
@@ -142,13 +146,13 @@ class Walks(Walker):
         self.holds("{}: y shows the bug, {}".format(name, BUGS[name]), BUGS[name] in run.output)
 
     @each(FOUND)
-    def test_bug_of(self, name):
+    def test_bug_of(self, name: str) -> None:
         file = HERE / (name + ".trac")
         self.holds(name + ": at most five lines", file.with_suffix(".in").read_bytes().count(b"\n") <= 5)
         said = file.with_suffix(".out").read_bytes()
         self.holds("{}: the bug is shown, {}".format(name, FOUND[name]), FOUND[name] in said)
 
-    def test_where_the_input_may_go_on(self):
+    def test_where_the_input_may_go_on(self) -> None:
         """The program of README waits there; where the input has ended it takes 11 steps more, as in the debugger for
         scripts."""
         run = self.walk(FACTORIAL, b"s end\ne\ns end\n")
@@ -157,7 +161,7 @@ class Walks(Walker):
         self.ends("and so it does for trac debug", run, b"forward 287 Ended\n")
 
 
-def pages_with_walks():
+def pages_with_walks() -> Iterator[tuple[str, tuple[str, int, Walk]]]:
     """The pages whose walks are tried, and each of these."""
     for page in "README.md", "docs/walking.md":
         for number, walk in enumerate(walks_of(page, "./trac walk "), 1):
@@ -173,12 +177,12 @@ class Pages(Walker):
     `>` are typed."""
 
     @each(PAGES)
-    def test(self, name):
+    def test(self, name: str) -> None:
         page, number, walk = PAGES[name]
         run = ran([WALK, *walk.words], lined(walk.typed))
         self.ends("walk {} of {}".format(number, page), run, lined(walk.replies), place=Place(page, walk.places))
 
-    def test_of_pages(self):
+    def test_of_pages(self) -> None:
         """Both pages have walks. The session of docs/debugger.md and the third walk of docs/walking.md go through the
         same program. The walk takes at most half as many lines."""
         for page in "README.md", "docs/walking.md":
@@ -193,7 +197,7 @@ class Pages(Walker):
 class Kept(Walker):
     """What is kept of long runs, and what is forgotten."""
 
-    def test_form_that_keeps_its_text_as_one(self):
+    def test_form_that_keeps_its_text_as_one(self) -> None:
         """It is cut and pointed, and is as before again on the way back."""
         long = b"abcdefghij" * 3
         run = self.walk(b"#(ds,A,%s)#(ss,A,j)#(ds,B,%s)#(cc,B)'" % (long, long), lined(
@@ -202,7 +206,7 @@ class Kept(Walker):
         forms = [b"[^]" + long, cut, b"[^]" + long, b"[^]" + long, b"a[^]" + long[1:], b"[^]" + long]
         self.finds("a long text, there and back", run, rb"^form *(.*)$", b"".join(it + b"\n" for it in forms))
 
-    def test_program_that_prints_more_than_is_kept(self):
+    def test_program_that_prints_more_than_is_kept(self) -> None:
         """Six calls of ps, at step 37 and each 22nd after it, print 4,000,001 bytes each, and only four of these fit
         beside one another. So before the fifth, at step 125, the older half of the steps is forgotten, with what the
         first two calls have printed. A search that meets nothing forgets none of them."""
@@ -211,13 +215,13 @@ class Kept(Walker):
                         lined(["u cl AB", "s 1000", "w #8000002", "y #12000003", "s 1000", "w #8000003"]))
         self.ends("a program that prints more than is kept", run, MUCH)
 
-    def test_printed_byte_that_is_forgotten(self):
+    def test_printed_byte_that_is_forgotten(self) -> None:
         """That is said of the last byte too."""
         run = self.walk(FACTORIAL, b"s 1000\ny #1\ny #\n", "--journal", "10")
         self.holds("y # of what is forgotten",
                    run.output.count(b"printed before the first step that is kept, step ") == 2)
 
-    def test_journal_that_weighs_too_much(self):
+    def test_journal_that_weighs_too_much(self) -> None:
         """Steps are forgotten where their records take more memory than is wanted: a MiB here, and 12 bytes for each
         that they weigh, so 87,381. `ds` by step 15 weighs 50,005, which are its arguments with a comma each, and by
         step 38 as much: so before step 39 is taken the older half of 39 steps is forgotten, but not by a search that
@@ -227,7 +231,7 @@ class Kept(Walker):
                         lined(["s 39", "u cl AB", "b 40", "s 39", "s", "s end", "b start"]), "--keep", "1")
         self.ends("a journal that weighs too much", run, HEAVY)
 
-    def test_search_that_meets_nothing(self):
+    def test_search_that_meets_nothing(self) -> None:
         """It leaves the state as it was, also if it goes half a million steps further than is kept."""
         wanted = self.walk(DAYS, b"s 500000\np all\n").output.split(b"\n", 2)[2]
         run = self.walk(DAYS, b"s 500000\nu cl AB\np all\n")
@@ -235,7 +239,7 @@ class Kept(Walker):
                    b"\nm goes to step 1024773, where the search ended\n" in run.output)
         self.same("and the state is as before", run.output.split(b"\n", 5)[5], wanted)
 
-    def test_search_whose_steps_are_spent(self):
+    def test_search_whose_steps_are_spent(self) -> None:
         """The state is as before, though more steps were taken than are kept; then an empty line goes on from there.
         Each call here takes 6 steps, for `#(`, three bytes, a comma and `)`, and its value is the same call: so
         10,000,000 steps, which are 4 more than a multiple of 6, lead from its `l` to a `#(`, and as many more to an
@@ -248,7 +252,7 @@ class Kept(Walker):
         self.same("and the state is as before", run.output.split(b"\n", 5)[5], wanted)
 
     @each(GROWING)
-    def test_growing(self, name):
+    def test_growing(self, name: str) -> None:
         """With 1,000,000 KiB of memory a walk over what grows without end ends well, and keeps a way back, or says
         that there is no memory."""
         bounded = ["bash", "-c", 'ulimit -v 1000000; exec "$@"', "-"]
@@ -259,7 +263,7 @@ class Kept(Walker):
         moves = re.findall(rb"^(?:[0-9]+  .*|there is no memory for this)$", run.output, re.M)
         self.holds("and each move is made, or memory is refused: {}".format(len(moves)), len(moves) >= 2)
 
-    def test_searches_that_are_spent(self):
+    def test_searches_that_are_spent(self) -> None:
         """`u` goes on by an empty line, and `n` and `o` would be about another call then."""
         endless = EXAMPLES / "endless.trac"
         for lines, count, wanted in (
@@ -270,7 +274,7 @@ class Kept(Walker):
             found = re.findall(rb"^.*after 10000000 steps.*$", self.walk(endless, lines).output, re.M)
             self.same("the lines {}".format(lines), b"\n".join(found), b"\n".join([wanted] * count))
 
-    def test_search_that_is_spent_stays(self):
+    def test_search_that_is_spent_stays(self) -> None:
         """So it does where as many steps are kept as can be; an empty line goes on from where it ended, and meets
         what comes later."""
         run = self.walk(EXAMPLES / "endless.trac", b"g 45\nu none\n\nm\n", "--journal", "1048576")
@@ -281,13 +285,13 @@ class Kept(Walker):
                          re.M)
         self.holds("and is met by an empty line, also after input: {}".format(met), len(met) == 4)
 
-    def test_as_many_steps_as_can_be_kept(self):
+    def test_as_many_steps_as_can_be_kept(self) -> None:
         """Then no option is named that keeps more."""
         run = self.walk(EXAMPLES / "endless.trac", b"s 1048577\n", "--journal", "1048576")
         self.same("the first line", run.output.split(b"\n")[0], b"steps before 524288 are forgotten")
         self.same("standard error", run.error, b"")
 
-    def test_name_that_is_older_than_what_is_kept(self):
+    def test_name_that_is_older_than_what_is_kept(self) -> None:
         """A doubt about it says at which step it was there."""
         run = self.walk(b"#(ds,F,(#(pr)))'#(ps,%60s)'#(cl,F)'" % b"", b"d\np\n", "--journal", "30")
         first = re.search(rb"^step .*, back to ([0-9]*);", run.output, re.M)
@@ -301,7 +305,7 @@ class Terminal(Walker):
     """At a terminal the launcher prompts, and replies to what is typed there as to lines of a file."""
 
     @each(("hanoi", "sort", "squares", "adventure", "endless", "moves"))
-    def test_at_a_terminal(self, name):
+    def test_at_a_terminal(self, name: str) -> None:
         """A tab is a key of the line editor."""
         file = HERE / (name + ".trac")
         lines, wanted = (file.with_suffix(it) for it in (".in", ".out"))
@@ -310,7 +314,7 @@ class Terminal(Walker):
         self.ends(name + ", at a terminal", run, wanted.read_bytes(), place=Place(near(wanted)))
 
     @each(("at-the-prompt", "during-a-long-move"))
-    def test_interrupted(self, when):
+    def test_interrupted(self, when: str) -> None:
         """Ctrl-C ends all that the launcher has begun."""
         line = ["--line", "s 999999999999"] if when == "during-a-long-move" else []
         run = ran([TESTS / "support" / "interrupted", *line, TOP / "trac", "walk", EXAMPLES / "endless.trac"])

@@ -6,7 +6,10 @@ way is of a call that prints. A way of one line, of a byte that the call which p
 program that turns the trace on. Of 400 random programs the replies must be those of the model, byte for byte. Then one
 byte through a block, one through a form with a long name, one over a way of as many lines as are shown, and two over
 longer ones."""
+from __future__ import annotations
+
 import re
+from collections.abc import Iterator
 
 from model import ways
 from model.machine import GAP
@@ -28,19 +31,19 @@ WAY = re.compile(r"((?:^\d+  .*  (?:prints|sets|gives|makes|reads) it.*\n|^\.\. 
 COUNT, SEED, PARTS, STEPS = 400, 1, 4, 3000
 
 
-def shows(byte, shown):
+def shows(byte: bytes, shown: str) -> bool:
     """Whether a shown text begins with a byte, or ends where the line feed is that the byte is."""
     sign = byte.decode("latin-1") if b" " <= byte <= b"~" and byte not in b"\\[]" else "\\x{:02x}".format(byte[0])
     return shown.startswith(sign) or byte == b"\n" and not shown
 
 
-def byte_at(file, place):
+def byte_at(file: bytes, place: re.Match[str]) -> bytes:
     """The byte of FILE at the line and column that a line tells."""
     row = (file.split(b"\n")[int(place[1]) - 1] + b"\n")[int(place[2]) - 1:]
     return row[:1]
 
 
-def wrong(file, printed, number, reply):
+def wrong(file: bytes, printed: bytes, number: int, reply: str) -> str:
     """What is wrong with a reply to where the byte of this number comes from; nothing where none is."""
     byte = printed[number - 1:number]
     lines = reply.split("\n")
@@ -66,7 +69,7 @@ def wrong(file, printed, number, reply):
     return "" if lines[0].endswith("  prints it") else "it is not printed"
 
 
-def fault(file, byte, lines):
+def fault(file: bytes, byte: int, lines: list[str]) -> str:
     """What is not true of the lines of a way; nothing where all is."""
     for line in lines[:-1]:
         read, deed = READ.match(line), DEED.match(line)
@@ -83,7 +86,7 @@ def fault(file, byte, lines):
     return ""
 
 
-def accepted():
+def accepted() -> Iterator[tuple[bytes, ways.Follower, list[tuple[str, int]]]]:
     """The random programs that take few enough steps, each with the model after its last step, and the questions."""
     programs = Programs(SEED)
     while True:
@@ -100,7 +103,7 @@ class EachByte(Walker):
     suite = "ways"
 
     @each(stems(DATA / "programs"))
-    def test(self, name):
+    def test(self, name: str) -> None:
         program = DATA / "programs" / (name + ".trac")
         file, printed = program.read_bytes(), program.with_suffix(".out").read_bytes()
         lines = ["s 1000000", "e", "s 1000000"]
@@ -123,7 +126,7 @@ class Random(Walker):
     seconds = 10
 
     @each("{}-to-{}".format(1 + COUNT // PARTS * part, COUNT // PARTS * (part + 1)) for part in range(PARTS))
-    def test_random(self, numbers):
+    def test_random(self, numbers: str) -> None:
         first, last = map(int, numbers.split("-to-"))
         for number, (file, model, asked) in enumerate(accepted(), 1):
             if number > last:
@@ -131,7 +134,7 @@ class Random(Walker):
             if number >= first:
                 self.judge(number, file, model, asked)
 
-    def judge(self, number, file, model, asked):
+    def judge(self, number: int, file: bytes, model: ways.Follower, asked: list[tuple[str, int]]) -> None:
         """A program: the replies to what is asked are true, and those of the model."""
         lines = "".join("g {}\ny {}\n".format(model.steps, what) for what, _ in asked)
         replies = self.replies(self.walk(file, lines.encode()).output.decode("latin-1"), model.steps)
@@ -146,9 +149,10 @@ class Random(Walker):
                 self.bad("{}y {}: {}".format(what, question, why))
 
     @staticmethod
-    def replies(text, steps):
+    def replies(text: str, steps: int) -> list[list[str]]:
         """The lines of each reply up to the one that says where it came to."""
-        replies, reply = [], None
+        replies: list[list[str]] = []
+        reply: list[str] | None = None
         for line in text.split("\n"):
             if line.startswith("{}  ".format(steps)) and reply is None:
                 reply = []
@@ -164,53 +168,53 @@ class Ways(Walker):
 
     suite = "ways"
 
-    def goes(self, what, program, lines, pattern, wanted):
+    def goes(self, what: str, program: bytes, lines: bytes, pattern: str, wanted: list[str]) -> None:
         """Of the replies the lines that have the pattern are these."""
         run = self.walk(program, lines)
         self.status(what, run, 0)
         self.same(what + ": standard error", run.error, b"")
-        lines = [line for line in run.output.decode().split("\n") if re.search(pattern, line)]
-        found = [re.sub(r" +", " ", re.sub(r"^[0-9]*  ", "", line)) for line in lines]
+        those = [line for line in run.output.decode().split("\n") if re.search(pattern, line)]
+        found = [re.sub(r" +", " ", re.sub(r"^[0-9]*  ", "", line)) for line in those]
         self.same(what, lined(found), lined(wanted))
 
-    def test_through_a_block(self):
+    def test_through_a_block(self) -> None:
         """A byte of a form that went into a block and came back."""
         program = b"#(ds,A,ab)'\n#(sb,b,A)'\n#(fb,b)'\n#(ps,##(cl,A))'\n"
         self.goes("y through a block", program, b's 1000\ny "b"\n', " it",
                   ["#(ps,ab) prints it", "##(cl,A) gives it", "#(fb,b) sets it", "#(sb,b,A) sets it",
                    "#(ds,A,ab) sets it", "#(rs) reads it: line 1, column 9"])
 
-    def test_through_a_form_with_a_long_name(self):
+    def test_through_a_form_with_a_long_name(self) -> None:
         """It is read after `#(ds,`, the name and a comma."""
         name = b"n" * 300
         program = b"#(ds,%s,x)'\n#(ps,##(cl,%s))'\n" % (name, name)
         self.goes("y through a form with a long name", program, b"s 10000\ny #\n", " reads it",
                   ["#(rs) reads it: line 1, column 307"])
 
-    def handed(self, what, last, printed, wanted):
+    def handed(self, what: str, last: int, printed: str, wanted: list[str]) -> None:
         """Over a byte that forms hand on, each to the next, up to this one, and that is printed from there so."""
         forms = ["#(ds,f0,x)'"] + ["#(ds,f{},##(cl,f{}))'".format(k, k - 1) for k in range(1, last + 1)]
         program = lined(forms + ["#(ps,{})'".format(printed)])
         self.goes("y over " + what, program, b"s 10000\ny #\n", r" it| more \.\.", wanted)
 
     @staticmethod
-    def handing(first, last):
+    def handing(first: int, last: int) -> list[str]:
         """The lines of the calls that hand it on from these forms, the latest first."""
         lines = "##(cl,f{}) gives it", "#(ds,f{},x) sets it"
         return [line.format(k) for k in range(first, last - 1, -1) for line in lines]
 
-    def test_as_many_lines_as_are_shown(self):
+    def test_as_many_lines_as_are_shown(self) -> None:
         """By 14 forms: 29 calls carried it, and one read it."""
         self.handed("a way of 30 lines", 13, "##(cl,f13)",
                     ["#(ps,x) prints it", *self.handing(13, 0), "#(rs) reads it: line 1, column 9"])
 
-    def test_a_line_too_many(self):
+    def test_a_line_too_many(self) -> None:
         """And by `eq`. The latest 28 calls are shown, how many are left out, and the one that read it."""
         self.handed("a way of 31 lines", 13, "#(eq,1,1,##(cl,f13))",
                     ["#(ps,x) prints it", "#(eq,1,1,x) gives it", *self.handing(13, 1), ".. 2 more ..",
                      "#(rs) reads it: line 1, column 9"])
 
-    def test_a_long_way(self):
+    def test_a_long_way(self) -> None:
         """By 21 forms: 43 calls carried it."""
         self.handed("a long way", 20, "##(cl,f20)",
                     ["#(ps,x) prints it", *self.handing(20, 8), "##(cl,f7) gives it", ".. 15 more ..",

@@ -9,7 +9,7 @@ if sys.argv[1] == "taken":
     signal.signal(signal.SIGINT, signal.SIG_DFL)
 
 
-def give_up(words, status):
+def give_up(words: str, status: int) -> None:
     """Ends a command that cannot begin."""
     try:
         os.write(2, "trac {}: {}\n".format(sys.argv[5], words).encode("ascii", "backslashreplace"))

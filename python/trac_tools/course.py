@@ -8,6 +8,8 @@
 The lessons and exercises are the files of programs/course/, whose README.md says how they are kept; installed, of
 share/trac/course/.
 """
+from __future__ import annotations
+
 import argparse
 import os
 import re
@@ -16,10 +18,15 @@ import shutil
 import subprocess
 import textwrap
 import time
+from collections.abc import Iterator
 
 from trac_tools.dialogue import bound, passed_on
-from trac_tools.tool import (Fault, Place, ShowVersion, Words, begin, found, legible, printable, program, read_file,
-                             shown, write)
+from trac_tools.tool import (Fault, Place, Process, ShowVersion, Words, begin, found, legible, printable, program,
+                             read_file, shown, write)
+
+TYPE_CHECKING = False
+if TYPE_CHECKING:
+    from typing import Any
 
 # What a checked program may take: steps, bytes that it prints, bytes of memory, and seconds.
 STEPS = 10_000_000
@@ -49,14 +56,14 @@ check N.K FILE    run FILE on each given input, and say what differs
 """
 
 
-def own_name():
+def own_name() -> str:
     """This command as it was called."""
     called = os.path.basename(Place.called)
     on_path = is_on_path(called)
     return (called if on_path else shown(Place.called)) + (" course" if called != "trac-course" else "")
 
 
-def say(text=""):
+def say(text: str = "") -> None:
     """Prints a line."""
     write(text + "\n")
 
@@ -64,36 +71,36 @@ def say(text=""):
 class Course:
     """The lessons in a folder."""
 
-    def __init__(self):
+    def __init__(self) -> None:
         self.folder = os.path.normpath(found("the course", "programs/course", "share/trac/course"))
         self.lessons = sorted(int(name) for name in os.listdir(self.folder) if re.fullmatch("[0-9]{2}", name))
 
-    def file(self, *parts):
+    def file(self, *parts: str) -> str:
         """The path of a file."""
         return os.path.join(self.folder, *parts)
 
-    def text(self, *parts):
+    def text(self, *parts: str) -> str:
         """The text of a file."""
         with open(self.file(*parts), encoding="utf-8") as file:
             return file.read()
 
-    def title(self, *parts):
+    def title(self, *parts: str) -> str:
         """The title of a lesson or an exercise."""
         with open(self.file(*parts), encoding="utf-8") as file:
             return file.readline().lstrip("# ").rstrip()
 
-    def lesson(self, word):
+    def lesson(self, word: str) -> str:
         """The folder of a lesson."""
         if not re.fullmatch("[0-9]{1,3}", word) or int(word) not in self.lessons:
             raise Fault("there is no lesson {}: they are 1 to {}".format(shown(word), self.lessons[-1]), 2)
         return "{:02}".format(int(word))
 
-    def exercises(self, lesson):
+    def exercises(self, lesson: str) -> list[str]:
         """The folders of a lesson's exercises."""
         names = (name for name in os.listdir(self.file(lesson)) if name.isdigit())
         return [os.path.join(lesson, name) for name in sorted(names, key=int)]
 
-    def exercise(self, word):
+    def exercise(self, word: str) -> str:
         """The folder of an exercise."""
         parts = re.fullmatch(r"([0-9]{1,3})\.([0-9]{1,3})", word)
         if not parts:
@@ -105,9 +112,9 @@ class Course:
             raise Fault("there is no exercise {}: lesson {} has {}".format(word, int(lesson), there), 2)
         return folder
 
-    def runs(self, exercise):
+    def runs(self, exercise: str) -> list[tuple[bytes, bytes]]:
         """For each given input: what stands after the program, and what must be printed."""
-        found = []
+        found: list[tuple[bytes, bytes]] = []
         while os.path.exists(self.file(exercise, "{}.out".format(len(found) + 1))):
             name = self.file(exercise, str(len(found) + 1))
             with open(name + ".out", "rb") as file:
@@ -119,7 +126,7 @@ class Course:
             found.append((given, wanted))
         return found
 
-    def next_of(self, exercise):
+    def next_of(self, exercise: str) -> str | None:
         """The exercise after this one, or the next lesson, if there is one."""
         lesson = exercise[:2]
         later = self.exercises(lesson)
@@ -128,13 +135,13 @@ class Course:
         return number_of(later[0]) if later else str(after[0]) if after else None
 
 
-def is_on_path(name):
+def is_on_path(name: str) -> bool:
     """Whether a command of this name is the launcher."""
     found = shutil.which(name)
     return found is not None and os.path.realpath(found) == Place.launcher
 
 
-def here():
+def here() -> str:
     """The folder that the command was given in; empty if that is gone."""
     try:
         return os.getcwd()
@@ -142,7 +149,7 @@ def here():
         return ""
 
 
-def number_of(exercise):
+def number_of(exercise: str) -> str:
     """An exercise as a user names it."""
     lesson, number = os.path.split(exercise)
     return "{}.{}".format(int(lesson), number)
@@ -151,16 +158,16 @@ def number_of(exercise):
 class Page:
     """Lays a text in Markdown out for the terminal."""
 
-    def __init__(self, course):
+    def __init__(self, course: Course) -> None:
         self.course = course
         self.is_terminal = os.isatty(1)
         self.width = min(shutil.get_terminal_size((80, 24)).columns, WIDTH)
 
-    def bold(self, text):
+    def bold(self, text: str) -> str:
         """A text in bold, if that can be shown."""
         return "\x1b[1m{}\x1b[0m".format(text) if self.is_terminal else text
 
-    def command(self, line):
+    def command(self, line: str) -> str:
         """A line of a block, with its files and programs as they are found from here."""
         if os.path.join(here(), "programs", "course") == self.course.folder and os.path.exists("trac"):
             return line
@@ -168,27 +175,28 @@ class Page:
         line = re.sub(r"(?<![^\s`])\./trac\b", lambda _: "trac" if on_path else legible(Place.launcher), line)
         return re.sub(r"(?<![\w/.])programs/(course|library)/", lambda it: self.folder(it[1]) + "/", line)
 
-    def folder(self, name):
+    def folder(self, name: str) -> str:
         """A folder that stands where the course does, by its shorter path."""
         path = os.path.join(os.path.dirname(self.course.folder), name)
         return legible(min(os.path.relpath(path), path, key=len) if here() else path)
 
-    def inline(self, text):
+    def inline(self, text: str) -> str:
         """A text without its marks, and with no place to break within a piece of code."""
-        def plain(match):
+        def plain(match: re.Match[str]) -> str:
             code, strong, slanted, link = match.groups()
             return self.command(code).replace(" ", "\0") if code else self.bold(strong) if strong else slanted or link
 
         return MARKUP.sub(plain, text)
 
-    def wrapped(self, text, first="", rest=""):
+    def wrapped(self, text: str, first: str = "", rest: str = "") -> str:
         """A paragraph in lines."""
         return textwrap.fill(self.inline(text), self.width, initial_indent=first, subsequent_indent=rest,
                              break_long_words=False, break_on_hyphens=False).replace("\0", " ")
 
-    def parts(self, text):
+    def parts(self, text: str) -> Iterator[list[str]]:
         """The parts of a text, each of its lines: a block with its fence, an item or a paragraph."""
-        lines, fenced = [], False
+        lines: list[str] = []
+        fenced = False
         for line in text.split("\n"):
             if not fenced and (not line or ITEM.match(line) or line.startswith("```")) and lines:
                 yield lines
@@ -203,7 +211,7 @@ class Page:
         if lines:
             yield lines
 
-    def show(self, text):
+    def show(self, text: str) -> None:
         """Prints a text."""
         was_item = False
         for lines in self.parts(text):
@@ -211,8 +219,9 @@ class Page:
             if not (was_item and item):
                 say()
             was_item = bool(item)
-            if FENCE.match(lines[0]):
-                is_console = FENCE.match(lines[0])[1] == "console"
+            fence = FENCE.match(lines[0])
+            if fence:
+                is_console = fence[1] == "console"
                 for line in lines[1:-1]:
                     say("    " + (self.command(line) if is_console else line))
             elif lines[0].startswith("#"):
@@ -223,14 +232,14 @@ class Page:
                 say(self.wrapped(whole, mark, " " * len(mark)))
 
 
-def line_of(line):
+def line_of(line: str) -> str:
     """A line of a check: signs in place of what shows nothing, and no longer than a line may be."""
     line = "".join(sign if sign.isprintable() else sign.encode("unicode_escape").decode()
                    for sign in line[:LONGEST + 1])
     return "    " + (line if len(line) <= LONGEST else line[:LONGEST - 2] + "..")
 
 
-def indented(data):
+def indented(data: bytes) -> str:
     """Bytes as lines of a check, no more than so many."""
     text = data.decode("utf-8", "backslashreplace").rstrip("\n")
     lines = text.split("\n")
@@ -238,7 +247,7 @@ def indented(data):
     return "\n".join([line_of(line) for line in lines[:LINES]] + more) if text else "    (nothing)"
 
 
-def show_list(course):
+def show_list(course: Course) -> None:
     """Prints what there is."""
     for lesson in map("{:02}".format, course.lessons):
         say(course.title(lesson, "lesson.md"))
@@ -247,7 +256,7 @@ def show_list(course):
     say("\n{0} 1 shows the first lesson, {0} 1.1 its first exercise".format(own_name()))
 
 
-def show_lesson(course, lesson):
+def show_lesson(course: Course, lesson: str) -> None:
     """Prints a lesson, and its exercises."""
     Page(course).show(course.text(lesson, "lesson.md"))
     say()
@@ -257,7 +266,7 @@ def show_lesson(course, lesson):
     say("{} {} shows the first of them".format(own_name(), number_of(exercises[0])))
 
 
-def show_exercise(course, exercise):
+def show_exercise(course: Course, exercise: str) -> None:
     """Prints an exercise, and its inputs."""
     number = number_of(exercise)
     Page(course).show(course.text(exercise, "exercise.md"))
@@ -270,14 +279,14 @@ def show_exercise(course, exercise):
     say("\n{0} check {1} FILE checks your program, {0} hint {1} gives a hint".format(own_name(), number))
 
 
-def show_run(given, wanted):
+def show_run(given: bytes, wanted: bytes) -> None:
     """Prints an input, if there is one, and what must be printed."""
     if given:
         say("  the input after the program\n" + indented(given))
     say("  must be printed\n" + indented(wanted))
 
 
-def exchange(process, tape, most, seconds):
+def exchange(process: Process, tape: bytes, most: int, seconds: float) -> tuple[bytes, bool]:
     """Gives a process its input, and takes what it prints, so many bytes at most and for so long; returns that, and
     whether it has ended by itself."""
     to, out = process.stdin.fileno(), process.stdout.fileno()
@@ -302,7 +311,7 @@ def exchange(process, tape, most, seconds):
     return printed, False
 
 
-def tried(command, tape, most, **how):
+def tried(command: list[str], tape: bytes, most: int, **how: Any) -> tuple[bytes, int | None]:
     """What a command prints that is given a tape, and its status, which is none where it has printed too much or took
     too long."""
     process = begin(command, stdin=subprocess.PIPE, stdout=subprocess.PIPE, stderr=subprocess.DEVNULL, **how)
@@ -314,7 +323,7 @@ def tried(command, tape, most, **how):
     return printed, status if has_ended else None
 
 
-def run_program(tape):
+def run_program(tape: bytes) -> tuple[bytes, str | None]:
     """What a program prints, and what is wrong with its end, if that is."""
     printed, status = tried([program("trac"), "run", "--budget", str(STEPS)], tape, PRINTED,
                             preexec_fn=lambda: bound(MEMORY))
@@ -327,7 +336,7 @@ def run_program(tape):
     return printed, ENDINGS.get(status)
 
 
-def first_doubt(name, tape, given):
+def first_doubt(name: str, tape: bytes, given: bytes) -> str | None:
     """What trac lint says first of a program with this input, if it has a doubt."""
     with passed_on(given) as (after, give):
         # (the input is so short that it is given before any of it is read)
@@ -340,14 +349,14 @@ def first_doubt(name, tape, given):
     return printable(lines[0].replace(after.name, "the input", 1).replace(OWN_INPUT, shown(name)))
 
 
-def difference(printed, wanted):
+def difference(printed: bytes, wanted: bytes) -> str:
     """Where two texts begin to differ."""
     front = os.path.commonprefix([text.rstrip(b"\n").decode("utf-8", "replace") for text in (printed, wanted)])
     line, column = front.count("\n") + 1, len(front) - front.rfind("\n")
     return "they differ from line {}, character {} on".format(line, column)
 
 
-def check(course, exercise, name):
+def check(course: Course, exercise: str, name: str) -> int:
     """Runs a file on each given input, and says what differs; returns the exit status."""
     number = number_of(exercise)
     tape = read_file(name)
@@ -375,7 +384,7 @@ def check(course, exercise, name):
     return 0
 
 
-def options(given):
+def options(given: list[str]) -> tuple[Words, argparse.Namespace]:
     """The command line."""
     words = Words(
         prog="trac course",
@@ -390,7 +399,7 @@ def options(given):
     return words, words.parse_args(given)
 
 
-def main(given):
+def main(given: list[str]) -> int:
     """Does what the command line says; returns the exit status."""
     parser, chosen = options(given)
     words = chosen.words

@@ -1,9 +1,12 @@
 """A session of `trac walk` over a program: its replies, with a bound on memory. And how a process is given a file that
 has no place on a disk."""
+from __future__ import annotations
+
 import contextlib
 import os
 import resource
 import subprocess
+from collections.abc import Callable, Iterator
 
 from trac_tools.tool import Fault, begin, write
 
@@ -12,7 +15,7 @@ class NoMemory(Exception):
     """There was no memory. The session is of no use any more."""
 
 
-def bound(memory):
+def bound(memory: int) -> None:
     """Bounds the memory of the process that is begun. (Nobody but root may raise a bound that there is.)"""
     with contextlib.suppress(OSError):
         most = resource.getrlimit(resource.RLIMIT_AS)[1]
@@ -23,7 +26,7 @@ def bound(memory):
 class Debugger:
     """A session of a debugger over a tape, begun by a command without FILE. What it takes of memory is bounded."""
 
-    def __init__(self, command, memory, tape):
+    def __init__(self, command: list[str], memory: int, tape: bytes | bytearray) -> None:
         with passed_on(tape) as (file, give):
             # (what it says of itself, such as of an option that is wrong, the run beside it says too)
             self.process = begin(command + [file.name], stdin=subprocess.PIPE, stdout=subprocess.PIPE,
@@ -33,7 +36,7 @@ class Debugger:
         # replies that are read and not taken
         self.replies = b""
 
-    def read(self):
+    def read(self) -> bytes:
         """Some more bytes of its replies."""
         part = os.read(self.process.stdout.fileno(), 1 << 20)
         if not part:
@@ -43,14 +46,14 @@ class Debugger:
             raise Fault("the debugger ended early, with status {}".format(status), max(status, 1))
         return part
 
-    def line(self):
+    def line(self) -> str:
         """The next line of its replies."""
         while b"\n" not in self.replies:
             self.replies += self.read()
         line, self.replies = self.replies.split(b"\n", 1)
         return line.decode("ascii")
 
-    def give(self, commands):
+    def give(self, commands: str) -> None:
         """Writes commands, so few that they are taken at once."""
         try:
             self.process.stdin.write(commands.encode())
@@ -58,7 +61,7 @@ class Debugger:
         except (OSError, ValueError):
             pass
 
-    def end(self):
+    def end(self) -> None:
         """Ends the session, and what it holds of replies."""
         self.process.kill()
         self.process.stdout.close()
@@ -73,10 +76,10 @@ class Debugger:
 class Passed:
     """A file without a place, which a process that is begun finds by its name."""
 
-    def __init__(self, number):
+    def __init__(self, number: int) -> None:
         self.number, self.name, self.is_open = number, "/dev/fd/{}".format(number), True
 
-    def close(self):
+    def close(self) -> None:
         """Leaves it to the process."""
         if self.is_open:
             os.close(self.number)
@@ -84,12 +87,12 @@ class Passed:
 
 
 @contextlib.contextmanager
-def passed_on(tape):
+def passed_on(tape: bytes | bytearray) -> Iterator[tuple[Passed, Callable[[], None]]]:
     """A file that has a tape for one process, and what gives it the tape. Nothing is kept on a disk."""
     reads, writes = os.pipe()
     file = Passed(reads)
 
-    def give():
+    def give() -> None:
         """Gives it all, and waits for a process that reads, if it is long. (If that has ended, its status says why.)"""
         with contextlib.suppress(Fault):
             write(tape, writes)
@@ -101,7 +104,7 @@ def passed_on(tape):
         file.close()
 
 
-def bytes_of(text):
+def bytes_of(text: str) -> bytes:
     """The bytes of a text as the debugger shows it."""
     front, *rest = text.split("\\x")
     return front.encode() + b"".join(bytes((int(part[:2], 16),)) + part[2:].encode() for part in rest)

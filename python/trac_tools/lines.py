@@ -1,21 +1,25 @@
 """Lines that are typed at the terminal, by the line editor of Python where that is there; what was typed is kept for
 the next time, and Tab completes what a tool says. No key runs a command, or lists files."""
+from __future__ import annotations
+
 import contextlib
 import os
 import sys
+from collections.abc import Callable
 
 from trac_tools.tool import tell, write
 
 try:
     import readline
 except ImportError:
-    readline = None
+    # (a name of a module that may be none has no type)
+    readline = None  # type: ignore[assignment]
 
 # How many lines are kept.
 KEPT = 1000
 
 
-def folder():
+def folder() -> str:
     """The folder for what is kept: one of the user, who may have none."""
     place = os.environ.get("XDG_STATE_HOME", "")
     if not os.path.isabs(place):
@@ -29,11 +33,13 @@ class History:
     """Has what is typed meanwhile kept under a name, and what was typed before brought back by the arrow keys. What
     cannot be read or written is passed over. `complete` gives the words that may stand after a beginning of a line."""
 
-    def __init__(self, name, complete=lambda front: []):
-        self.name, self.complete, self.before, self.found = name, complete, 0, []
+    def __init__(self, name: str, complete: Callable[[str], list[str]] = lambda front: []) -> None:
+        self.name, self.complete, self.before = name, complete, 0
+        self.found: list[str] = []
 
-    def __enter__(self):
-        sys.stdin.reconfigure(errors="surrogateescape")
+    def __enter__(self) -> History:
+        # (a stream of text that is no file does not have this)
+        sys.stdin.reconfigure(errors="surrogateescape")  # type: ignore[attr-defined]
         if readline:
             readline.set_completer(self.completion)
             readline.set_completer_delims(" ")
@@ -48,18 +54,18 @@ class History:
             self.before = readline.get_current_history_length()
         return self
 
-    def place(self):
+    def place(self) -> str:
         """The file."""
         return os.path.join(folder(), self.name)
 
-    def completion(self, word, number):
+    def completion(self, word: str, number: int) -> str | None:
         """A word that begins so, by its number, as the line editor asks for it."""
         if number == 0:
             front = readline.get_line_buffer()[:readline.get_begidx()]
             self.found = [it for it in self.complete(front) if it.startswith(word)]
         return self.found[number] if number < len(self.found) else None
 
-    def __exit__(self, *_):
+    def __exit__(self, *_: object) -> None:
         if not readline:
             return
         typed = readline.get_current_history_length() - self.before
@@ -76,7 +82,7 @@ class History:
                 readline.write_history_file(self.place())
 
 
-def ask(prompt):
+def ask(prompt: str) -> bytes:
     """A line that is typed after a prompt, with its end; none where the lines have ended. Where standard output is no
     terminal, the prompt is told on standard error."""
     if not os.isatty(1):

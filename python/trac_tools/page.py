@@ -5,12 +5,15 @@
 The page is trac.html, with the program in it, what the program reads, and the step where the page opens: web/given.js
 takes these. It needs no other file and no network. Nothing is run here.
 """
+from __future__ import annotations
+
 import argparse
 import base64
 import json
 import os
 import re
 import zlib
+from collections.abc import Callable
 
 from trac_tools.tool import TAPE, Fault, ShowVersion, Words, found, legible, read_file, shown, write
 
@@ -30,14 +33,15 @@ GONE = {
 class Gone(argparse.Action):
     """An option that there is no more."""
 
-    def __call__(self, parser, namespace, values, option_string=None):
-        parser.error("{} is no option any more: {}".format(option_string, GONE[option_string]))
+    def __call__(self, parser: argparse.ArgumentParser, namespace: argparse.Namespace, values: object,
+                 option_string: str | None = None) -> None:
+        parser.error("{} is no option any more: {}".format(option_string, GONE[str(option_string)]))
 
 
-def number(least, most):
+def number(least: int, most: int) -> Callable[[str], int]:
     """What reads a number of the command line."""
 
-    def read(word):
+    def read(word: str) -> int:
         if not re.fullmatch("[0-9]{1,12}", word) or not least <= int(word) <= most:
             raise argparse.ArgumentTypeError("{} is no number from {} to {}".format(shown(word), least, most))
         return int(word)
@@ -45,14 +49,14 @@ def number(least, most):
     return read
 
 
-def width(word):
+def width(word: str) -> int:
     """How many bits a number has."""
     if word not in ("64", "128"):
         raise argparse.ArgumentTypeError("{} is not 64 or 128".format(shown(word)))
     return int(word)
 
 
-def options(given):
+def options(given: list[str]) -> argparse.Namespace:
     """The command line."""
     words = Words(
         prog="trac page",
@@ -75,7 +79,7 @@ def options(given):
     return words.parse_args(given)
 
 
-def halves_of_page():
+def halves_of_page() -> tuple[bytes, bytes]:
     """The page before and after what is put there."""
     place = found("trac.html", "release/trac.html", "share/trac/trac.html")
     if not os.path.isfile(place):
@@ -87,18 +91,18 @@ def halves_of_page():
     return before + BEFORE, after
 
 
-def packed(text):
+def packed(text: bytes) -> str:
     """Bytes as the page unpacks them."""
     return base64.b64encode(zlib.compress(text, 9)).decode()
 
 
-def as_json(data):
+def as_json(data: dict[str, object]) -> str:
     """Data as JSON that can stand in a script element: no sign in it is one of markup, and all are ASCII."""
     text = json.dumps(data, ensure_ascii=True, separators=(",", ":"))
     return re.sub("[<>&]", lambda sign: "\\u{:04x}".format(ord(sign[0])), text)
 
 
-def given(chosen):
+def given(chosen: argparse.Namespace) -> dict[str, object]:
     """What is put into the page."""
     program = read_file(chosen.file)
     read = read_file(chosen.input) if chosen.input is not None else b""
@@ -114,12 +118,12 @@ def given(chosen):
     }
 
 
-def main(words):
+def main(words: list[str]) -> None:
     """Makes the page, and prints it whole."""
     chosen = options(words)
     if os.isatty(1):
         raise Fault("the page goes to standard output, so name a file for it: trac page FILE > run.html", 2)
     before, after = halves_of_page()
     data = as_json(given(chosen))
-    for part in (before, data, after):
+    for part in (before, data.encode(), after):
         write(part)

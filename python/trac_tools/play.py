@@ -8,16 +8,20 @@ that it has ended, where the processor would read a text that FILE does not have
 program. (Only a line that is too long for a command of the walk has it go through the program anew. What `i` feeds ends
 with a line end, so it cannot be fed in parts.)
 """
+from __future__ import annotations
+
+import argparse
 import os
 import re
 import select
 import socket
 import sys
+import threading
 from subprocess import PIPE
 
 from trac_tools import lines
 from trac_tools.dialogue import Debugger, NoMemory, bytes_of
-from trac_tools.tool import Fault, ShowVersion, Words, begin, beside, program, read_file, shown, tell, write
+from trac_tools.tool import Fault, Process, ShowVersion, Words, begin, beside, program, read_file, shown, tell, write
 
 # The most memory that the walk may take, where --memory does not say it. The system bounds it too: then with some
 # room for the program itself, and for what the heap of the C library cannot use again.
@@ -52,7 +56,7 @@ FORGOTTEN = "steps before "
 class Place:
     """Where an input leads to."""
 
-    def __init__(self, kind, read=0, call="", meta=b"'"):
+    def __init__(self, kind: str, read: int = 0, call: str = "", meta: bytes = b"'") -> None:
         # "waits" for more input, "ended", "stops" by itself, or "unknown"
         self.kind = kind
         # how many bytes are read by then, by which call it waits, and at which byte a text ends
@@ -62,30 +66,43 @@ class Place:
 class Walk:
     """A walk through the program with all input so far: where it stands, what comes next there, and what is said."""
 
-    def __init__(self, words, memory, tape):
+    def __init__(self, words: list[str], memory: str | None, tape: bytes) -> None:
         self.memory, allowed = bounds(memory)
         self.command = [program("trac-walk"), "--journal", str(JOURNAL), *allowed, *words]
         self.fed = bytearray(tape)
-        self.at, self.next, self.read, self.meta, self.screen = 0, "", 0, b"'", []
+        self.at, self.next, self.read, self.meta = 0, "", 0, b"'"
+        self.screen: list[str] = []
         self.debugger = Debugger(self.command, self.memory, self.fed)
 
-    def move(self, command):
+    def move(self, command: str) -> str | None:
         """Carries out a command; returns what is said beside where the walk stands then; none where it is refused."""
         self.debugger.give(command + "\np\n")
-        lines, counts = [], None
-        while counts is None:
+        lines = [self.debugger.line()]
+        while not (counts := COUNTS.match(lines[-1])):
             lines.append(self.debugger.line())
-            counts = COUNTS.match(lines[-1])
-        self.read = len(self.fed) - int(counts[1])
-        self.meta = bytes_of(META.fullmatch(lines[-2])[1])
-        place = next((place for place, line in enumerate(lines) if STANDS.match(line)), None)
-        if place is None:
+        meta = META.fullmatch(lines[-2])
+        assert meta
+        self.read, self.meta = len(self.fed) - int(counts[1]), bytes_of(meta[1])
+        stands = [(place, where) for place, line in enumerate(lines) for where in [STANDS.match(line)] if where]
+        if not stands:
             return None
-        where = STANDS.match(lines[place])
+        place, where = stands[0]
         self.at, self.next, self.screen = int(where[1]), where[2], lines[place + 1:]
         return "\n".join(line for line in lines[:place] if not line.startswith(FORGOTTEN))
 
-    def feed(self, text):
+    def said(self, command: str) -> str:
+        """The same of a command that is never refused."""
+        said = self.move(command)
+        assert said is not None
+        return said
+
+    def call(self) -> str:
+        """The name of the call that comes next."""
+        found = re.match(r"##?\((\w*)", self.next)
+        assert found
+        return found[1].lower()
+
+    def feed(self, text: bytes) -> bool:
         """Feeds more input; whether it is taken. What is no line, or too long for a command, begins another walk, which
         goes as far."""
         self.fed += text
@@ -96,7 +113,7 @@ class Walk:
         self.debugger = Debugger(self.command, self.memory, self.fed)
         return not self.move("g {}".format(self.at))
 
-    def is_idle(self):
+    def is_idle(self) -> bool:
         """Whether the read that comes next is that of the idle program itself. The same state may be one before a call
         in tail position; but so few steps before it nothing was to be done. (Or the walk does not go back so far: from
         where it began, or where it keeps fewer steps.)"""
@@ -108,26 +125,27 @@ class Walk:
         self.move("g {}".format(at))
         return is_idle
 
-    def has_printed(self, count):
+    def has_printed(self, count: int) -> bool:
         """Whether the program has printed more than so many bytes up to here."""
         at = self.at
-        said = self.move("w #{}".format(count + 1))
+        said = self.said("w #{}".format(count + 1))
         if self.at != at:
             self.move("g {}".format(at))
         return NOT_YET not in said
 
 
-def bounds(memory):
+def bounds(memory: str | None) -> tuple[int, list[str]]:
     """What the system may give a walk of memory, and its own options for that, by the word of --memory, if there is
     one. (That `trac run` does not understand it is for that to say.)"""
-    parts = SIZE.fullmatch(memory or "")
+    memory = memory or ""
+    parts = SIZE.fullmatch(memory)
     size = int(parts[1]) * UNITS[parts[2].upper()] if parts else 0
     if not LEAST <= size <= MOST:
         return MEMORY, []
     return size + ROOM, ["--memory", memory, "--keep", str(max(size // KEPT // UNITS["M"], 1))]
 
 
-def quoted(byte):
+def quoted(byte: int) -> str:
     """A byte of a line as the walk takes it in quotes."""
     return chr(byte) if 32 <= byte <= 126 and byte not in b'"\\' else "\\x{:02x}".format(byte)
 
@@ -135,17 +153,19 @@ def quoted(byte):
 class Look:
     """Looks where an input leads to, beside what runs. It goes on from where the input before has led to."""
 
-    def __init__(self, words, memory, tape):
+    def __init__(self, words: list[str], memory: str | None, tape: bytes) -> None:
         self.size, self.walk = len(tape), Walk(words, memory, tape)
-        self.place, self.stopped, self.thread = None, False, None
+        self.place: Place | None = None
+        self.thread: threading.Thread | None = None
+        self.stopped = False
         self.told, self.tells = os.pipe()
 
-    def start(self, text):
+    def start(self, text: bytes) -> None:
         """Begins to look, with more input, if there is any."""
         self.place = None
         self.thread = beside(self.look, text)
 
-    def look(self, text):
+    def look(self, text: bytes) -> None:
         """Finds the place, and says that it is found."""
         try:
             self.place = self.find() if not text or self.walk.feed(text) else Place("stops")
@@ -155,13 +175,15 @@ class Look:
             self.place = Place("stops" if self.stopped else "unknown")
         os.write(self.tells, b".")
 
-    def found(self):
+    def found(self) -> Place:
         """The place that was found."""
         os.read(self.told, 1)
-        self.thread.join()
+        if self.thread:
+            self.thread.join()
+        assert self.place
         return self.place
 
-    def end(self):
+    def end(self) -> None:
         """Ends it, whether it has found the place or not."""
         self.stopped = True
         self.walk.debugger.process.kill()
@@ -169,7 +191,7 @@ class Look:
             self.thread.join()
         self.walk.debugger.end()
 
-    def find(self):
+    def find(self) -> Place:
         """The place where the input leads to."""
         walk = self.walk
         while True:
@@ -179,24 +201,24 @@ class Look:
             if may_pass and walk.read > read and self.has_passed(at):
                 return Place("ended", walk.read)
             if said and "waits for input" in said:
-                call = "idle" if walk.is_idle() else re.match(r"##?\((\w*)", walk.next)[1].lower()
+                call = "idle" if walk.is_idle() else walk.call()
                 return Place("ended" if call == "idle" and self.is_over() else "waits", walk.read, call, walk.meta)
             if said:
                 return Place("unknown" if "memory" in said else "stops")
 
-    def unread(self, start):
+    def unread(self, start: int) -> bytes | bytearray:
         """What is not read of the input from here on, if that is more than blanks."""
         return self.walk.fed[max(self.walk.read, start):].strip(BLANKS)
 
-    def is_over(self):
+    def is_over(self) -> bool:
         """Whether all texts of FILE are read."""
         return not self.walk.fed[self.walk.read:self.size].strip(BLANKS)
 
-    def has_passed(self, first):
+    def has_passed(self, first: int) -> bool:
         """Whether the idle program has read since this step, or is to read, when all texts of FILE were read; if so,
         goes back to the first time."""
         walk, end, passed = self.walk, self.walk.at, None
-        while "not met" not in walk.move("r rs") and walk.at >= first:
+        while "not met" not in walk.said("r rs") and walk.at >= first:
             if walk.is_idle() and self.is_over():
                 passed = walk.at
         walk.move("g {}".format(end if passed is None else passed))
@@ -206,17 +228,17 @@ class Look:
 class Screen:
     """What the program has printed, and the lines that are typed."""
 
-    def __init__(self):
+    def __init__(self) -> None:
         self.printed, self.line = 0, b""
         self.is_told = False
 
-    def show(self, data):
+    def show(self, data: bytes) -> None:
         """Prints what the program has printed."""
         self.printed += len(data)
         self.line = (self.line + data).rpartition(b"\n")[2][-4096:]
         write(data)
 
-    def prompt(self, goes_on):
+    def prompt(self, goes_on: bool) -> str:
         """What stands before an answer: the line that the program has begun, so that the line editor knows where it
         stands, and a sign that the program waits."""
         try:
@@ -228,7 +250,7 @@ class Screen:
         line = line[len(line) // columns * columns:] if line.isprintable() else ""
         return ("\r" if line else "") + line + (GOES_ON if goes_on else PROMPT)
 
-    def ask(self, goes_on):
+    def ask(self, goes_on: bool) -> bytes:
         """A line that is typed, or none where the lines have ended."""
         prompt = GOES_ON if goes_on else PROMPT
         if os.isatty(1):
@@ -239,7 +261,7 @@ class Screen:
         self.line = b""
         return line
 
-    def tell_end(self, meta):
+    def tell_end(self, meta: bytes) -> None:
         """Says once that a text goes on."""
         if not self.is_told:
             tell("trac play: this text goes on until {} is typed".format(shown(meta)))
@@ -249,30 +271,31 @@ class Screen:
 class Play:
     """A program that runs, and is given what is typed."""
 
-    def __init__(self, words, memory, tape):
+    def __init__(self, words: list[str], memory: str | None, tape: bytes) -> None:
         self.tape = tape
         widths = words[words.index("--decimals"):][:2] if "--decimals" in words else []
         self.run = begin([program("trac"), "run", *words], stdin=PIPE, stdout=PIPE, stderr=PIPE)
-        self.to, self.out = self.run.stdin.fileno(), self.run.stdout.fileno()
+        self.to: int | None = self.run.stdin.fileno()
+        self.out = self.run.stdout.fileno()
         os.set_blocking(self.to, False)
         # how much of the input it is given, and what of that is on its way
         self.given, self.sending = 0, memoryview(b"")
         self.screen, self.look = Screen(), Look(widths, memory, tape)
 
-    def give(self, end):
+    def give(self, end: int) -> None:
         """Gives it the input up to here."""
         if end > self.given:
             self.sending = memoryview(bytes(self.sending) + self.look.walk.fed[self.given:end])
             self.given = end
 
-    def close(self):
+    def close(self) -> None:
         """Ends its input, once all is given."""
         while self.sending and self.copy():
             pass
         self.run.stdin.close()
         self.to = None
 
-    def copy(self, told=None):
+    def copy(self, told: int | None = None) -> bool:
         """Shows some more of what it prints, and gives it some more of what is to be given, or waits until a look has
         found its place. Returns whether it has not ended."""
         sends = [self.to] if self.sending and self.to is not None else []
@@ -283,12 +306,12 @@ class Play:
             return bool(data)
         if free:
             try:
-                self.sending = self.sending[os.write(self.to, self.sending):]
+                self.sending = self.sending[os.write(free[0], self.sending):]
             except BrokenPipeError:
                 self.sending = memoryview(b"")
         return True
 
-    def follow(self, text=b""):
+    def follow(self, text: bytes = b"") -> Place | None:
         """Goes on, with more input if there is any, until it waits for input or has ended; returns the place where the
         input leads to, or none where it has ended."""
         self.look.start(text)
@@ -305,12 +328,12 @@ class Play:
                 return None
         return place
 
-    def is_behind(self):
+    def is_behind(self) -> bool:
         """Whether it has not printed all that it prints up to the place that was found."""
         return bool(self.sending or select.select([self.out], [], [], 0)[0]
                     or self.look.walk.has_printed(self.screen.printed))
 
-    def play(self):
+    def play(self) -> int:
         """Plays it to its end; returns its exit status."""
         self.give(len(self.tape))
         place = self.follow()
@@ -326,7 +349,7 @@ class Play:
             raise Fault("there is too little memory to see where the program waits; cat FILE - | trac run runs it", 5)
         return status
 
-    def answer(self, place):
+    def answer(self, place: Place) -> Place | None:
         """Gives the program that waits what it waits for; returns where that leads to."""
         if place.call == "idle":
             # the last text of FILE: the end of FILE ends it
@@ -338,29 +361,29 @@ class Play:
             self.close()
             return Place("stops")
         start, asked = len(fed), place.call
-        place = self.follow(line)
-        if asked == "rs" and place and place.kind == "waits" and place.call == "rs" and self.look.unread(start):
-            self.screen.tell_end(place.meta)
-        return place
+        after = self.follow(line)
+        if asked == "rs" and after and after.kind == "waits" and after.call == "rs" and self.look.unread(start):
+            self.screen.tell_end(after.meta)
+        return after
 
-    def end(self):
+    def end(self) -> None:
         """Ends it at once."""
         self.run.kill()
         self.look.end()
 
 
-def tell_ending(runs):
+def tell_ending(runs: Process) -> int:
     """Says what the processor has said of its end, after all that the program printed; returns its exit status."""
     tell(runs.stderr.read().decode("utf-8", "surrogateescape"), "")
     return runs.wait()
 
 
-def pass_on(words, tape):
+def pass_on(words: list[str], tape: bytes) -> int:
     """Runs it on FILE and then standard input; returns its exit status."""
     ours, theirs = socket.socketpair()
     runs = begin([program("trac"), "run", *words], stdin=theirs, stdout=PIPE, stderr=PIPE)
 
-    def feed():
+    def feed() -> None:
         data = tape
         try:
             while data:
@@ -382,7 +405,7 @@ def pass_on(words, tape):
     return tell_ending(runs)
 
 
-def options(given):
+def options(given: list[str]) -> argparse.Namespace:
     """The command line."""
     words = Words(
         prog="trac play",
@@ -401,7 +424,7 @@ def options(given):
     return words.parse_args(given)
 
 
-def main(given):
+def main(given: list[str]) -> int:
     """Plays, and returns the exit status."""
     chosen = options(given)
     words = [word for name in ("budget", "journal", "decimals", "memory") if getattr(chosen, name) is not None

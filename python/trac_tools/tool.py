@@ -1,5 +1,7 @@
 """What the tools have in common: how they begin and end, where programs stand, what they read and write, and how they
 show a name."""
+from __future__ import annotations
+
 import argparse
 import contextlib
 import errno
@@ -9,6 +11,21 @@ import signal
 import subprocess
 import sys
 import threading
+from collections.abc import Callable, Sequence
+
+# What is for those alone that look at types: no tool takes the time for it.
+TYPE_CHECKING = False
+if TYPE_CHECKING:
+    from typing import IO, Any, NoReturn
+
+    class Process(subprocess.Popen[bytes]):
+        """A process that was begun. Those of its streams that are used are pipes."""
+
+        stdin: IO[bytes]
+        stdout: IO[bytes]
+        stderr: IO[bytes]
+else:
+    Process = subprocess.Popen
 
 # The most bytes of FILE that the programs take.
 TAPE = 33_554_432
@@ -18,7 +35,7 @@ SCARCE = (errno.ENOMEM, errno.EAGAIN, errno.EMFILE, errno.ENFILE)
 SIGNS = [chr(byte) if 32 <= byte <= 126 and chr(byte) not in "\\[]" else "\\x{:02x}".format(byte)
          for byte in range(256)]
 # The processes that were begun, of which none goes on when the tool ends.
-begun = []
+begun: list[Process] = []
 
 
 class Place:
@@ -27,19 +44,19 @@ class Place:
     called = launcher = folder = programs = ""
 
 
-def start(words):
+def start(words: list[str]) -> None:
     """Takes what the launcher says of itself."""
     Place.called, Place.launcher, Place.programs = words
     Place.launcher = os.path.realpath(Place.launcher)
     Place.folder = os.path.dirname(Place.launcher)
 
 
-def program(name):
+def program(name: str) -> str:
     """Where a program stands."""
     return os.path.join(Place.programs, name)
 
 
-def found(name, checkout, installed):
+def found(name: str, checkout: str, installed: str) -> str:
     """A file or folder: of a checkout, or as it is installed."""
     is_checkout = os.path.exists(os.path.join(Place.folder, "crates.txt"))
     place = os.path.join(Place.folder, *((checkout,) if is_checkout else ("..", installed)))
@@ -51,7 +68,7 @@ def found(name, checkout, installed):
 class Fault(Exception):
     """Why a tool does not go on, in words if there is anything to say, and its exit status."""
 
-    def __init__(self, words, status=1):
+    def __init__(self, words: str, status: int = 1) -> None:
         super().__init__(words)
         self.status = status
 
@@ -59,28 +76,28 @@ class Fault(Exception):
 class Stopped(BaseException):
     """A signal has come that ends the tool."""
 
-    def __init__(self, number):
+    def __init__(self, number: int) -> None:
         super().__init__(number)
         self.number = number
 
 
-def shown(text):
+def shown(text: str | bytes | bytearray) -> str:
     """Bytes, or a name or word of the command line, as the debugger shows a text."""
     return "".join(map(SIGNS.__getitem__, text if isinstance(text, (bytes, bytearray)) else os.fsencode(text)))
 
 
-def printable(words):
+def printable(words: str) -> str:
     """Words with shown names in them: what a terminal might obey, or would not show, is shown as the debugger does."""
     return "".join(sign if " " <= sign <= "~" or sign == "\n" else shown(sign.encode("utf-8", "surrogateescape"))
                    for sign in words)
 
 
-def legible(words):
+def legible(words: str) -> str:
     """The same for what a reader is to copy, or sees in a page: letters of all scripts stand as themselves."""
     return "".join(sign if sign.isprintable() else shown(sign.encode("utf-8", "surrogateescape")) for sign in words)
 
 
-def write(text, to=1):
+def write(text: str | bytes | bytearray, to: int = 1) -> None:
     """Writes a whole text or bytes, also where a stream takes a part at a time. Where it takes no more, that is a fault
     of status 7: in no words, if only the reader is gone."""
     left = memoryview(text.encode("utf-8", "surrogateescape") if isinstance(text, str) else text)
@@ -95,16 +112,16 @@ def write(text, to=1):
             raise Fault("the output cannot be written: {}".format(fault.strerror), 7)
 
 
-def tell(words, end="\n"):
+def tell(words: str, end: str = "\n") -> None:
     """Writes words to standard error. If they cannot be written there, there is nobody to say so to."""
     with contextlib.suppress(Fault):
         write(printable(words) + end, 2)
 
 
-def begin(command, **how):
+def begin(command: list[str], **how: Any) -> Process:
     """Begins a process, which ends with the tool."""
     try:
-        process = subprocess.Popen(command, **how)
+        process = Process(command, **how)
     except subprocess.SubprocessError:
         # (what is done there before the program begins fails only where it has no memory)
         raise MemoryError
@@ -112,7 +129,7 @@ def begin(command, **how):
     return process
 
 
-def beside(does, *words):
+def beside(does: Callable[..., None], *words: object) -> threading.Thread:
     """Does something in a thread of its own, which ends with the tool."""
     thread = threading.Thread(target=does, args=words, daemon=True)
     try:
@@ -126,24 +143,26 @@ def beside(does, *words):
 class Words(argparse.ArgumentParser):
     """A command line, of which no word reaches the terminal as it is."""
 
-    def parse_args(self, args=None, namespace=None):
+    # (nobody gives it a namespace)
+    def parse_args(self, args: Sequence[str] | None = None,  # type: ignore[override]
+                   namespace: argparse.Namespace | None = None) -> argparse.Namespace:
         chosen, others = self.parse_known_args(args, namespace)
         if others:
             self.error("unrecognized arguments: {}".format(" ".join(map(shown, others))))
         return chosen
 
-    def error(self, message):
+    def error(self, message: str) -> NoReturn:
         tell("{}{}: error: {}".format(self.format_usage(), self.prog, message))
         raise Fault("", 2)
 
-    def exit(self, status=0, message=None):
+    def exit(self, status: int = 0, message: str | None = None) -> NoReturn:
         raise Fault(message or "", status)
 
-    def _print_message(self, message, file=None):
+    def _print_message(self, message: str, file: IO[str] | None = None) -> None:
         write(message, 2 if file is not None and file is sys.stderr else 1)
 
 
-def hold_streams():
+def hold_streams() -> None:
     """Has each standard stream that is closed be one of which each use fails: else the next file would take its
     place. (It is the name of a folder alone: a device could be opened anew, as /dev/stdin.)"""
     for number in range(3):
@@ -158,20 +177,20 @@ def hold_streams():
     sys.stderr = sys.stderr or open(os.devnull, "w")
 
 
-def stop(number, _):
+def stop(number: int, _: object) -> None:
     """Takes a signal."""
     signal.signal(number, signal.SIG_IGN)
     raise Stopped(number)
 
 
-def take_signals():
+def take_signals() -> None:
     """Has signals end the tool in its own way, but for those that whoever began it wants passed over."""
     for number in (signal.SIGINT, signal.SIGTERM, signal.SIGHUP):
         if signal.getsignal(number) != signal.SIG_IGN:
             signal.signal(number, stop)
 
 
-def status_of(name, main):
+def status_of(name: str, main: Callable[[], int | None]) -> int:
     """Does what a tool does; returns its exit status."""
     try:
         return main() or 0
@@ -187,7 +206,7 @@ def status_of(name, main):
         return 5 if fault.errno in SCARCE else 70
 
 
-def end(status):
+def end(status: int) -> None:
     """Ends the tool, and what it has begun, with an exit status, or by the signal of which this is the negative."""
     for process in begun:
         if process.poll() is None:
@@ -200,9 +219,9 @@ def end(status):
     os._exit(status)
 
 
-def run(name, main):
+def run(name: str, main: Callable[[], int | None]) -> None:
     """Runs a tool from its beginning to its end. A signal may come at any moment of that."""
-    status = None
+    status: int | None = None
     while True:
         try:
             if status is None:
@@ -214,7 +233,7 @@ def run(name, main):
             status = -stopped.number
 
 
-def read_file(name):
+def read_file(name: str) -> bytes:
     """The bytes of FILE, which may be no file but a pipe."""
     try:
         with open(name, "rb") as file:
@@ -231,10 +250,10 @@ def read_file(name):
 class ShowVersion(argparse.Action):
     """An option that shows the version of the processor and ends the tool, whatever else the command line has."""
 
-    def __init__(self, **more):
+    def __init__(self, **more: Any) -> None:
         super().__init__(nargs=0, **more)
 
-    def __call__(self, parser, *_):
+    def __call__(self, parser: argparse.ArgumentParser, *_: object) -> None:
         said = subprocess.run([program("trac"), "--version"], stdin=subprocess.DEVNULL, stdout=subprocess.PIPE)
         if said.returncode != 0:
             raise Fault("{} --version ended with status {}".format(shown(program("trac")), said.returncode), 70)

@@ -2,6 +2,8 @@
 
 The proved program trac-walk does all else. It is begun with --prompt: its prompts become those of the line editor.
 """
+from __future__ import annotations
+
 import itertools
 import os
 import re
@@ -29,20 +31,20 @@ VALUED = ("--journal", "--keep", "--decimals", "--memory")
 LOOKED = 1 << 20
 
 
-def file_of(words):
+def file_of(words: list[str]) -> str | None:
     """FILE of a command line; none if that names none."""
-    words = iter(words)
-    for word in words:
+    left = iter(words)
+    for word in left:
         if word == "--":
-            return next(words, None)
+            return next(left, None)
         if word in VALUED:
-            next(words, None)
+            next(left, None)
         elif not word.startswith("-"):
             return word
     return None
 
 
-def forms_of(name):
+def forms_of(name: str | os.PathLike[str] | None) -> list[str]:
     """The names of the forms that FILE defines. (Only a file is looked at: a pipe gives its bytes once.)"""
     if name is None or not os.path.isfile(name):
         return []
@@ -53,7 +55,7 @@ def forms_of(name):
         return []
 
 
-def completed(front, forms):
+def completed(front: str, forms: list[str]) -> list[str]:
     """The words that may stand after this beginning of a line."""
     words = front.split()
     if not words:
@@ -68,12 +70,12 @@ def completed(front, forms):
 class Session:
     """The program, by its streams."""
 
-    def __init__(self, words):
+    def __init__(self, words: list[str]) -> None:
         # (a file that the shell has opened is for the program too)
         self.process = begin([program("trac-walk"), *words], stdin=PIPE, stdout=PIPE, close_fds=False)
         self.said = b""
 
-    def prompt(self):
+    def prompt(self) -> str | None:
         """Shows what it says up to its next prompt, and returns that; none where it has ended."""
         out = self.process.stdout.fileno()
         while True:
@@ -90,7 +92,7 @@ class Session:
                 self.said = b""
                 return last.decode()
 
-    def give(self, line):
+    def give(self, line: bytes) -> bool:
         """Gives it a line; whether it is taken."""
         try:
             self.process.stdin.write(line)
@@ -99,7 +101,7 @@ class Session:
             return False
         return True
 
-    def end(self):
+    def end(self) -> int:
         """Ends its lines, and shows the rest; returns its status."""
         try:
             self.process.stdin.close()
@@ -110,7 +112,7 @@ class Session:
         return self.process.wait()
 
 
-def main(words):
+def main(words: list[str]) -> int:
     """Walks; returns the exit status."""
     forms = forms_of(file_of(words))
     with lines.History("walk", lambda front: completed(front, forms)):

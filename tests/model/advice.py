@@ -1,42 +1,47 @@
 """Where a parenthesis of a text is probably missing, or one too many, by the rule of share/man/trac-lint.1.
 
 It shares nothing with trac."""
+from __future__ import annotations
+
 import re
 
 MISSING_OPENING, MISSING_CLOSING = b"a ( may be missing here", b"a ) may be missing here"
 SURPLUS_OPENING, SURPLUS_CLOSING = b"this ( may be one too many", b"this ) may be one too many"
 CALL, CODE, TEXT = "call", "protected call", "protected text"
+# Words and a place.
+Advice = tuple[bytes, int]
 
 
-def kind_of(text, at):
+def kind_of(text: bytes, at: int) -> str:
     """What the ( at this place begins."""
     if text[:at].endswith(b"#"):
         return CALL
     return CODE if re.match(rb"\([ \t\r\n]*#", text[at:]) else TEXT
 
 
-def is_first(text, at):
+def is_first(text: bytes, at: int) -> bool:
     """Whether only blanks stand before this place on its line."""
     return not text[text.rfind(b"\n", 0, at) + 1 : at].strip(b" \t\r")
 
 
-def blanks_before(text, at):
+def blanks_before(text: bytes, at: int) -> int:
     return at - (text.rfind(b"\n", 0, at) + 1)
 
 
 class Reader:
     """The parentheses that are begun at a place of a text, each with its kind and with the indentation of its line."""
 
-    def __init__(self, text):
-        self.text, self.begun, self.indent = text, [], 0
+    def __init__(self, text: bytes) -> None:
+        self.text, self.indent = text, 0
+        self.begun: list[tuple[str, int]] = []
 
-    def in_call(self):
+    def in_call(self) -> bool:
         return bool(self.begun) and self.begun[-1][0] == CALL
 
-    def in_text(self):
+    def in_text(self) -> bool:
         return bool(self.begun) and self.begun[-1][0] == TEXT
 
-    def looks_wrong(self, at, ended):
+    def looks_wrong(self, at: int, ended: str | None) -> bool:
         """Whether what begins at this place seldom stands there, after the end of this kind of parenthesis, if any."""
         byte, first = self.text[at : at + 1], is_first(self.text, at)
         before = self.text[:at].rstrip(b" \t\r\n")[-1:] or b","
@@ -52,7 +57,7 @@ class Reader:
             return ended == CODE
         return ended != CALL and not self.in_text()
 
-    def pass_by(self, at):
+    def pass_by(self, at: int) -> tuple[str | None, bool]:
         """Passes the byte at this place; what it ends, if it is a ), and whether that has its (."""
         byte = self.text[at : at + 1]
         if is_first(self.text, at):
@@ -65,15 +70,20 @@ class Reader:
         return None, True
 
 
-def advice(text):
+def advice(text: bytes) -> Advice | None:
     """Words and a place, which is that before which a parenthesis is missing; None where each has its match."""
-    reader, ended, end, opened, weakly, closed = Reader(text), None, 0, None, None, None
+    reader, end = Reader(text), 0
+    ended: str | None = None
+    opened: Advice | None = None
+    weakly: Advice | None = None
+    closed: Advice | None = None
     for at in range(len(text)):
         if text[at : at + 1] in (b" ", b"\t", b"\r", b"\n"):
             continue
         if reader.looks_wrong(at, ended):
             opened = opened or (MISSING_CLOSING, end)
-            closed = closed or (ended and (SURPLUS_CLOSING, end - 1))
+            if ended:
+                closed = closed or (SURPLUS_CLOSING, end - 1)
         if text[at : at + 1] == b"(" and text[at - 1 : at] == b"(":
             opened = opened or (SURPLUS_OPENING, at)
         elif text[at : at + 1] == b"(" and at and text[at - 1] not in b"#,) \t\r\n":

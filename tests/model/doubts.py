@@ -3,8 +3,13 @@ written from the table of doubts, and shares nothing with trac.
 
 The place of a byte is where it was read; one that a call makes has the place of that call's name, and one of the idle
 program that of the text which it reads."""
+from __future__ import annotations
+
+from collections.abc import Iterable
+from typing import Any
+
 from model.advice import advice
-from model.machine import GAP, IDLE, NEED_FORM, Machine, numeral, plain
+from model.machine import GAP, IDLE, NEED_FORM, Call, Done, Form, Machine, Text, numeral, plain
 
 DIGITS = b"0123456789"
 # How many arguments a primitive uses, its name not counted; None: all that there are. `cl` is judged by its form.
@@ -16,7 +21,7 @@ USES = {
 NUMBERS = {"ad": (1, 2), "su": (1, 2), "ml": (1, 2), "dv": (1, 2), "gr": (1, 2), "cn": (2,), "bs": (1,), "br": (1,)}
 
 
-def shown(text):
+def shown(text: bytes) -> bytes:
     """A text as it is said: escaped, and cut to 32 columns."""
     if not text:
         return b"(an empty text)"
@@ -31,11 +36,11 @@ def shown(text):
     return b"".join(pieces) + b".."
 
 
-def bare(name):
+def bare(name: bytes) -> bytes:
     return bytes(byte for byte in name.lower() if byte not in b" \t\r\n")
 
 
-def is_slip(one, other):
+def is_slip(one: bytes, other: bytes) -> bool:
     """Whether a name of five bytes or more becomes the other one by one byte more or less, another one, or two
     swapped, which are not digits."""
     shorter, longer = sorted([one, other], key=len)
@@ -54,12 +59,12 @@ def is_slip(one, other):
     )
 
 
-def unended(count):
+def unended(count: int) -> bytes:
     """Of so many calls that never end."""
     return b"1 call was begun and never ended" if count == 1 else b"%d calls were begun and never ended" % count
 
 
-def place_of(call, k):
+def place_of(call: Call, k: int) -> Any:
     """Where an argument begins, or where the name does; of a call without a name where that begins."""
     for text in (call.argument(k), call.argument(0)):
         if text:
@@ -67,7 +72,7 @@ def place_of(call, k):
     return call.begun
 
 
-def unused(call, form):
+def unused(call: Call, form: Form | None) -> int | None:
     """The first argument that nothing uses, if there is one; `cl` uses as many as the gaps of its form have
     numbers."""
     uses = USES.get(call.name)
@@ -79,30 +84,35 @@ def unused(call, form):
 class Doubter(Machine):
     """A program with its input, the rest of it, and the doubts that its steps gave so far."""
 
-    def __init__(self, tape, bits=128):
+    doubts: list[tuple[int, bytes, int | None]]
+    told: set[tuple[str | tuple[str, int], int]]
+    advised: int | None
+    defined: dict[bytes, int | None]
+
+    def __init__(self, tape: bytes, bits: int = 128) -> None:
         self.doubts, self.told, self.scanned, self.advised, self.defined = [], set(), (0, b""), None, {}
         super().__init__(tape, bits)
 
     # ---- places
 
-    def idle(self):
+    def idle(self) -> Text:
         """The bytes of the idle program stand where the text begins that it reads."""
         return [(byte, self.start(self.position)) for byte in IDLE]
 
-    def of_tape(self, place, call):
+    def of_tape(self, place: int, call: Call) -> int:
         return place
 
-    def made(self, values, call):
+    def made(self, values: Iterable[int], call: Call) -> Text:
         return [(value, place_of(call, 0)) for value in values]
 
-    def start(self, first):
+    def start(self, first: int) -> int:
         """Where a text begins that is read from this byte on: the first one that is no blank, tab or line end."""
         start = first
         while start < len(self.tape) and self.tape[start] in b" \t\r\n":
             start += 1
         return start if start < len(self.tape) else first
 
-    def do_rs(self, call):
+    def do_rs(self, call: Call) -> Text:
         first = self.position
         text = super().do_rs(call)
         # (the idle program's rs is in its ps, and nothing stands after that)
@@ -111,7 +121,7 @@ class Doubter(Machine):
             self.scanned = start, self.tape[start:max(start, first + len(text))]
         return text
 
-    def perform(self, call):
+    def perform(self, call: Call) -> Done:
         """Performs a call after its doubts are noted; a form is defined where the name stands of the call that first
         made it."""
         self.judge(call)
@@ -122,17 +132,17 @@ class Doubter(Machine):
 
     # ---- doubts
 
-    def meets_unended(self):
+    def meets_unended(self) -> None:
         count, (_, (name, *_), begun) = len(self.frames), self.frames[0]
         self.doubt(("unended", count), name[0][1] if name else begun, unended(count))
 
-    def meets_closing(self, carried):
+    def meets_closing(self, carried: int) -> None:
         self.doubt("closing", carried, b") ends no call")
 
-    def meets_opening(self, carried):
+    def meets_opening(self, carried: int) -> None:
         self.doubt("opening", carried, b"( is never closed")
 
-    def doubt(self, kind, place, words):
+    def doubt(self, kind: str | tuple[str, int], place: int, words: bytes) -> None:
         """Notes a doubt, once for each kind and place."""
         if (kind, place) not in self.told:
             self.told.add((kind, place))
@@ -142,15 +152,16 @@ class Doubter(Machine):
             if kind == "no form":
                 self.tell_near()
 
-    def tell_near(self):
+    def tell_near(self) -> None:
         """Notes where the form is defined whose name is nearly that of which there is none."""
         name = plain(self.frames[-1][1][1]) if len(self.frames[-1][1]) > 1 else b""
         near = sorted((not is_same, other) for other in self.forms for is_same in [bare(other) == bare(name)]
                       if is_same or is_slip(bare(other), bare(name)))
-        if near and self.defined[near[0][1]] is not None:
-            self.doubts.append((self.defined[near[0][1]], b"note: a form of nearly this name is defined here", None))
+        place = self.defined[near[0][1]] if near else None
+        if place is not None:
+            self.doubts.append((place, b"note: a form of nearly this name is defined here", None))
 
-    def advise(self):
+    def advise(self) -> None:
         """Notes which parenthesis is probably wrong in the text that the idle program read last, once for each
         text."""
         start, text = self.scanned
@@ -159,7 +170,7 @@ class Doubter(Machine):
         if given:
             self.doubts.append((start + given[1], b"note: " + given[0], None))
 
-    def judge(self, call):
+    def judge(self, call: Call) -> None:
         """Notes the doubts of a call that is performed next, in the order of the table."""
         name, form = call.name, self.form(call)
         says, first = shown(call.text(0)), shown(call.text(1))
@@ -182,7 +193,7 @@ class Doubter(Machine):
                     words = b"argument %d of %s is nowhere in the form %s" % (gap + 1, says, first)
                     self.doubt(("nowhere", gap + 1), place_of(call, gap + 1), words)
 
-    def judge_numbers(self, call, says):
+    def judge_numbers(self, call: Call, says: bytes) -> None:
         """Notes what counts as 0, and a result that does not fit."""
         for k in NUMBERS.get(call.name, ()):
             if call.text(k) and not numeral(call.text(k)):
@@ -192,7 +203,8 @@ class Doubter(Machine):
             self.doubt("result", place_of(call, 0), b"the result does not fit, and gives nothing")
 
 
-def spots(name, program, input_name="", more=b"", steps=10_000_000, bits=128):
+def spots(name: str, program: bytes, input_name: str = "", more: bytes = b"", steps: int = 10_000_000,
+          bits: int = 128) -> list[bytes]:
     """The lines that trac-lint must print of a program, and of what it reads after it."""
     machine = Doubter(program + more, bits)
     machine.run(steps)

@@ -13,14 +13,14 @@ TEXTS = ["a", "b", "x", "ab", "7", "-3", "12", "x5", "0", "", "9" * 40, "a b", "
 class Author:
     """Writes one program after the other."""
 
-    def __init__(self, seed):
+    def __init__(self, seed: int) -> None:
         self.random = random.Random(seed)
 
-    def text(self):
+    def text(self) -> str:
         """A few pieces, mostly one."""
         return "".join(self.random.choice(TEXTS) for _ in range(self.random.choice([1, 1, 1, 2, 3])))
 
-    def argument(self, depth):
+    def argument(self, depth: int) -> str:
         kind = self.random.random()
         if kind < 0.2:
             return self.random.choice(FORMS)
@@ -30,7 +30,7 @@ class Author:
             return "(" + self.body(depth - 1) + ")"
         return self.text()
 
-    def call(self, depth):
+    def call(self, depth: int) -> str:
         names = CLOSED if self.random.random() < 0.6 else NAMES
         name = self.random.choice(names)
         count = self.random.choice([0, 1, 2, 2, 3, 3, 4, 5])
@@ -40,12 +40,12 @@ class Author:
         sign = self.random.choice(["#(", "#(", "##("])
         return sign + ",".join([name] + arguments) + self.random.choice([")"] * 30 + ["", "))"])
 
-    def body(self, depth):
+    def body(self, depth: int) -> str:
         pieces = [self.call(depth) if self.random.random() < 0.6 else self.text()
                   for _ in range(self.random.choice([1, 1, 2, 3]))]
         return "".join(pieces)
 
-    def program(self):
+    def program(self) -> bytes:
         """Texts with their apostrophes, some of which are missing; now and then a loop or another meta character."""
         texts = [self.body(2) for _ in range(self.random.randint(1, 6))]
         if self.random.random() < 0.2:

@@ -3,19 +3,27 @@ the program was tried, and not from it.
 
 A way is a tuple of events, the latest first: the number of a step, what the step does, and what it did with the
 byte."""
-from model.machine import IDLE, Machine, plain
+from __future__ import annotations
+
+from collections.abc import Iterable
+from typing import Union
+
+from model.machine import IDLE, Byte, Call, Machine, Text, plain
 
 LOADED = "nothing is left: the idle program is loaded"
+# The number of a step, what it does, and what it did with the byte, or which it read; and a way.
+Event = tuple[int, str, Union[str, int]]
+Way = tuple[Event, ...]
 
 
-def written(argument):
+def written(argument: Text) -> bytes:
     """An argument as it would be written: in parentheses, if what a line of 80 columns shows of it has one or a
     comma."""
     text = plain(argument)
     return b"(" + text + b")" if any(mark in text[:81] for mark in b",()") else text
 
 
-def text_of(call):
+def text_of(call: Call) -> str:
     """A call as it would be written."""
     return (call.kind + b"(" + b",".join(map(written, call.arguments)) + b")").decode("latin-1")
 
@@ -23,46 +31,46 @@ def text_of(call):
 class Follower(Machine):
     """The model, whose input may go on."""
 
-    def __init__(self, tape, bits=128):
+    def __init__(self, tape: bytes, bits: int = 128) -> None:
         super().__init__(tape, bits, may_go_on=True)
 
-    def event(self, call, what):
+    def event(self, call: Call, what: str | int) -> Event:
         """That a call does this with a byte."""
         return self.steps, text_of(call), what
 
-    def idle(self):
+    def idle(self) -> Text:
         way = ((self.steps, LOADED, "makes it"),) if self.steps else ()
         return [(byte, way) for byte in IDLE]
 
-    def of_tape(self, place, call):
+    def of_tape(self, place: int, call: Call) -> Way:
         return (self.event(call, place),)
 
-    def made(self, values, call):
+    def made(self, values: Iterable[int], call: Call) -> Text:
         way = (self.event(call, "makes it"),)
         return [(value, way) for value in values]
 
-    def moved(self, text, call, what):
+    def moved(self, text: Iterable[Byte], call: Call, what: str) -> Text:
         event = self.event(call, what)
         return [(value, (event,) + way) for value, way in text]
 
 
 # ---- what is shown
 
-def cut(text, columns):
+def cut(text: str, columns: int) -> str:
     return text if len(text) <= columns else text[:columns - 2] + ".."
 
 
-def seen(text):
+def seen(text: str) -> str:
     """Bytes 32 to 126 but for these three are shown as themselves."""
     return "".join(char if " " <= char <= "~" and char not in "\\[]" else f"\\x{ord(char):02x}" for char in text)
 
 
-def place_in(tape, place):
+def place_in(tape: bytes, place: int) -> str:
     before = tape[:place]
     return f"line {before.count(10) + 1}, column {place - before.rfind(10)}"
 
 
-def piece_in(tape, place):
+def piece_in(tape: bytes, place: int) -> list[str]:
     """The line of a tape that has the byte at this place, cut around it, and `^` under it."""
     start, end = tape.rfind(b"\n", 0, place) + 1, (tape + b"\n").find(b"\n", place)
     before, rest = (seen(text.decode("latin-1")) for text in (tape[start:place], tape[place:end]))
@@ -73,7 +81,7 @@ def piece_in(tape, place):
     return [cut("FILE    " + before + rest, 80), " " * (8 + len(before)) + "^"]
 
 
-def lines_of(tape, step, call, what):
+def lines_of(tape: bytes, step: int, call: str, what: str | int) -> list[str]:
     """What is said of a call on a way; what it read is shown too."""
     head = (cut(f"{step}  {seen(call)}", 48) + "  ").ljust(34)
     if isinstance(what, int):
@@ -81,18 +89,21 @@ def lines_of(tape, step, call, what):
     return [cut(head + what, 80)]
 
 
-def way_of(machine, asked):
+def way_of(machine: Machine, asked: str) -> Way:
     """The way of the byte that `y` is asked to follow."""
+    way: Way
     if asked.startswith("#"):
-        return machine.output[int(asked[1:]) - 1][1]
-    if asked.startswith("."):
+        way = machine.output[int(asked[1:]) - 1][1]
+    elif asked.startswith("."):
         argument, place = map(int, asked[1:].split())
-        return machine.frames[-1][1][argument][place - 1][1]
-    name, place = asked.split()
-    return machine.forms[name.encode()].items[int(place) - 1][1]
+        way = machine.frames[-1][1][argument][place - 1][1]
+    else:
+        name, number = asked.split()
+        way = machine.forms[name.encode()].items[int(number) - 1][1]
+    return way
 
 
-def reply(machine, asked):
+def reply(machine: Machine, asked: str) -> list[str]:
     """The lines that `y` replies, of a way at most 30."""
     way = way_of(machine, asked)
     told = [lines_of(machine.tape, *event) for event in way]

@@ -1,5 +1,7 @@
 """A page in a browser without a window: in Chromium, spoken to by its DevTools protocol over two pipes, or in Firefox. Both
 classes have the same methods: become, load, script, press, insert, click_at, touch, choose_file, faults, picture, end."""
+from __future__ import annotations
+
 import base64
 import json
 import os
@@ -7,6 +9,7 @@ import select
 import shutil
 import subprocess
 import tempfile
+from typing import Any
 
 from firefox import Firefox  # noqa: F401
 from waiting import SILENCE, Gone, Waiting
@@ -18,7 +21,7 @@ CODES = {
 }
 
 
-def find():
+def find() -> str | None:
     """Chromium's command, or None."""
     return shutil.which("chromium") or shutil.which("chromium-browser")
 
@@ -32,19 +35,22 @@ class Browser(Waiting):
     """One page of it: at a size, light or dark, with forced colours, without motion, or without modules of WebAssembly."""
 
     name, is_slow = "Chromium", False
+    session: str | None
+    events: list[Any]
+    replies: dict[int, Any]
 
     @staticmethod
-    def is_here():
+    def is_here() -> bool:
         """Whether it is installed."""
         return find() is not None
 
-    def __init__(self, modules=True, **looks):
+    def __init__(self, modules: bool = True, **looks: Any) -> None:
         self.room = tempfile.mkdtemp(prefix="trac-page-browser-")
         for_it, to_it = os.pipe()
         from_it, by_it = os.pipe()
         command = [
             "bash", "-c", 'exec "${@:3}" 3<&"$1" 4>&"$2"', "-", str(for_it), str(by_it),
-            find(), "--headless=new", "--no-sandbox", "--disable-gpu", "--disable-dev-shm-usage", "--no-first-run",
+            find() or "", "--headless=new", "--no-sandbox", "--disable-gpu", "--disable-dev-shm-usage", "--no-first-run",
             "--remote-debugging-pipe", "--user-data-dir=" + self.room, *SETTINGS,
             # (without compiled code it has no modules either)
             *([] if modules else ["--js-flags=--jitless"]), "about:blank",
@@ -63,11 +69,12 @@ class Browser(Waiting):
             self.end()
             raise
 
-    def can_be(self, modules=True, **_):
+    def can_be(self, modules: bool = True, **_: object) -> bool:
         """Whether it can have these looks without a new process."""
         return modules == self.modules
 
-    def become(self, width=1280, height=800, dark=False, forced=False, still=False, modules=True):
+    def become(self, width: int = 1280, height: int = 800, dark: bool = False, forced: bool = False,
+               still: bool = False, modules: bool = True) -> None:
         """Opens an empty page with these looks."""
         looks = {"prefers-color-scheme": "dark" if dark else "light", "forced-colors": "active" if forced else "none",
                  "prefers-reduced-motion": "reduce" if still else "no-preference"}
@@ -75,7 +82,7 @@ class Browser(Waiting):
         self.size = {"width": width, "height": height, "deviceScaleFactor": 1, "mobile": width < 500}
         self.open()
 
-    def open(self):
+    def open(self) -> None:
         """Opens a page, in place of the one before, which is not asked."""
         self.session, old = None, self.target
         self.target = self.call("Target.createTarget", url="about:blank")["targetId"]
@@ -88,7 +95,7 @@ class Browser(Waiting):
         self.call("Emulation.setEmulatedMedia", features=self.looks)
         self.call("Emulation.setFocusEmulationEnabled", enabled=True)
 
-    def tell(self, method, **words):
+    def tell(self, method: str, **words: Any) -> int:
         """Tells it to do something. Returns the number of its reply."""
         self.number += 1
         message = {"id": self.number, "method": method, "params": words}
@@ -102,7 +109,7 @@ class Browser(Waiting):
             raise Gone("Chromium has ended") from None
         return self.number
 
-    def reply(self, number):
+    def reply(self, number: int) -> Any:
         """What it says to that."""
         while number not in self.replies:
             said = self.message()
@@ -117,14 +124,14 @@ class Browser(Waiting):
             raise OSError(str(said["error"]))
         return said["result"]
 
-    def call(self, method, **words):
+    def call(self, method: str, **words: Any) -> Any:
         """Has it do something, and returns what it says."""
         try:
             return self.reply(self.tell(method, **words))
         except Gone as fault:
             raise Gone("{} ({})".format(fault, method)) from None
 
-    def message(self):
+    def message(self) -> Any:
         """The next message."""
         while b"\0" not in self.read:
             if not select.select([self.reader], [], [], SILENCE)[0]:
@@ -137,7 +144,7 @@ class Browser(Waiting):
         message, self.read = self.read.split(b"\0", 1)
         return json.loads(message)
 
-    def load(self, file, place=""):
+    def load(self, file: str, place: str = "") -> None:
         """Loads a page, from a file if no address is given, and waits until it is there and shown."""
         if not self.is_new:
             self.open()
@@ -147,20 +154,20 @@ class Browser(Waiting):
         self.until("document.readyState === 'complete' && location.protocol !== 'about:'", "the page is loaded")
         self.frames()
 
-    def resize(self, width, height):
+    def resize(self, width: int, height: int) -> None:
         """Gives the page another size, and waits until it has it."""
         self.call("Emulation.setDeviceMetricsOverride", width=width, height=height, deviceScaleFactor=1, mobile=False)
         self.until("innerWidth === {} && innerHeight === {}".format(width, height), "{} by {} pixels".format(width, height))
         self.frames()
 
-    def script(self, text):
+    def script(self, text: str) -> Any:
         """The value of a script in the page; where that is a promise, of what it comes to."""
         said = self.call("Runtime.evaluate", expression=text, returnByValue=True, awaitPromise=True)
         if "exceptionDetails" in said:
             raise OSError(str(said["exceptionDetails"]))
         return said["result"].get("value")
 
-    def press(self, key, times=1, shift=False, control=False):
+    def press(self, key: str, times: int = 1, shift: bool = False, control: bool = False) -> None:
         """Presses a key."""
         sign = "" if control else {"Enter": "\r"}.get(key, key if len(key) == 1 else "")
         words = {"key": key, "code": key, "modifiers": 8 * shift + 2 * control,
@@ -169,16 +176,16 @@ class Browser(Waiting):
             self.call("Input.dispatchKeyEvent", type="keyDown" if sign else "rawKeyDown", text=sign, **words)
             self.call("Input.dispatchKeyEvent", type="keyUp", **words)
 
-    def insert(self, text):
+    def insert(self, text: str) -> None:
         """Writes a text where the focus is, in place of what is chosen there."""
         self.call("Input.insertText", text=text)
 
-    def click_at(self, x, y):
+    def click_at(self, x: float, y: float) -> None:
         """Clicks there by the mouse."""
         for kind in ("mousePressed", "mouseReleased"):
             self.call("Input.dispatchMouseEvent", type=kind, x=x, y=y, button="left", clickCount=1)
 
-    def touch(self, *places):
+    def touch(self, *places: tuple[float, float]) -> None:
         """Puts a finger down at the first place, draws it over the others, and takes it up."""
         kinds = ["touchStart"] + ["touchMove"] * (len(places) - 1)
         deeds = [(kind, [{"x": x, "y": y}]) for kind, (x, y) in zip(kinds, places)] + [("touchEnd", [])]
@@ -189,13 +196,13 @@ class Browser(Waiting):
         for kind, points in deeds[2:]:
             self.call("Input.dispatchTouchEvent", type=kind, touchPoints=points)
 
-    def choose_file(self, selector, path):
+    def choose_file(self, selector: str, path: str) -> None:
         """Gives a file to a control."""
         top = self.call("DOM.getDocument")["root"]["nodeId"]
         node = self.call("DOM.querySelector", nodeId=top, selector=selector)["nodeId"]
         self.call("DOM.setFileInputFiles", files=[path], nodeId=node)
 
-    def faults(self):
+    def faults(self) -> list[Any]:
         """What it wrote to its console, or asked or fetched, since the page was loaded."""
         names = ("Runtime.exceptionThrown", "Runtime.consoleAPICalled", "Log.entryAdded", "Page.javascriptDialogOpening")
         faults = [event for event in self.events if event.get("method") in names]
@@ -206,13 +213,13 @@ class Browser(Waiting):
                     faults.append(event)
         return faults
 
-    def picture(self, file):
+    def picture(self, file: str) -> None:
         """Keeps a screenshot."""
         data = self.call("Page.captureScreenshot", format="png")["data"]
         with open(file, "wb") as out:
             out.write(base64.b64decode(data))
 
-    def end(self):
+    def end(self) -> None:
         """Ends it."""
         try:
             self.session = None

@@ -2,7 +2,8 @@
 programs.
 
 A test is a `unittest.TestCase`, so `python3 -m unittest` runs it too; tests/run is the runner."""
-import collections
+from __future__ import annotations
+
 import os
 import pathlib
 import selectors
@@ -11,6 +12,9 @@ import subprocess
 import sys
 import tempfile
 import unittest
+from collections.abc import Callable, Iterable, Sequence
+from types import FrameType
+from typing import IO, Any, NamedTuple, Union
 
 from support.differing import Place, difference
 
@@ -24,31 +28,50 @@ SILENCE = 60
 # How many differences of a test are shown whole; how much is kept of what a program prints.
 SHOWN, KEPT = 3, 1 << 26
 
-# What a run printed, what it wrote to standard error, its status, and the command.
-Ran = collections.namedtuple("Ran", "output error status command")
+# A word of a command, and a method that is a test.
+Word = Union[str, bytes, pathlib.Path]
+Method = Callable[..., None]
+
+
+class Ran(NamedTuple):
+    """What a run printed, what it wrote to standard error, its status, and the command."""
+
+    output: bytes
+    error: bytes
+    status: int
+    command: str
+
+
+class Process(subprocess.Popen[bytes]):
+    """A process. Those of its streams that are used are pipes."""
+
+    stdin: IO[bytes]
+    stdout: IO[bytes]
+    stderr: IO[bytes]
 
 
 class Silent(AssertionError):
     """A program said nothing for too long."""
 
 
-def near(path):
+def near(path: str | os.PathLike[str]) -> str:
     """A path from the top of the repository, where it is in that."""
     path = os.fspath(path)
     return os.path.relpath(path, TOP) if path.startswith(os.fspath(TOP) + "/") else path
 
 
-def command_of(words):
+def command_of(words: Iterable[Word]) -> str:
     """A command as one would type it at the top."""
     return " ".join(shlex.quote(near(os.fsdecode(word))) for word in words)
 
 
-def ran(words, given=b"", piece=None, folder=TOP, **more):
+def ran(words: Sequence[Word], given: bytes | pathlib.Path = b"", piece: int | None = None,
+        folder: str | os.PathLike[str] = TOP, **more: Any) -> Ran:
     """Runs a command to its end. What it is given is a file, or bytes in one; or, in pieces of so many bytes, a
     pipe."""
     words = [os.fspath(word) for word in words]
     with tempfile.TemporaryFile() as file:
-        source = subprocess.PIPE if piece else file
+        source: int | IO[bytes] = subprocess.PIPE if piece else file
         if isinstance(given, pathlib.Path):
             given = given.read_bytes()
         if not piece:
@@ -58,7 +81,7 @@ def ran(words, given=b"", piece=None, folder=TOP, **more):
                                    **more)
         with process:
             try:
-                output, error = exchanged(process, given, piece)
+                output, error = exchanged(process, given, piece or 0)
             except Silent as fault:
                 process.kill()
                 raise Silent("{}: {}".format(command_of(words), fault)) from None
@@ -68,38 +91,39 @@ def ran(words, given=b"", piece=None, folder=TOP, **more):
         return Ran(output, error, process.returncode, command_of(words))
 
 
-def patience(seconds=SILENCE):
+def patience(seconds: float = SILENCE) -> float:
     """How many seconds a program may be silent now; or take, that may take so many where the machine has no more to
     do."""
     return seconds * max(1, os.getloadavg()[0] / len(os.sched_getaffinity(0)))
 
 
-def exchanged(process, given, piece):
+def exchanged(process: subprocess.Popen[bytes], given: bytes, piece: int) -> list[bytes]:
     """Gives a process its input in pieces, if it is to have it so, and takes what it writes; it must not be silent
     for long."""
-    written, at = {process.stdout: bytearray(), process.stderr: bytearray()}, 0
+    written, at = {stream: bytearray() for stream in (process.stdout, process.stderr) if stream}, 0
     with selectors.DefaultSelector() as ready:
         for stream in written:
-            ready.register(stream, selectors.EVENT_READ)
+            ready.register(stream, selectors.EVENT_READ, stream)
         if process.stdin:
             os.set_blocking(process.stdin.fileno(), False)
-            ready.register(process.stdin, selectors.EVENT_WRITE)
+            ready.register(process.stdin, selectors.EVENT_WRITE, process.stdin)
         while ready.get_map():
             seconds = patience()
             events = ready.select(seconds)
             if not events:
                 raise Silent("it was silent for {:.0f} seconds, and was ended".format(seconds))
             for key, _ in events:
-                if key.fileobj is process.stdin:
-                    at += put(process.stdin, given[at:at + piece])
+                stream = key.data
+                if stream is process.stdin:
+                    at += put(stream, given[at:at + piece])
                     is_done = at >= len(given)
                 else:
                     part = os.read(key.fd, 1 << 16)
-                    written[key.fileobj] += part[:max(KEPT - len(written[key.fileobj]), 0)]
+                    written[stream] += part[:max(KEPT - len(written[stream]), 0)]
                     is_done = not part
                 if is_done:
-                    ready.unregister(key.fileobj)
-                    key.fileobj.close()
+                    ready.unregister(stream)
+                    stream.close()
     try:
         process.wait(patience())
     except subprocess.TimeoutExpired:
@@ -107,7 +131,7 @@ def exchanged(process, given, piece):
     return [bytes(text) for text in written.values()]
 
 
-def put(stream, piece):
+def put(stream: IO[bytes], piece: bytes) -> int:
     """Writes a piece; how many bytes are done with: all, where nobody reads any more."""
     try:
         return os.write(stream.fileno(), piece)
@@ -119,37 +143,40 @@ class Case(unittest.TestCase):
     """A test. Its name is that of its suite, which is its module's if the class says nothing else, and after a dot
     its own."""
 
-    suite = None
+    suite: str | None = None
     # about how many seconds it takes, if these are many: the longest begin first
-    seconds = 0
+    seconds: float = 0
     # whether it takes the programs
     takes_programs = True
 
-    def __init__(self, method="runTest"):
+    def __init__(self, method: str = "runTest") -> None:
         super().__init__(method)
-        self.held, self.failed, self.faults, self.told, self.cut = 0, 0, [], set(), 0
+        self.held, self.failed, self.cut = 0, 0, 0
+        self.faults: list[str] = []
+        self.told: set[str] = set()
 
     @property
-    def name(self):
+    def name(self) -> str:
         """Its name."""
         suite = self.suite or type(self).__module__.rsplit(".", 1)[-1].replace("test_", "", 1)
         method = getattr(type(self), self._testMethodName, None)
-        return suite + "." + getattr(method, "own_name", worded(self._testMethodName))
+        own_name: str = getattr(method, "own_name", worded(self._testMethodName))
+        return suite + "." + own_name
 
-    def __str__(self):
+    def __str__(self) -> str:
         return self.name
 
-    def tearDown(self):
+    def tearDown(self) -> None:
         if self.cut:
             self.faults.append("{} more differences".format(self.cut))
         if self.faults:
             self.fail("\n".join(self.faults))
 
-    def well(self):
+    def well(self) -> None:
         """Counts a check that held."""
         self.held += 1
 
-    def bad(self, what, lines=()):
+    def bad(self, what: str, lines: Sequence[str] = ()) -> None:
         """Keeps what failed. The same difference is shown once."""
         what = "{} [{}:{}]".format(what, *self.where())
         text = "\n".join(lines)
@@ -163,9 +190,10 @@ class Case(unittest.TestCase):
             if text:
                 self.told.add(text)
 
-    def where(self):
+    def where(self) -> tuple[str, int]:
         """The file and line of the test that is under way."""
-        frame, found = sys._getframe(), (near(sys.modules[type(self).__module__].__file__), 1)
+        frame: FrameType | None = sys._getframe()
+        found = near(sys.modules[type(self).__module__].__file__ or ""), 1
         while frame:
             file = os.path.basename(frame.f_code.co_filename)
             if file.startswith("test_"):
@@ -173,15 +201,16 @@ class Case(unittest.TestCase):
             frame = frame.f_back
         return found
 
-    def holds(self, what, holds):
+    def holds(self, what: str, holds: object) -> bool:
         """A check of anything."""
         if holds:
             self.well()
         else:
             self.bad("does not hold: " + what)
-        return holds
+        return bool(holds)
 
-    def same(self, what, got, wanted, place=None, given="given"):
+    def same(self, what: str, got: str | bytes, wanted: str | bytes, place: Place | None = None,
+             given: str = "given") -> None:
         """A check of a text: it is what was wanted, which stands there."""
         if got == wanted:
             self.well()
@@ -189,14 +218,15 @@ class Case(unittest.TestCase):
             got, wanted = (it.encode() if isinstance(it, str) else it for it in (got, wanted))
             self.bad(what, difference(wanted, got, place or Place(*self.where(), is_whole=True), given))
 
-    def ends(self, what, run, output=b"", status=0, error=b"", place=None):
+    def ends(self, what: str, run: Ran, output: bytes = b"", status: int = 0, error: bytes = b"",
+             place: Place | None = None) -> None:
         """Checks of a run: how it ended, what it printed, and what it wrote to standard error."""
         what = "{}: {}".format(what, run.command)
         self.status(what, run, status)
         self.same(what, run.output, output, place, "printed")
         self.same(what + ": standard error", run.error, error, None, "written to standard error")
 
-    def status(self, what, run, status):
+    def status(self, what: str, run: Ran, status: int) -> None:
         """A check of how a run ended."""
         if run.status == status:
             self.well()
@@ -205,57 +235,58 @@ class Case(unittest.TestCase):
             self.bad("{}: status {}, and not {}, with {!r} on standard error".format(what, run.status, status, said))
 
 
-def worded(method):
+def worded(method: str) -> str:
     """The name of a method in the name of its test."""
     return method.replace("test_", "", 1).replace("_", "-")
 
 
-def each(names):
+def each(names: Iterable[str]) -> Callable[[Method], Method]:
     """Makes of a method that does something with a name a test of each of these names; it follows the method's own
     name, unless that is `test`."""
 
-    def keep(method):
-        method.names = list(names)
+    def keep(method: Method) -> Method:
+        setattr(method, "names", list(names))
         return method
 
     return keep
 
 
-def tests(kind):
+def tests(kind: type[Case]) -> type[Case]:
     """Gives a class of tests those that `each` asked for."""
     for name, method in list(vars(kind).items()):
         for it in getattr(method, "names", ()):
-            def test(self, method=method, it=it):
+            def test(self: Case, method: Method = method, it: str = it) -> None:
                 method(self, it)
 
-            test.own_name = it if name == "test" else worded(name) + "-" + it
-            setattr(kind, "test_" + test.own_name, test)
+            own_name = it if name == "test" else worded(name) + "-" + it
+            setattr(test, "own_name", own_name)
+            setattr(kind, "test_" + own_name, test)
         if hasattr(method, "names"):
             delattr(kind, name)
     return kind
 
 
-def stems(folder, ending=".trac"):
+def stems(folder: str | os.PathLike[str], ending: str = ".trac") -> list[str]:
     """The names of the files of a folder that have this ending, without it."""
     return sorted(file.name[:-len(ending)] for file in pathlib.Path(folder).iterdir() if file.name.endswith(ending))
 
 
-def words_in(file):
+def words_in(file: pathlib.Path) -> list[str]:
     """The words of a file, or none where it is not there."""
     return file.read_text(encoding="utf-8").split() if file.exists() else []
 
 
-def bytes_in(file, default=b""):
+def bytes_in(file: pathlib.Path, default: bytes = b"") -> bytes:
     """What is in a file, or this where it is not there."""
     return file.read_bytes() if file.exists() else default
 
 
-def lined(lines):
+def lined(lines: Iterable[str]) -> bytes:
     """Lines, each with its end."""
     return "".join(line + "\n" for line in lines).encode()
 
 
-def scratch(test):
+def scratch(test: unittest.TestCase) -> pathlib.Path:
     """A folder that goes when the test ends."""
     folder = tempfile.TemporaryDirectory(prefix="trac-test-")
     test.addCleanup(folder.cleanup)

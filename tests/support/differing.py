@@ -1,8 +1,11 @@
 """Two texts that differ, as a unified diff of few lines around the first byte that differs, with the file and line
 where what was wanted stands."""
+from __future__ import annotations
+
 import difflib
 import os
 import re
+from collections.abc import Sequence
 
 # How many lines a difference has at most, how long these are, and how many bytes before and after what differs, and
 # of that, are looked at.
@@ -15,25 +18,23 @@ class Place:
     """Where what was wanted stands: a file, and the line in it of each line of the text, or the line of the first
     one."""
 
-    def __init__(self, file, lines=1, is_whole=False):
+    def __init__(self, file: str | os.PathLike[str], lines: int | Sequence[int] = 1, is_whole: bool = False) -> None:
         self.file, self.lines, self.is_whole = os.fspath(file), lines, is_whole
 
-    def line(self, index):
+    def line(self, index: int) -> int:
         """The line in the file of the line of the text that has this index, or of the last one."""
-        if self.is_whole:
-            return self.lines
         if isinstance(self.lines, int):
-            return self.lines + index
+            return self.lines if self.is_whole else self.lines + index
         return self.lines[min(index, len(self.lines) - 1)] if self.lines else 1
 
 
-def seen(text):
+def seen(text: bytes) -> str:
     """Bytes as a person can read them."""
     signs = text.decode("utf-8", "backslashreplace")
     return "".join(sign if sign.isprintable() else sign.encode("unicode_escape").decode() for sign in signs)
 
 
-def first_difference(one, other):
+def first_difference(one: bytes, other: bytes) -> int:
     """How many bytes two texts have in common at their front."""
     low, high = 0, min(len(one), len(other))
     while low < high:
@@ -45,7 +46,7 @@ def first_difference(one, other):
     return low
 
 
-def last_difference(one, other, front):
+def last_difference(one: bytes, other: bytes, front: int) -> int:
     """How many bytes they have in common at their back, without those at their front."""
     low, high = 0, min(len(one), len(other)) - front
     while low < high:
@@ -57,7 +58,7 @@ def last_difference(one, other, front):
     return low
 
 
-def start_before(text, place):
+def start_before(text: bytes, place: int) -> int:
     """Where some lines before a place begin, or less where these are long."""
     least, start = max(place - BESIDE, 0), place
     for _ in range(CONTEXT + 1):
@@ -68,7 +69,7 @@ def start_before(text, place):
     return start + 1
 
 
-def end_after(text, place):
+def end_after(text: bytes, place: int) -> int:
     """Where some lines after a place end, or less where these are long."""
     most, end = min(place + BESIDE, len(text)), place
     for _ in range(CONTEXT + 1):
@@ -79,7 +80,7 @@ def end_after(text, place):
     return end
 
 
-def lines_in(text, start, end):
+def lines_in(text: bytes, start: int, end: int) -> list[str]:
     """The lines of a part of a text, as they are shown: of those that are too long each piece by itself."""
     lines = text[start:min(end, start + WITHIN)].split(b"\n")
     last = lines.pop()
@@ -90,7 +91,7 @@ def lines_in(text, start, end):
             for line in shown for at in range(0, max(len(line), 1), WIDTH)]
 
 
-def difference(wanted, got, place, given):
+def difference(wanted: bytes, got: bytes, place: Place, given: str) -> list[str]:
     """The lines that tell how what was given differs from what was wanted, which stands there."""
     front = first_difference(wanted, got)
     back = last_difference(wanted, got, front)
@@ -98,7 +99,7 @@ def difference(wanted, got, place, given):
     parts = lines_in(wanted, start, end), lines_in(got, start, end - len(wanted) + len(got))
     before = wanted.count(b"\n", 0, start)
 
-    def numbered(line):
+    def numbered(line: str) -> str:
         found = re.match(r"@@ -(\d+).*@@$", line)
         if not found:
             return line

@@ -1,4 +1,6 @@
 """A page in Firefox without a window, spoken to by its Marionette protocol over a socket."""
+from __future__ import annotations
+
 import base64
 import json
 import os
@@ -7,6 +9,8 @@ import socket
 import subprocess
 import tempfile
 import time
+from collections.abc import Sequence
+from typing import Any
 
 from waiting import SILENCE, Gone, Missed, Waiting
 
@@ -60,7 +64,7 @@ return [...own.map(words), ...window.askedFor];
 """
 
 
-def find():
+def find() -> str | None:
     """Firefox's command, or None."""
     return shutil.which("firefox-esr") or shutil.which("firefox")
 
@@ -71,16 +75,17 @@ class Firefox(Waiting):
     name, is_slow = "Firefox", True
 
     @staticmethod
-    def is_here():
+    def is_here() -> bool:
         """Whether it is installed."""
         return find() is not None
 
-    def __init__(self, **looks):
-        self.room, self.socket = tempfile.mkdtemp(prefix="trac-page-browser-"), None
+    def __init__(self, **looks: Any) -> None:
+        self.room = tempfile.mkdtemp(prefix="trac-page-browser-")
+        self.socket: socket.socket | None = None
         with open(os.path.join(self.room, "user.js"), "w") as settings:
             for name, value in SETTINGS.items():
                 settings.write("user_pref({}, {});\n".format(json.dumps(name), json.dumps(value)))
-        command = [find(), "--headless", "--marionette", "--remote-allow-system-access", "--no-remote", "--profile", self.room]
+        command = [find() or "", "--headless", "--marionette", "--remote-allow-system-access", "--no-remote", "--profile", self.room]
         nothing = subprocess.DEVNULL
         self.process = subprocess.Popen(command + ["about:blank"], stdin=nothing, stdout=nothing, stderr=nothing)
         try:
@@ -94,11 +99,12 @@ class Firefox(Waiting):
             self.end()
             raise Gone("Firefox does not begin: {}".format(fault)) from None
 
-    def can_be(self, **_):
+    def can_be(self, **_: object) -> bool:
         """Whether it can have these looks without a new process."""
         return True
 
-    def become(self, width=1280, height=800, dark=False, forced=False, still=False, modules=True):
+    def become(self, width: int = 1280, height: int = 800, dark: bool = False, forced: bool = False,
+               still: bool = False, modules: bool = True) -> None:
         """Opens an empty page with these looks."""
         self.call("WebDriver:Navigate", url="about:blank")
         self.inside(LOOKS, width, height, {
@@ -113,7 +119,7 @@ class Firefox(Waiting):
         self.until("[innerWidth, innerHeight, ...{}.map((one) => matchMedia(`(${{one}})`).matches)].join() === '{}'".format(
             list(asked), ",".join(str(one).lower() for one in wanted)), "these looks")
 
-    def port(self):
+    def port(self) -> int:
         """Where it listens, once it does."""
         place, end = os.path.join(self.room, "MarionetteActivePort"), time.monotonic() + SILENCE
         while time.monotonic() < end:
@@ -127,7 +133,7 @@ class Firefox(Waiting):
             time.sleep(0.01)
         raise Gone("it does not listen")
 
-    def message(self):
+    def message(self) -> Any:
         """The next message: its length, a colon, and JSON."""
         while b":" not in self.read:
             self.more()
@@ -137,8 +143,9 @@ class Firefox(Waiting):
         message, self.read = self.read[:int(length)], self.read[int(length):]
         return json.loads(message)
 
-    def more(self):
+    def more(self) -> None:
         """Takes more of what it says."""
+        assert self.socket
         try:
             more = self.socket.recv(1 << 20)
         except TimeoutError:
@@ -148,8 +155,9 @@ class Firefox(Waiting):
             raise Gone("Firefox has ended")
         self.read += more
 
-    def call(self, method, **words):
+    def call(self, method: str, **words: Any) -> Any:
         """Has it do something, and returns what it says."""
+        assert self.socket
         self.number += 1
         message = json.dumps([0, self.number, method, words]).encode()
         try:
@@ -161,7 +169,7 @@ class Firefox(Waiting):
             raise OSError("{}: {}: {}".format(method, fault["error"], fault["message"]))
         return result
 
-    def inside(self, text, *words):
+    def inside(self, text: str, *words: object) -> Any:
         """The value of a script in the browser's own part."""
         self.call("Marionette:SetContext", value="chrome")
         try:
@@ -169,7 +177,7 @@ class Firefox(Waiting):
         finally:
             self.call("Marionette:SetContext", value="content")
 
-    def load(self, file, place=""):
+    def load(self, file: str, place: str = "") -> None:
         """Loads a page, from a file if no address is given, and waits until it is there and shown."""
         self.call("WebDriver:Navigate", url="about:blank")
         self.address = file if "://" in file else "file://" + file
@@ -177,34 +185,34 @@ class Firefox(Waiting):
         self.call("WebDriver:Navigate", url=self.address + place)
         self.frames()
 
-    def script(self, text):
+    def script(self, text: str) -> Any:
         """The value of an expression in the page."""
         return self.call("WebDriver:ExecuteScript", script="return ({}\n);".format(text), args=[])["value"]
 
-    def perform(self, kind, actions, **words):
+    def perform(self, kind: str, actions: list[dict[str, Any]], **words: Any) -> None:
         """What a finger, the mouse or the keys do, one after the other."""
         self.call("WebDriver:PerformActions", actions=[{"type": kind, "id": kind, "actions": actions, **words}])
 
-    def press(self, key, times=1, shift=False, control=False):
+    def press(self, key: str, times: int = 1, shift: bool = False, control: bool = False) -> None:
         """Presses a key."""
         held = ["Shift"] * shift + ["Control"] * control
         for _ in range(times):
             ways = [("keyDown", one) for one in held + [key]] + [("keyUp", one) for one in [key] + held[::-1]]
             self.perform("key", [{"type": way, "value": KEYS.get(one, one)} for way, one in ways])
 
-    def insert(self, text):
+    def insert(self, text: str) -> None:
         """Writes a text where the focus is, in place of what is chosen there."""
         self.script("document.execCommand('insertText', false, {})".format(json.dumps(text)))
 
-    def click_at(self, x, y):
+    def click_at(self, x: float, y: float) -> None:
         """Clicks there by the mouse."""
         self.point("mouse", [(x, y)])
 
-    def touch(self, *places):
+    def touch(self, *places: tuple[float, float]) -> None:
         """Puts a finger down at the first place, draws it over the others, and takes it up."""
         self.point("touch", places)
 
-    def point(self, kind, places):
+    def point(self, kind: str, places: Sequence[tuple[float, float]]) -> None:
         """Presses at the first place, and lets go at the last."""
         moves = [{"type": "pointerMove", "x": round(x), "y": round(y), "duration": 20 * (index > 0)}
                  for index, (x, y) in enumerate(places)]
@@ -213,22 +221,22 @@ class Firefox(Waiting):
         # (else a click soon after this one were the second of two, which choose a word)
         self.call("WebDriver:ReleaseActions")
 
-    def choose_file(self, selector, path):
+    def choose_file(self, selector: str, path: str) -> None:
         """Gives a file to a control."""
         element = self.call("WebDriver:FindElement", using="css selector", value=selector)["value"]
         self.call("WebDriver:ElementSendKeys", id=next(iter(element.values())), text=path)
 
-    def faults(self):
+    def faults(self) -> list[Any]:
         """What it wrote to its console, or asked for, since the page was loaded."""
         return [fault for fault in self.inside(FAULTS) if not fault.startswith(self.address.split("#")[0])]
 
-    def picture(self, file):
+    def picture(self, file: str) -> None:
         """Keeps a screenshot."""
         data = self.call("WebDriver:TakeScreenshot", full=False)["value"]
         with open(file, "wb") as out:
             out.write(base64.b64decode(data))
 
-    def end(self):
+    def end(self) -> None:
         """Ends it."""
         try:
             if self.socket:

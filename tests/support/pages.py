@@ -1,17 +1,26 @@
 """What the documents show: walks."""
-import collections
+from __future__ import annotations
+
 import re
+from typing import NamedTuple
 
 from support.cases import TOP
 
-# The words after the program's name, the lines that are typed, the replies, and the lines of the page where these
-# stand.
-Walk = collections.namedtuple("Walk", "words typed replies places")
+
+class Walk(NamedTuple):
+    """The words after the program's name, the lines that are typed, the replies, and the lines of the page where these
+    stand."""
+
+    words: list[str]
+    typed: list[str]
+    replies: list[str]
+    places: list[int]
 
 
-def walks_of(page, command):
+def walks_of(page: str, command: str) -> list[Walk]:
     """The walks that a page shows, each from a line that begins with this command to its `q`."""
-    found, walk = [], None
+    found: list[Walk] = []
+    walk: Walk | None = None
     for number, line in enumerate((TOP / page).read_text(encoding="utf-8").split("\n"), 1):
         if line.startswith("    " + command):
             walk = Walk(line[4 + len(command):].split(), [], [], [])

@@ -1,5 +1,8 @@
 """What tests wait for in a page, in any browser. All that a test asks for has its time: a slow machine is no fault."""
+import subprocess
 import time
+from collections.abc import Callable
+from typing import Any
 
 # So many seconds what was asked for may take to hold, and a browser to say something: only what hangs takes so long.
 PATIENCE = 300
@@ -15,9 +18,29 @@ class Missed(Exception):
 
 
 class Waiting:
-    """What is waited for; a browser's class has `script` and `name` beside that."""
+    """What is waited for; a browser's class has beside that what is only named here (`resize` Chromium's alone)."""
 
-    def until(self, test, what):
+    name: str
+    is_slow: bool
+    address: str
+    process: subprocess.Popen[bytes]
+    is_here: Callable[[], bool]
+    can_be: Callable[..., bool]
+    become: Callable[..., None]
+    call: Callable[..., Any]
+    load: Callable[..., None]
+    resize: Callable[[int, int], None]
+    script: Callable[[str], Any]
+    press: Callable[..., None]
+    insert: Callable[[str], None]
+    click_at: Callable[[float, float], None]
+    touch: Callable[..., None]
+    choose_file: Callable[[str, str], None]
+    faults: Callable[[], list[Any]]
+    picture: Callable[[str], None]
+    end: Callable[[], None]
+
+    def until(self, test: str, what: str) -> Any:
         """Waits until a script tells that this holds, and returns what it tells. Else what comes after cannot be tried."""
         end, pause = time.monotonic() + PATIENCE, 0.002
         while not (told := self.script(test)):
@@ -27,15 +50,15 @@ class Waiting:
             pause = min(pause * 1.5, 0.05)
         return told
 
-    def where(self):
+    def where(self) -> Any:
         """Where a page stands, for those who read that something did not come."""
         return self.script("['slider', 'note', 'ending', 'said'].map((id) => document.getElementById(id))"
                            ".map((it) => it?.value ?? it?.textContent ?? '').join(' | ')")
 
-    def frames(self):
+    def frames(self) -> None:
         """Waits until what was scrolled, changed in size or drawn for the next frame is there."""
         self.script("new Promise((done) => { let left = 4; const next = () => (left-- ? requestAnimationFrame(next) : done()); next(); })")
 
-    def rest(self, milliseconds):
+    def rest(self, milliseconds: int) -> None:
         """Lets those timers of the page come first that it has set for so many milliseconds at most."""
         self.script("new Promise((done) => setTimeout(done, {}))".format(milliseconds + 1))

@@ -1,11 +1,13 @@
 """What the page asks of the processor: whole programs, runs that are stopped, answers that come late, and forms under any
 names."""
+from __future__ import annotations
+
 import base64
 import glob
 import json
 import os
 
-from pages import TOP, check
+from pages import TOP, Deeds, check
 
 LONG = os.path.join(TOP, "programs", "examples", "long-way-back.trac")
 ENDLESS = os.path.join(TOP, "programs", "examples", "endless.trac")
@@ -55,7 +57,7 @@ MODULE = """(async () => {
 })()"""
 
 
-def read(name, otherwise=None):
+def read(name: str, otherwise: bytes | None = None) -> bytes:
     """The bytes of a file."""
     if otherwise is not None and not os.path.exists(name):
         return otherwise
@@ -63,21 +65,21 @@ def read(name, otherwise=None):
         return file.read()
 
 
-def check_programs(page):
+def check_programs(page: Deeds) -> None:
     """Whole programs, with what they print, by both widths of numbers."""
     page.script(MODULE)
     wrong = []
     for path in sorted(glob.glob(os.path.join(TOP, "tests", "data", "programs", "*.trac"))):
         name = path[:-len(".trac")]
-        wanted = [int(read(name + ".status", b"0")), read(name + ".out")]
-        for decimals, output in ((128, wanted[1]), (64, read(name + ".64", wanted[1]))):
+        wanted, wide = int(read(name + ".status", b"0")), read(name + ".out")
+        for decimals, output in ((128, wide), (64, read(name + ".64", wide))):
             status, printed = page.script("ranAs('{}', {})".format(base64.b64encode(read(path)).decode(), decimals))
-            if [status, base64.b64decode(printed)] != [wanted[0], output]:
+            if [status, base64.b64decode(printed)] != [wanted, output]:
                 wrong.append((name, decimals, status))
     check(not wrong, "whole programs: {}".format(wrong))
 
 
-def check_stop(page):
+def check_stop(page: Deeds) -> None:
     """Stop ends a run at once, and what comes late of it is dropped."""
     page.script(WATCH.format(leaves="false"))
     for _ in range(3):
@@ -98,7 +100,7 @@ def check_stop(page):
     check(said[0] == "again" and said[1].startswith("Done after 2") and said[3] == "27", "a late answer is dropped: {}".format(said))
 
 
-def check_jumps(page):
+def check_jumps(page: Deeds) -> None:
     """Of some jumps at once the last one counts."""
     page.put(read(LONG).decode())
     page.run()
@@ -116,7 +118,7 @@ def check_jumps(page):
     check(shown == "8,8", "where it stands after a jump that is stopped: {}".format(shown))
 
 
-def check_changes(page):
+def check_changes(page: Deeds) -> None:
     """The call that changed a form last, whatever its name."""
     page.type(CHANGING)
     page.run()
@@ -129,7 +131,7 @@ def check_changes(page):
         check(call in page.text("next"), "{!r} was changed by {}: {}".format(name, call, page.text("next")))
 
 
-def check_answers(page):
+def check_answers(page: Deeds) -> None:
     """All of it."""
     for part in (check_programs, check_jumps, check_changes, check_stop):
         part(page)

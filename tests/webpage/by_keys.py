@@ -2,7 +2,7 @@
 stays where it is."""
 import os
 
-from pages import FACTORIAL, IS_FOLLOWED, IS_GATHERED, TOP, check, opened
+from pages import FACTORIAL, IS_FOLLOWED, IS_GATHERED, TOP, Deeds, check, opened
 
 ENDLESS = os.path.join(TOP, "programs", "examples", "endless.trac")
 # A program that takes long.
@@ -20,12 +20,12 @@ IN_WAY = "document.activeElement.closest('.way-row') !== null"
 CHOSEN = "document.getElementById(document.getElementById('tree').getAttribute('aria-activedescendant'))"
 
 
-def focus(page, name):
+def focus(page: Deeds, name: str) -> None:
     """Gives the focus to what has an id, as Tab would."""
     page.script("document.getElementById('{}').focus()".format(name))
 
 
-def start(page):
+def start(page: Deeds) -> None:
     """Has the wrong factorial run, its calls listed, and where its 0 comes from; all of that by keys."""
     focus(page, "source")
     page.script("document.getElementById('source').select()")
@@ -38,14 +38,14 @@ def start(page):
     page.until(IN_WAY, "where it comes from has the focus")
 
 
-def check_order(page):
+def check_order(page: Deeds) -> None:
     """Tab goes over every control in the order in which the page is read; the tree of calls is one stop, and so are the tabs."""
     page.tab("tree")
     page.script("document.getElementById('help-button').getAttribute('aria-expanded') === 'true' || document.getElementById('help-button').click()")
     wanted = page.script(STOPS)
     page.script("(document.activeElement.blur(), getSelection().removeAllRanges(), document.querySelector('h1').tabIndex = -1, "
                 "document.querySelector('h1').focus())")
-    seen = []
+    seen: list[str] = []
     for _ in range(len(wanted)):
         # (the program takes Tab, unless Esc came before; here that would close the help, too)
         if seen[-1:] == ["source"]:
@@ -62,7 +62,7 @@ def check_order(page):
     page.script("document.getElementById('help-button').click()")
 
 
-def check_buttons(page):
+def check_buttons(page: Deeds) -> None:
     """Each button of the player by Enter, the slider by arrows, the number of a step by typing."""
     for name, unit, before, after in (
         ("start", "token", 100, 0), ("end", "token", 100, 276), ("back", "byte", 78, 77), ("forward", "byte", 77, 78),
@@ -88,7 +88,7 @@ def check_buttons(page):
     page.press("Escape")
 
 
-def check_playing(page):
+def check_playing(page: Deeds) -> None:
     """The player's button by Enter, in a run that plays for minutes."""
     again(page, "#(ad,1,1)" * 300 + "'")
     page.go(0)
@@ -101,7 +101,7 @@ def check_playing(page):
     check(page.text("play") == "play" and page.script(name) == "play", "it pauses: " + page.script(name))
 
 
-def check_others(page):
+def check_others(page: Deeds) -> None:
     """A step on the way of a byte, the other looks, a program of the list, a doubt, and earlier output."""
     page.tab("way")
     page.script("document.querySelector('#way-list [data-go]').focus()")
@@ -133,7 +133,7 @@ def check_others(page):
     page.until(IS_GATHERED, "the calls are listed")
 
 
-def again(page, text):
+def again(page: Deeds, text: str) -> None:
     """Types another program, and runs it."""
     focus(page, "source")
     page.script("document.getElementById('source').select()")
@@ -142,7 +142,7 @@ def again(page, text):
     page.until("document.activeElement.id === 'output' && /^(Done|A)/.test(document.getElementById('ending').textContent)", "it is run")
 
 
-def check_texts(page):
+def check_texts(page: Deeds) -> None:
     """Signs of each text that the page shows are chosen by arrows and followed by Enter."""
     page.go(90)
     for name, keys in (("neutral", 1), ("active", 3), ("begun", 1), ("rules", 6), ("output", 0)):
@@ -166,7 +166,7 @@ def check_texts(page):
     page.at(50, "who changed the form")
 
 
-def check_focus_stays(page):
+def check_focus_stays(page: Deeds) -> None:
     """What has the focus has it after a step: it is there, or what stands in its place is."""
     page.go(100)
     stops = page.script("[...document.querySelectorAll('#player [tabindex], #player button, #panels [tabindex], #panels button')]"
@@ -187,7 +187,7 @@ def check_focus_stays(page):
     check(stops > 15 and not dropped, "the focus was dropped by a step: {}".format(dropped))
 
 
-def check_tree(page):
+def check_tree(page: Deeds) -> None:
     """Arrows, Home, End and letters within the tree; places among the calls of the same call; a focus that scrolling keeps."""
     page.go(90)
     page.tab("tree")
@@ -218,7 +218,7 @@ def check_tree(page):
     page.press("Home")
 
 
-def check_switch(page):
+def check_switch(page: Deeds) -> None:
     """Keys of one sign can be switched off, from the help, by keys; the others go on."""
     page.go(100)
     page.script("document.activeElement.blur()")
@@ -245,7 +245,7 @@ def check_switch(page):
     page.at(8, "s, after they are on again")
 
 
-def check_input(page):
+def check_input(page: Deeds) -> None:
     """A dialogue by keys: a line, the question whether another may take its place, and the end of input."""
     focus(page, "source")
     page.script("document.getElementById('source').select()")
@@ -276,7 +276,7 @@ def check_input(page):
     page.until(FOCUS + " === 'output'", "the output has the focus then")
 
 
-def check_comes_back(page):
+def check_comes_back(page: Deeds) -> None:
     """The focus goes to the help and comes back; it stays where a way is shown anew, at `go on`, and where Escape stops a run."""
     again(page, open(FACTORIAL).read())
     page.go(100)
@@ -309,7 +309,7 @@ def check_comes_back(page):
     page.until(FOCUS + " === 'output'", "the output has the focus then")
 
 
-def check_by_keys(kind, file):
+def check_by_keys(kind: type[Deeds], file: str) -> None:
     """All that, in one browser."""
     with opened(kind, file) as page:
         start(page)

@@ -3,7 +3,7 @@ import glob
 import json
 import os
 
-from pages import TOP, check
+from pages import TOP, Deeds, check
 
 COURSE = os.path.join(TOP, "programs", "course")
 # A check that is stopped after a minute tells no more than how slow the machine is: so it may take an hour.
@@ -23,40 +23,41 @@ CHECKED = (
 )
 
 
-def read(name):
+def read(name: str) -> str:
     """The text of a file of the course."""
     with open(os.path.join(COURSE, name), encoding="utf-8", newline="") as file:
         return file.read()
 
 
-def has_words(shown, text):
+def has_words(shown: str, text: str) -> bool:
     """Whether all words of a text are shown."""
     return all(word in shown for word in text.replace("`", "").replace("*", "").split())
 
 
-def shows(page, title):
+def shows(page: Deeds, title: str) -> None:
     """Opens a lesson or an exercise from the list."""
     page.script("(() => {{ const list = document.getElementById('course'); "
                 "list.value = [...list.options].find((one) => one.text.trim() === {}).value; "
                 "list.dispatchEvent(new Event('change')); }})()".format(json.dumps(title)))
 
 
-def press(page, word):
+def press(page: Deeds, word: str) -> None:
     """Presses a button of what is open."""
     page.script("[...document.querySelectorAll('#lesson-text button')].find((one) => one.textContent === '{}').click()"
                 .format(word))
 
 
-def judged(page, program):
+def judged(page: Deeds, program: str) -> str:
     """What a check says of a program."""
     page.put(program)
     page.script("document.querySelector('.judged').replaceChildren()")
     press(page, "Check")
     page.until("!['', 'It is checked ..'].includes(document.querySelector('.judged').textContent)", "a check says something")
-    return page.script("document.querySelector('.judged').textContent")
+    said: str = page.script("document.querySelector('.judged').textContent")
+    return said
 
 
-def check_lessons(page):
+def check_lessons(page: Deeds) -> None:
     """Each lesson has its text, and its programs can be opened."""
     for path in sorted(glob.glob(os.path.join(COURSE, "[0-9]*", "lesson.md"))):
         text = read(path)
@@ -79,7 +80,7 @@ def check_lessons(page):
     check(page.text("lesson-title").startswith("Exercise 3.1 "), "after a lesson its exercise: " + page.text("lesson-title"))
 
 
-def check_exercises(page):
+def check_exercises(page: Deeds) -> None:
     """Of each exercise the solution is right, and the wrong one is not."""
     for folder in sorted(glob.glob(os.path.join(COURSE, "[0-9]*", "[0-9]*", ""))):
         shows(page, read(os.path.join(folder, "exercise.md")).split("\n")[0].lstrip("# "))
@@ -106,7 +107,7 @@ def check_exercises(page):
     check("#(ds,down," in unfolded[-1], "a solution: {}".format(unfolded))
 
 
-def check_failure(page):
+def check_failure(page: Deeds) -> None:
     """A run that fails can be walked through: on its input, and from its start."""
     shows(page, "8.1 " + read("08/1/exercise.md").split("\n")[0].split(" ", 2)[2])
     said = judged(page, read("08/1/wrong.trac").rstrip("\n"))
@@ -119,7 +120,7 @@ def check_failure(page):
     check(page.script("document.getElementById('lesson').hidden"), "the lesson is closed")
 
 
-def check_course(page):
+def check_course(page: Deeds) -> None:
     """All of it."""
     page.script(PATIENT)
     for part in (check_lessons, check_exercises, check_failure):

@@ -1,5 +1,5 @@
 """The program as it is edited: Tab sets lines in and out, Esc and then Tab leaves, undo brings back, find meets each place once."""
-from pages import check, opened
+from pages import Deeds, check, opened
 
 SOURCE = "document.getElementById('source')"
 VALUE = SOURCE + ".value"
@@ -8,18 +8,18 @@ FOCUS = "document.activeElement.id"
 TEXT = "#(ds,a,(\n#(ps,b)\n#(ps,c)\n))'"
 
 
-def choose(page, start, end):
+def choose(page: Deeds, start: int, end: int) -> None:
     """Chooses a part of the program."""
     page.script("({0}.focus(), {0}.setSelectionRange({1}, {2}))".format(SOURCE, start, end))
 
 
-def undo(page, wanted):
+def undo(page: Deeds, wanted: str) -> None:
     """Ctrl+Z brings back a text."""
     page.press("z", control=True)
     check(page.script(VALUE) == wanted, "undo brings back {!r}, not {!r}".format(wanted, page.script(VALUE)))
 
 
-def check_tab(page):
+def check_tab(page: Deeds) -> None:
     """Tab at the caret, and over lines; Shift+Tab takes one tab away; undo goes back over each."""
     page.type(TEXT)
     choose(page, 9, 9)
@@ -46,7 +46,7 @@ def check_tab(page):
     check(page.text("output") == "", "the program runs")
 
 
-def check_leaving(page):
+def check_leaving(page: Deeds) -> None:
     """Esc and then Tab leaves the program; Shift+Tab so, too; and a text for reading only holds nobody."""
     for shift, after in ((False, True), (True, False)):
         choose(page, 0, 0)
@@ -63,7 +63,7 @@ def check_leaving(page):
     page.script(SOURCE + ".readOnly = false")
 
 
-def check_find(page):
+def check_find(page: Deeds) -> None:
     """A search of the browser meets a place of the program once: the painted text is not for it."""
     page.type("#(ps,wonderful)'")
     check(page.script("document.getElementById('paint').inert"), "the painted text is inert")
@@ -80,7 +80,7 @@ def check_find(page):
     check("painted" not in places and places.count("program") <= 1, "it is met: {}".format(places or "by the browser's own search alone"))
 
 
-def check_editing(kind, file):
+def check_editing(kind: type[Deeds], file: str) -> None:
     """All that."""
     with opened(kind, file) as page:
         for part in (check_tab, check_leaving, check_find):

@@ -22,7 +22,7 @@ LATER = {
 MOST_LINES = 300
 
 
-def check_features():
+def check_features() -> None:
     """Each part of the page, line by line."""
     for path in sorted(glob.glob(os.path.join(TOP, "web", "*"))):
         pattern = LATER.get(path.rsplit(".", 1)[-1])

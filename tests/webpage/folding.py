@@ -1,14 +1,15 @@
 """What is folded, and what is looked for anew: the steps of the idle program, and calls before those that are listed."""
 import os
+from collections.abc import Iterable
 
-from pages import TOP, check, opened
+from pages import TOP, Deeds, check, opened
 
 LONG = os.path.join(TOP, "programs", "examples", "long-way-back.trac")
 PRESSED = "document.getElementById('idle').getAttribute('aria-pressed')"
 ROWS = "[...document.querySelectorAll('#tree .row .number')].map((it) => it.textContent)"
 
 
-def steps(page, key, wanted):
+def steps(page: Deeds, key: str, wanted: Iterable[int]) -> None:
     """A key goes to these steps, one after the other."""
     page.script("document.activeElement.blur()")
     for step in wanted:
@@ -16,7 +17,7 @@ def steps(page, key, wanted):
         page.at(step, key)
 
 
-def check_idle(page):
+def check_idle(page: Deeds) -> None:
     """By bytes and by tokens the idle program's steps are one; a button or a key has each of them shown, and says so."""
     page.type("#(ps,a)'")
     page.run()
@@ -39,7 +40,7 @@ def check_idle(page):
     steps(page, "b", (15,))
 
 
-def check_listed(page):
+def check_listed(page: Deeds) -> None:
     """Of a run with more calls than are listed, those around the cursor are listed anew."""
     page.put(open(os.path.join(TOP, "programs", "examples", "endless.trac")).read())
     page.tab("tree")
@@ -56,7 +57,7 @@ def check_listed(page):
     page.until("document.getElementById('tree-count').textContent.endsWith(', the last of the run')", "at the end the last ones are")
 
 
-def check_folding(kind, file):
+def check_folding(kind: type[Deeds], file: str) -> None:
     """All that."""
     with opened(kind, file) as page:
         for part in (check_idle, check_listed):

@@ -1,10 +1,12 @@
 """Pages that trac page makes of programs: what they show when they are opened, from a file and without a connection."""
+from __future__ import annotations
+
 import os
 import shutil
 import subprocess
 import tempfile
 
-from pages import FACTORIAL, IS_FOLLOWED, IS_GATHERED, TOP, check, opened, ready
+from pages import FACTORIAL, IS_FOLLOWED, IS_GATHERED, TOP, Deeds, check, opened, ready
 from share import body, held, link, shared
 from staying import LIT
 from strange import ASKING, ENDLESS, HOSTILE, HOSTILE_NAME
@@ -16,7 +18,7 @@ WIDE = b"#(ps,#(ad,9223372036854775807,1,Z))'"
 class Maker:
     """Makes pages of programs by trac page, of this page."""
 
-    def __init__(self, room, file):
+    def __init__(self, room: str, file: str) -> None:
         self.room, self.count = room, 0
         for name in "crates", "crates.txt", "out", "python", "tools":
             os.symlink(os.path.join(TOP, name), os.path.join(room, name))
@@ -24,14 +26,14 @@ class Maker:
         os.mkdir(os.path.join(room, "release"))
         os.symlink(file, os.path.join(room, "release", "trac.html"))
 
-    def keep(self, name, text):
+    def keep(self, name: bytes, text: bytes) -> bytes:
         """A file of a program."""
         place = os.path.join(os.fsencode(self.room), name)
         with open(place, "wb") as out:
             out.write(text)
         return place
 
-    def make(self, *words):
+    def make(self, *words: str | bytes) -> str:
         """The page that these words make."""
         self.count += 1
         place = os.path.join(self.room, "{}.html".format(self.count))
@@ -41,13 +43,13 @@ class Maker:
         return place
 
 
-def at_step(page, step):
+def at_step(page: Deeds, step: int) -> None:
     """It has opened at this step."""
     page.at(step, "it opens")
     check(page.script("document.getElementById('welcome').hidden"), "nobody is welcomed to a page of a program")
 
 
-def check_step(page, maker):
+def check_step(page: Deeds, maker: Maker) -> None:
     """A program at a step, with its name and its sentence; and then at its end, where its 0 is followed to where it was
     written."""
     page.load(maker.make("--step", "78", FACTORIAL))
@@ -71,7 +73,7 @@ def check_step(page, maker):
     check(page.script(LIT) == "25,0", "the byte that is lit: {}".format(page.script(LIT)))
 
 
-def check_hostile(page, maker):
+def check_hostile(page: Deeds, maker: Maker) -> None:
     """Bytes that are no text, and look like markup, arrive as they are; so does the name."""
     page.load(maker.make(maker.keep(HOSTILE_NAME, HOSTILE)))
     ready(page)
@@ -82,7 +84,7 @@ def check_hostile(page, maker):
     check(HOSTILE in data, "its bytes: {}".format(data[:60]))
 
 
-def check_input(page, maker):
+def check_input(page: Deeds, maker: Maker) -> None:
     """What it reads is there. Another program runs there too, and can be brought back where the page is opened again;
     and a link to the page is opened."""
     mine, value = "#(ps,mine)'", "document.getElementById('source').value"
@@ -105,7 +107,7 @@ def check_input(page, maker):
     check(page.script(value) == "#(ps,linked)'", "the program of the link: " + page.script(value))
 
 
-def check_budget(page, maker):
+def check_budget(page: Deeds, maker: Maker) -> None:
     """How many steps it takes."""
     page.load(maker.make("--budget", "1000", "--step", "5000", maker.keep(b"endless.trac", ENDLESS)))
     ready(page)
@@ -116,7 +118,7 @@ def check_budget(page, maker):
     page.until("document.getElementById('ending').textContent.startsWith('After 2,001,000 steps')", "it goes on")
 
 
-def check_decimals(page, maker):
+def check_decimals(page: Deeds, maker: Maker) -> None:
     """How wide its numbers are: so a sum is the default, the page says why, and Share says what its link lacks."""
     page.load(maker.make("--decimals", "64", maker.keep(b"wide.trac", WIDE)))
     ready(page)
@@ -129,7 +131,7 @@ def check_decimals(page, maker):
     check("numbers have 64 bits here" in page.text("share-words"), "what the link lacks: " + page.text("share-words"))
 
 
-def check_given(kind, file):
+def check_given(kind: type[Deeds], file: str) -> None:
     """All that."""
     with tempfile.TemporaryDirectory(prefix="trac-webpage-test-") as room, opened(kind, file) as page:
         maker = Maker(room, file)

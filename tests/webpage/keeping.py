@@ -1,5 +1,5 @@
 """What is kept: the program over a reload, in the middle of typing too, its name and the looks; and over the opening of another."""
-from pages import check, opened, ready
+from pages import Deeds, check, opened, ready
 from waiting import Gone
 from window import pick
 
@@ -8,7 +8,7 @@ NAME = "document.getElementById('program-name').textContent"
 PAPER = "getComputedStyle(document.body).backgroundColor"
 
 
-def again(page, file):
+def again(page: Deeds, file: str) -> None:
     """Loads the page again, as a person does."""
     page.script("(document.documentElement.dataset.old = 'yes', setTimeout(() => location.reload()))")
     while True:
@@ -23,7 +23,7 @@ def again(page, file):
     ready(page)
 
 
-def check_draft(page, file):
+def check_draft(page: Deeds, file: str) -> None:
     """A reload keeps what was typed, with its name, and the looks."""
     pick(page, "hello.trac")
     page.script("(document.getElementById('source').focus(), document.getElementById('source').setSelectionRange(0, 0))")
@@ -43,7 +43,7 @@ def check_draft(page, file):
     check(page.script(PAPER) == before, "the looks before: {}".format(page.script(PAPER)))
 
 
-def check_undo(page):
+def check_undo(page: Deeds) -> None:
     """Another program is opened without a question, and Ctrl+Z brings back what was there; so does a button; and forth again."""
     page.type("#(ps,mine)'")
     for way in ("keys", "button"):
@@ -64,14 +64,14 @@ def check_undo(page):
     check(page.text("output") == "mine", "what was brought back runs: " + page.text("output"))
 
 
-def check_question(page):
+def check_question(page: Deeds) -> None:
     """A question has No first, so that Enter loses nothing."""
     page.script("document.getElementById('question').showModal()")
     check(page.script("document.activeElement.id") == "question-no", "No has the focus: " + page.script("document.activeElement.id"))
     page.script("document.getElementById('question').close()")
 
 
-def check_keeping(kind, file):
+def check_keeping(kind: type[Deeds], file: str) -> None:
     """All that."""
     with opened(kind, file) as page:
         check_draft(page, file)

@@ -3,12 +3,12 @@ import os
 import tempfile
 
 from given import Maker
-from pages import FACTORIAL, check, opened, ready
+from pages import FACTORIAL, Deeds, check, opened, ready
 
 NOT_RUN = "This takes the processor, which does not run in this browser."
 
 
-def check_writing(page, words):
+def check_writing(page: Deeds, words: str) -> None:
     """What is lacking is said; a program can be typed, and that it is not run is said too."""
     check(words in page.text("lacking"), "what is lacking: " + page.text("lacking"))
     page.type("#(ps,other)'")
@@ -17,7 +17,7 @@ def check_writing(page, words):
     check(page.script("document.getElementById('source').value") == "#(ps,other)'", "the program stays")
 
 
-def check_lacking(kind, file):
+def check_lacking(kind: type[Deeds], file: str) -> None:
     """Without WebAssembly; the page of a program shows that program."""
     with opened(kind, file, modules=False) as page, tempfile.TemporaryDirectory(prefix="trac-webpage-test-") as room:
         check_writing(page, "has no WebAssembly")
@@ -29,7 +29,7 @@ def check_lacking(kind, file):
         page.well("without WebAssembly")
 
 
-def check_forbidden(kind, file):
+def check_forbidden(kind: type[Deeds], file: str) -> None:
     """A policy forbids modules, or the Worker."""
     with open(file) as whole, tempfile.TemporaryDirectory(prefix="trac-webpage-test-") as room:
         text = whole.read()

@@ -1,7 +1,8 @@
 """How the page looks, as far as it can be computed: contrast, widths, large type, the colours of a system, and no motion."""
 import os
+from collections.abc import Callable, Iterable
 
-from pages import KEPT, check, opened
+from pages import KEPT, Deeds, check, opened
 
 # Colours that a person sees: of text on what is behind it, of controls' borders, and of the ring around what has the focus. The worst
 # pairs whose contrast is less than it should be.
@@ -112,14 +113,14 @@ LINES = """((selector) => {
 })"""
 
 
-def to_middle(page):
+def to_middle(page: Deeds) -> None:
     """The wrong factorial in a run, at a step that performs a call, with where its 0 comes from."""
     page.followed()
     page.go(90)
     page.until("document.getElementById('program-note').textContent.startsWith('here: ')", "the place in the program")
 
 
-def check_contrast(page):
+def check_contrast(page: Deeds) -> None:
     """Text 4.5, borders of controls and rings 3: as it is opened, in a run with the help, and with doubts at the first step."""
     looks = "dark" if page.script("matchMedia('(prefers-color-scheme: dark)').matches") else "light"
     counts = []
@@ -142,7 +143,7 @@ def check_contrast(page):
     check(counts[1] > 150 and counts[0] > 10, "texts that are looked at: {}".format(counts))
 
 
-def check_widths(page):
+def check_widths(page: Deeds) -> None:
     """Nothing is wider than the page, from 320 to 2,560 pixels, with type of 100 and 200 percent."""
     to_middle(page)
     page.script("document.getElementById('help-button').click()")
@@ -162,12 +163,12 @@ def check_widths(page):
     page.script("document.getElementById('help-button').click()")
 
 
-def check_forced(page):
+def check_forced(page: Deeds) -> None:
     """Where the system chooses the colours, each state is told by lines too, and what is lit has lines."""
     check(page.script("matchMedia('(forced-colors: active)').matches"), "the system chooses the colours")
     to_middle(page)
     page.script("document.getElementById('help-button').click()")
-    lines = {}
+    lines: dict[str, str] = {}
     for step in (90, 8, 24, 13, 0):
         page.go(step)
         for selector in {selector for pair in STATES for selector in pair} - set(lines):
@@ -179,13 +180,13 @@ def check_forced(page):
     same = [pair for pair in STATES if pair not in missing and lines[pair[0]] == lines[pair[1]]]
     check(same == [], "states that only a colour tells: {}".format(same))
     for name in ("lit", "read"):
-        lines = page.script("getComputedStyle(document.getElementById('paint'), '::highlight({})').textDecorationLine".format(name))
-        check(lines == "underline overline", "a {} byte has lines: {}".format(name, lines))
+        drawn = page.script("getComputedStyle(document.getElementById('paint'), '::highlight({})').textDecorationLine".format(name))
+        check(drawn == "underline overline", "a {} byte has lines: {}".format(name, drawn))
     page.go(90)
     page.picture(os.path.join(KEPT, "forced.png"))
 
 
-def check_still(page):
+def check_still(page: Deeds) -> None:
     """For whom motion harms, nothing moves but what plays."""
     to_middle(page)
     moving = page.script("[...document.querySelectorAll('*')].filter((it) => { const style = getComputedStyle(it); return style.scrollBehavior !== 'auto' "
@@ -198,11 +199,13 @@ def check_still(page):
 
 
 # The looks of a page, and what is tried of each.
-LOOKS = [({}, [check_contrast, check_widths]), ({"dark": True}, [check_contrast]), ({"forced": True}, [check_forced]),
-         ({"still": True}, [check_still])]
+LOOKS: list[tuple[dict[str, bool], list[Callable[[Deeds], None]]]] = [
+    ({}, [check_contrast, check_widths]), ({"dark": True}, [check_contrast]), ({"forced": True}, [check_forced]),
+    ({"still": True}, [check_still])]
 
 
-def check_looks(kind, file, looks, checks):
+def check_looks(kind: type[Deeds], file: str, looks: dict[str, bool],
+                checks: Iterable[Callable[[Deeds], None]]) -> None:
     """The page with some looks, in Chromium."""
     with opened(kind, file, **looks) as page:
         for one in checks:

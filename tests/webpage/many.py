@@ -1,13 +1,13 @@
 """Much of what the page shows: 72,000 calls in the tree, and a step with 1,000 begun calls."""
 import names
-from pages import check, opened
+from pages import Deeds, check, opened
 
 # A form that calls itself: 3 calls at each turn, of cl, su and eq; before that ds, ss and a first cl, and at last eq.
 TURNS = "#(ds,L,(#(eq,N,0,,(#(cl,L,#(su,N,1))))))'#(ss,L,N)'#(cl,L,{})'"
 NUMBER = "document.getElementById(document.getElementById('tree').getAttribute('aria-activedescendant')).querySelector('.number').textContent"
 
 
-def check_calls(page):
+def check_calls(page: Deeds) -> None:
     """72,000 calls: those that can be seen are rows, and keys reach the first and the last."""
     page.put(TURNS.format(24000))
     page.run()
@@ -29,7 +29,7 @@ def check_calls(page):
     check(page.script("document.activeElement.id") == "tree" and page.script(NUMBER) == "15", "scrolling keeps the focus and the chosen call")
 
 
-def check_begun(page):
+def check_begun(page: Deeds) -> None:
     """A step of 1,000 begun calls: the innermost are shown, how many there are is told, and the text beside the mark is there."""
     page.put("#(ps," * 1000 + "deep" + ")" * 1000 + "'")
     page.run()
@@ -50,7 +50,7 @@ def check_begun(page):
     check(page.script("document.activeElement.id") == "begun", "the focus stays")
 
 
-def check_many(kind, file):
+def check_many(kind: type[Deeds], file: str) -> None:
     """All that, in Chromium."""
     with opened(kind, file) as page:
         for part in (check_calls, check_begun):

@@ -3,7 +3,7 @@ import os
 import shutil
 import tempfile
 
-from pages import check, opened
+from pages import Deeds, check, opened
 
 MOST = 1 << 30
 MIB = 1 << 20
@@ -11,9 +11,9 @@ MIB = 1 << 20
 MOST_BYTES = 33_554_432
 
 
-def children(pid):
+def children(pid: int) -> list[int]:
     """The processes that a process has begun, and those that these have."""
-    begun = {}
+    begun: dict[int, list[int]] = {}
     for name in filter(str.isdigit, os.listdir("/proc")):
         try:
             with open("/proc/{}/stat".format(name)) as stat:
@@ -31,11 +31,11 @@ def children(pid):
 class Tab:
     """The process of a page."""
 
-    def __init__(self, page):
+    def __init__(self, page: Deeds) -> None:
         self.pids = [pid for pid in children(page.process.pid) if b"--type=renderer" in self.read(pid, "cmdline")]
 
     @staticmethod
-    def read(pid, name):
+    def read(pid: int, name: str) -> bytes:
         """What the system says of a process."""
         try:
             with open("/proc/{}/{}".format(pid, name), "rb") as file:
@@ -43,7 +43,7 @@ class Tab:
         except OSError:
             return b""
 
-    def forget(self):
+    def forget(self) -> None:
         """Counts anew from here on."""
         for pid in self.pids:
             try:
@@ -52,20 +52,20 @@ class Tab:
             except OSError:
                 pass
 
-    def peak(self):
+    def peak(self) -> int:
         """The most that it took since then, in bytes."""
         lines = [line for pid in self.pids for line in self.read(pid, "status").splitlines() if line.startswith(b"VmHWM:")]
         return max(int(line.split()[1]) * 1024 for line in lines)
 
 
-def settle(page):
+def settle(page: Deeds) -> None:
     """Waits until all is told of a run that is told of it."""
     page.until("document.getElementById('stop').hidden && !/are listed/.test(document.getElementById('tree-count').textContent)", "the calls are listed")
     page.rest(1500)
     page.until("document.getElementById('stop').hidden", "nothing is waited for")
 
 
-def choose(page, room, name, data):
+def choose(page: Deeds, room: str, name: str, data: bytes) -> None:
     """Opens a file with these bytes."""
     path = os.path.join(room, name)
     with open(path, "wb") as out:
@@ -76,7 +76,7 @@ def choose(page, room, name, data):
     os.remove(path)
 
 
-def walk(page):
+def walk(page: Deeds) -> None:
     """Goes back from the end, to the start, and some steps on."""
     end = int(page.script("document.getElementById('slider').max"))
     for step in (end - 1, max(end - 12, 0), 0, 8, 12):
@@ -108,7 +108,7 @@ REFUSED = (
 )
 
 
-def check_programs(page, room):
+def check_programs(page: Deeds, room: str) -> None:
     """Large programs that are opened, run and walked through."""
     for name, data, said, note in PROGRAMS:
         tab = Tab(page)
@@ -122,7 +122,7 @@ def check_programs(page, room):
         check(tab.peak() <= MOST, "{} takes {} MiB".format(name, tab.peak() // MIB))
 
 
-def check_refused(page, room):
+def check_refused(page: Deeds, room: str) -> None:
     """Programs that pass what a page takes: what is said of them."""
     for name, data, said in REFUSED:
         tab = Tab(page)
@@ -134,7 +134,7 @@ def check_refused(page, room):
         check(tab.peak() <= MOST, "{} takes {} MiB".format(name, tab.peak() // MIB))
 
 
-def check_opened(page, room):
+def check_opened(page: Deeds, room: str) -> None:
     """The longest program, only opened: a part of it is shown."""
     tab = Tab(page)
     tab.forget()
@@ -146,7 +146,7 @@ def check_opened(page, room):
     check(tab.peak() <= MOST, "a file that is only opened takes {} MiB".format(tab.peak() // MIB))
 
 
-def check_memory(kind, file):
+def check_memory(kind: type[Deeds], file: str) -> None:
     """All of it, in Chromium, which tells what its processes take."""
     room = tempfile.mkdtemp(prefix="trac-webpage-memory-")
     with opened(kind, file) as page:

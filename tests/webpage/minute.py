@@ -1,5 +1,5 @@
 """The first minute: what is there at first, how a run ends in true words, where the focus is, and what Stop leaves."""
-from pages import FACTORIAL, check, opened
+from pages import FACTORIAL, Deeds, check, opened
 from window import pick
 
 # A program that prints on and on, and takes long.
@@ -9,14 +9,15 @@ FOCUS = "document.activeElement.id"
 HIDDEN = "document.getElementById('{}').hidden"
 
 
-def lines(page, name):
+def lines(page: Deeds, name: str) -> int:
     """How many lines an element has."""
-    return page.script("(() => {{ const it = document.getElementById('{0}'); const range = document.createRange(); "
-                       "range.selectNodeContents(it); return Math.round(range.getBoundingClientRect().height / "
-                       "parseFloat(getComputedStyle(it).lineHeight)); }})()".format(name))
+    count: int = page.script("(() => {{ const it = document.getElementById('{0}'); const range = document.createRange(); "
+                             "range.selectNodeContents(it); return Math.round(range.getBoundingClientRect().height / "
+                             "parseFloat(getComputedStyle(it).lineHeight)); }})()".format(name))
+    return count
 
 
-def check_first(page):
+def check_first(page: Deeds) -> None:
     """A sentence says what this is; a program is there; what to do stands where the output comes, and is gone after the first run."""
     check("everything is text" in page.text("what"), "what this is: " + page.text("what"))
     with open(FACTORIAL) as program:
@@ -34,7 +35,7 @@ def check_first(page):
     check(page.script("document.getElementById('tab-way').getAttribute('aria-selected')") == "true", "its tab is seen")
 
 
-def check_done(page):
+def check_done(page: Deeds) -> None:
     """A program that has ended says so; it offers no box, and the idle program takes one line."""
     page.type("#(ps,a)'")
     page.run()
@@ -49,7 +50,7 @@ def check_done(page):
     page.until("document.getElementById('output').textContent === 'ab'", "and is run")
 
 
-def check_unended(page):
+def check_unended(page: Deeds) -> None:
     """A text without its end is not run; only that is said, and a button ends it."""
     page.type("print hello")
     page.run()
@@ -61,7 +62,7 @@ def check_unended(page):
     check(page.script("document.getElementById('source').value") == "print hello'", "which stands in the program")
 
 
-def check_waits(page):
+def check_waits(page: Deeds) -> None:
     """Where input is waited for, the box has the focus; Enter ends what is read up to a ', and says so; a byte that is read stays alone."""
     page.type("#(ps,(Who? ))#(ps,Hello ##(rs))'")
     page.run()
@@ -81,7 +82,7 @@ def check_waits(page):
     check(page.text("given") == "Input: xLF", "what was given: " + page.text("given"))
 
 
-def check_right(page):
+def check_right(page: Deeds) -> None:
     """A right program that takes long is not blamed."""
     pick(page, "queens.trac")
     page.run()
@@ -91,7 +92,7 @@ def check_right(page):
     check(page.script("document.querySelector('#ending button').textContent") == "go on", "it can go on")
 
 
-def check_stopped(page):
+def check_stopped(page: Deeds) -> None:
     """While a program runs, what it prints is shown; Stop leaves that, and the player, at the step where it was stopped."""
     page.type("#(ps,before)'")
     page.run()
@@ -112,7 +113,7 @@ def check_stopped(page):
     page.unit("token")
 
 
-def check_minute(kind, file):
+def check_minute(kind: type[Deeds], file: str) -> None:
     """All that."""
     with opened(kind, file) as page:
         for part in (check_first, check_done, check_unended, check_waits, check_right, check_stopped):

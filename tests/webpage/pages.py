@@ -1,15 +1,19 @@
 """The page trac.html in a browser, and what tests do with it."""
+from __future__ import annotations
+
 import contextlib
 import json
 import os
 import sys
+from collections.abc import Iterator
+from typing import Any
 
 TOP = os.path.dirname(os.path.dirname(os.path.dirname(os.path.realpath(__file__))))
 sys.path.insert(0, os.path.join(TOP, "tests", "support"))
 import browser  # noqa: E402
 import parts  # noqa: E402
 from parts import check  # noqa: E402, F401
-from waiting import Missed  # noqa: E402
+from waiting import Missed, Waiting  # noqa: E402
 
 KEPT = os.path.join(TOP, "out", "webpage")
 
@@ -48,32 +52,33 @@ AIM = """((find, goal = find) => {
 })"""
 
 
-class Deeds:
+class Deeds(Waiting):
     """What is done with the page, in any browser."""
 
-    def text(self, name):
+    def text(self, name: str) -> str:
         """The text of an element."""
-        return self.script("document.getElementById('{}').textContent".format(name))
+        text: str = self.script("document.getElementById('{}').textContent".format(name))
+        return text
 
-    def type(self, text):
+    def type(self, text: str) -> None:
         """Types a program, in place of what is there."""
         self.script("(document.getElementById('source').select(), document.getElementById('source').focus())")
         self.insert(text)
 
-    def put(self, text):
+    def put(self, text: str) -> None:
         """Puts a long program there."""
         self.script("(() => {{ const box = document.getElementById('source'); box.value = {}; "
                     "box.dispatchEvent(new Event('input')); }})()".format(json.dumps(text)))
 
-    def tab(self, name):
+    def tab(self, name: str) -> None:
         """Has a panel seen: way, tree, forms, begun or doubts."""
         self.script("document.getElementById('tab-{}').click()".format(name))
 
-    def unit(self, name):
+    def unit(self, name: str) -> None:
         """Has the buttons go a byte, a token or a call."""
         self.script("document.getElementById('{}').click()".format(name))
 
-    def click(self, element, around=None):
+    def click(self, element: str, around: str | None = None) -> None:
         """Clicks the middle of an element by the mouse, once it is there; and again if the page moved under the mouse."""
         self.script("{}({})".format(AIM, ", ".join("() => " + one for one in (element, around) if one)))
         for _ in range(100):
@@ -88,12 +93,12 @@ class Deeds:
             raise Missed("{}: no click comes to {}".format(self.name, element))
         self.script("window.aim.end()")
 
-    def run(self):
+    def run(self) -> None:
         """Runs what is there, and waits for its end."""
         self.click("document.getElementById('run')")
         self.until("document.getElementById('stop').hidden && document.getElementById('ending').textContent !== 'It runs.'", "the run ends")
 
-    def go(self, step):
+    def go(self, step: int | str) -> None:
         """Goes to a step, and waits until it is shown."""
         # (the page writes the number anew when it shows the step)
         self.script("(() => {{ const box = document.getElementById('place'); box.value = ' {}'; "
@@ -101,11 +106,11 @@ class Deeds:
         self.until("document.getElementById('slider').value === '{}' && document.getElementById('place').value === '{:,}'".format(
             step, int(step)), "it goes to step {}".format(step))
 
-    def at(self, step, what="it goes"):
+    def at(self, step: int | str, what: str = "it goes") -> None:
         """Waits until the page is at a step."""
         self.until("document.getElementById('slider').value === '{}'".format(step), "{} to step {}".format(what, step))
 
-    def followed(self):
+    def followed(self) -> None:
         """Runs the wrong factorial, and asks where its 0 comes from; waits until all of that is told."""
         self.type(open(FACTORIAL).read())
         self.run()
@@ -114,7 +119,7 @@ class Deeds:
         self.until(IS_FOLLOWED, "where the 0 comes from")
         self.until("document.getElementById('said').textContent.includes('Where it comes from: ')", "that is said")
 
-    def well(self, what):
+    def well(self, what: str) -> None:
         """Nothing went wrong, and nothing of a program was run."""
         faults = self.faults()
         check(not faults, "{}: {}".format(what, str(faults)[:400]))
@@ -129,15 +134,15 @@ class FirefoxPage(Deeds, browser.Firefox):
     """The page in Firefox."""
 
 
-PAGES = [ChromiumPage, FirefoxPage]
+PAGES: list[type[Deeds]] = [ChromiumPage, FirefoxPage]
 
 
-def installed():
+def installed() -> list[type[Deeds]]:
     """The kinds of pages whose browsers are here."""
     return [page for page in PAGES if page.is_here()]
 
 
-def ready(page):
+def ready(page: Deeds) -> None:
     """Waits until the page takes programs."""
     page.until("document.documentElement.dataset.ready === 'yes'", "the page is ready")
 
@@ -147,7 +152,7 @@ FORGET = "(() => { const is = localStorage.length > 0; localStorage.clear(); ret
 
 
 @contextlib.contextmanager
-def opened(kind, file, **looks):
+def opened(kind: type[Deeds], file: str, **looks: Any) -> Iterator[Deeds]:
     """The page in a browser of a kind, for some time, as it is for whom opens it first."""
     with parts.lent(kind, **looks) as page:
         page.load(file)

@@ -1,9 +1,11 @@
 """All programs of tests/data/programs in the page: each prints there what it is to print."""
+from __future__ import annotations
+
 import glob
 import os
 import unicodedata
 
-from pages import TOP, check
+from pages import TOP, Deeds, check
 from share import body, follow, link
 
 CONTROLS = ("NUL SOH STX ETX EOT ENQ ACK BEL BS TAB LF VT FF CR SO SI "
@@ -12,7 +14,7 @@ CONTROLS = ("NUL SOH STX ETX EOT ENQ ACK BEL BS TAB LF VT FF CR SO SI "
 MOST = 1_999_999
 
 
-def sign(data):
+def sign(data: bytes) -> str | None:
     """The sign of UTF-8 that stands first, and has a shape of its own; or nothing."""
     width = 4 if data[0] >= 0xf0 else 3 if data[0] >= 0xe0 else 2
     try:
@@ -23,7 +25,7 @@ def sign(data):
     return text if len(text) == 1 and kind[0] != "C" and kind not in ("Zl", "Zp") else None
 
 
-def shown(data):
+def shown(data: bytes) -> str:
     """Bytes as the page shows what was printed."""
     text, at = "", 0
     while at < len(data):
@@ -38,7 +40,7 @@ def shown(data):
     return text
 
 
-def check_programs(page):
+def check_programs(page: Deeds) -> None:
     """Each with its input at an end, by a link."""
     wrong, paths = [], sorted(glob.glob(os.path.join(TOP, "tests", "data", "programs", "*.trac")))
     for path in paths:

@@ -1,10 +1,13 @@
 """What the page says to those who do not see it: roles and names, one region that speaks, and what a step changed."""
+from __future__ import annotations
+
 import difflib
 import json
 import os
+from collections.abc import Callable
 
 import names
-from pages import IS_GATHERED, check, opened
+from pages import IS_GATHERED, Deeds, check, opened
 
 STORED = os.path.join(os.path.dirname(os.path.realpath(__file__)), "names.txt")
 SAID = ("(() => { window.said = []; new MutationObserver(() => window.said.push(document.getElementById('said').textContent))"
@@ -16,7 +19,7 @@ LIVE = ("[...document.querySelectorAll('[aria-live], [role=status], [role=alert]
         ".filter((it) => it.getAttribute('aria-live') !== 'off' && !it.closest('dialog')).map((it) => it.id).join()")
 
 
-def check_stored(page):
+def check_stored(page: Deeds) -> None:
     """The roles and names of a fixed program at a step, with where its 0 comes from, are those that are stored."""
     page.followed()
     page.go(90)
@@ -39,13 +42,13 @@ def check_stored(page):
     check(not rows, "roles and names are others than in tests/webpage/names.txt (STORE_NAMES=1 stores these):\n" + "\n".join(rows[:40]))
 
 
-def all_named(page, when):
+def all_named(page: Deeds, when: str) -> None:
     """Nothing that takes the focus lacks a name now."""
     nameless = names.nameless(page)
     check(nameless == [], "without names, {}: {}".format(when, nameless))
 
 
-def check_named(page):
+def check_named(page: Deeds) -> None:
     """Nothing that takes the focus lacks a name: at the start, in a run, with the help, where input is wanted, and doubted."""
     all_named(page, "in a run")
     page.script("document.getElementById('help-button').click()")
@@ -58,7 +61,7 @@ def check_named(page):
     all_named(page, "with doubts")
 
 
-def check_changes(page):
+def check_changes(page: Deeds) -> None:
     """What a step moved, put and deleted has its role, and the mark its word: at the steps of `(a)b`, and of a call."""
     page.type("#(ps,(a)b)'")
     page.run()
@@ -70,7 +73,7 @@ def check_changes(page):
     check(page.text("mark") == "mark", "the mark has its word")
 
 
-def quiet(page):
+def quiet(page: Deeds) -> None:
     """Waits until the step is said that was asked for, or what led there. What is said is noted from here on."""
     page.until("['last', 'next'].some((id) => document.getElementById('said').textContent.endsWith(document.getElementById(id).textContent))",
                "the step is said")
@@ -78,14 +81,15 @@ def quiet(page):
     page.script("window.said = []")
 
 
-def all_said(page, what):
+def all_said(page: Deeds, what: str) -> list[str]:
     """What is said, once no more is to come."""
     page.until("window.said.length > 0", what)
     page.rest(PAUSE)
-    return page.script("window.said")
+    said: list[str] = page.script("window.said")
+    return said
 
 
-def check_said(page):
+def check_said(page: Deeds) -> None:
     """One region speaks: of a run its end, of a step its sentence; while it plays nothing, and the last sentence at its end."""
     check(page.script(LIVE) == "said", "what speaks: " + page.script(LIVE))
     quiet(page)
@@ -110,24 +114,25 @@ def check_said(page):
     check(said == [page.text("last")], "once, at its end: {}".format(said))
 
 
-def hears(page, does, words):
+def hears(page: Deeds, does: Callable[[], object], words: str) -> str:
     """Something is done, and this is said of it."""
     page.rest(PAUSE)
     page.script("window.said = []")
     does()
     page.until("window.said.join('|').includes({})".format(json.dumps(words)), "it says " + words)
     page.rest(PAUSE)
-    return page.script("window.said.join('|')")
+    said: str = page.script("window.said.join('|')")
+    return said
 
 
-def press_in(page, selector, *keys):
+def press_in(page: Deeds, selector: str | None, *keys: str) -> None:
     """Gives the focus to an element, or to none, and presses keys."""
     page.script("document.querySelector({})?.focus()".format(json.dumps(selector)) if selector else "document.activeElement.blur()")
     for key in keys:
         page.press(key)
 
 
-def check_noted(page):
+def check_noted(page: Deeds) -> None:
     """A note goes on with its doubt: where the form is that was probably meant, or which parenthesis is probably wrong."""
     for program, wanted in (
         ("#(ds,greeting,hi)'#(cl,greting)'", "no form is named greting; a form of nearly this name is defined at line 1, column 6: did you mean greeting?"),
@@ -138,7 +143,7 @@ def check_noted(page):
         page.until("document.querySelector('#doubts .doubt')?.textContent === " + json.dumps(wanted), "the note: " + wanted)
 
 
-def check_heard(page):
+def check_heard(page: Deeds) -> None:
     """What was asked for is said: a call that one goes to, where a byte comes from, how much is doubted, and what is opened."""
     page.script(SAID)
     page.type("#(pr,a)#(ps,Hello, world)'")
@@ -163,7 +168,7 @@ def check_heard(page):
     hears(page, lambda: press_in(page, "#library", "H", "Enter"), "first.trac is opened.")
 
 
-def check_reading(kind, file):
+def check_reading(kind: type[Deeds], file: str) -> None:
     """All that, in Chromium."""
     with opened(kind, file) as page:
         all_named(page, "at the start")

@@ -1,5 +1,7 @@
 """Links that the page makes and opens: there and back with any bytes, cut, wrong and hostile ones. Here they are packed and
 unpacked a second time, as web/link.js says."""
+from __future__ import annotations
+
 import base64
 import functools
 import http.server
@@ -7,8 +9,9 @@ import os
 import random
 import threading
 import zlib
+from collections.abc import Sequence
 
-from pages import FACTORIAL, check, ready
+from pages import FACTORIAL, Deeds, check, ready
 
 ASKING = "#(ps,(Who? ))#(ps,Hello ##(rs)!)'"
 # Programs whose bytes are to stay as they are.
@@ -23,7 +26,7 @@ PROGRAMS = {
 SAID = "document.getElementById('ending').textContent.endsWith(' Nothing is opened.')"
 
 
-def number(value):
+def number(value: int) -> bytes:
     """A whole number in parts of seven bits, the lowest first."""
     rest = b""
     while value > 127:
@@ -31,7 +34,7 @@ def number(value):
     return rest + bytes([value])
 
 
-def sum_of(data):
+def sum_of(data: bytes) -> bytes:
     """FNV-1a with 32 bits."""
     value = 2166136261
     for byte in data:
@@ -39,18 +42,19 @@ def sum_of(data):
     return value.to_bytes(4, "big")
 
 
-def signs(data):
+def signs(data: bytes) -> str:
     """Bytes in signs of an address."""
     return base64.urlsafe_b64encode(data).decode().rstrip("=")
 
 
-def packed(data):
+def packed(data: bytes) -> bytes:
     """Bytes without a head, as deflate has them."""
     pack = zlib.compressobj(9, zlib.DEFLATED, -15)
     return pack.compress(data) + pack.flush()
 
 
-def body(program, lines=(), is_closed=False, step=None):
+def body(program: bytes, lines: Sequence[tuple[int, bytes]] = (), is_closed: bool = False,
+         step: int | None = None) -> bytes:
     """What a link holds."""
     parts = [number(0 if step is None else step + 1), number(len(program)), program, number(2 * len(lines) + is_closed)]
     for at, line in lines:
@@ -58,13 +62,13 @@ def body(program, lines=(), is_closed=False, step=None):
     return b"".join(parts)
 
 
-def link(data, is_packed=True):
+def link(data: bytes, is_packed: bool = True) -> str:
     """A link that holds these bytes, with their sum."""
     whole = sum_of(data) + data
     return "#1d" + signs(packed(whole)) if is_packed else "#1s" + signs(whole)
 
 
-def held(text):
+def held(text: str) -> bytes:
     """What a link holds, without its sum."""
     kind, rest = text[1:3], text[3:]
     data = base64.urlsafe_b64decode(rest + "=" * (-len(rest) % 4))
@@ -74,24 +78,24 @@ def held(text):
     return data[4:]
 
 
-def shared(page):
+def shared(page: Deeds) -> str:
     """What Share gives."""
     page.until("document.getElementById('stop').hidden", "nothing goes on")
     page.click("document.getElementById('share')")
     page.until("document.getElementById('share-box').open", "Share opens its box")
-    text = page.script("document.getElementById('share-text').value")
+    text: str = page.script("document.getElementById('share-text').value")
     page.click("document.getElementById('share-close')")
     return text
 
 
-def follow(page, text):
+def follow(page: Deeds, text: str) -> None:
     """Follows a link within the page."""
     page.script("(() => {{ for (const name of ['program-name', 'ending']) document.getElementById(name).textContent = ''; "
                 "location.hash = {!r}; }})()".format(text))
     page.until("document.getElementById('program-name').textContent !== ''", "a link is opened: " + text[:40])
 
 
-def check_run(page, file):
+def check_run(page: Deeds, file: str) -> None:
     """A run with its input and its step: shared, and opened anew."""
     page.type(ASKING)
     page.run()
@@ -122,7 +126,7 @@ def check_run(page, file):
     check("the input has ended" in page.text("ending"), "the input has ended: " + page.text("ending"))
 
 
-def check_bytes(page):
+def check_bytes(page: Deeds) -> None:
     """Programs of any bytes, there and back."""
     for name, program in PROGRAMS.items():
         follow(page, link(body(program), len(program) % 2 == 0))
@@ -133,7 +137,7 @@ def check_bytes(page):
     check(held(text) == body(b"#(ps,(Hello, world.))'") and 36 <= len(text) <= 300, "the smallest link: " + text)
 
 
-def check_wrong(page, file):
+def check_wrong(page: Deeds, file: str) -> None:
     """Cut, changed, foreign and hostile links: a sentence, and an empty editor."""
     good = link(body(open(FACTORIAL, "rb").read(), [(3, b"a\n")], False, 7))
     stored = link(body(b"#(ps,a)'"), False)
@@ -155,7 +159,7 @@ def check_wrong(page, file):
     page.well("wrong links")
 
 
-def check_pasted(page):
+def check_pasted(page: Deeds) -> None:
     """Open takes the text in a box, also broken into lines, and says if it is wrong."""
     good = link(body(b"#(ps,pasted)'", [], False, 4))
     page.click("document.getElementById('open')")
@@ -171,7 +175,7 @@ def check_pasted(page):
     check(not page.script("document.getElementById('open-box').open"), "the box is closed")
 
 
-def check_without_packing(page):
+def check_without_packing(page: Deeds) -> None:
     """Where nothing packs, a link is not packed; and one that is packed is not opened, which is said."""
     page.script("(delete window.CompressionStream, delete window.DecompressionStream)")
     page.type("#(ps,(aaaaaaaaaaaaaaaaaaaaaaaaaaaaaaaaaaaaaaaaaaaaaaaaaaaaaaaaaaaaaaaaaa))'")
@@ -183,7 +187,7 @@ def check_without_packing(page):
     check("This browser cannot unpack links" in page.text("ending"), "a packed one is refused: " + page.text("ending"))
 
 
-def check_served(page, file):
+def check_served(page: Deeds, file: str) -> None:
     """The page from a server: a whole link."""
     serve = functools.partial(Quiet, directory=os.path.dirname(file))
     server = http.server.ThreadingHTTPServer(("127.0.0.1", 0), serve)
@@ -211,7 +215,7 @@ def check_served(page, file):
         server.server_close()
 
 
-def check_far(page, file):
+def check_far(page: Deeds, file: str) -> None:
     """A link to a step after the first 2,000,000 is run so far only if that is wanted."""
     endless = b"#(ds,L,(#(cl,L)))'#(cl,L)'"
     for answer, step in (("no", 2000000), ("yes", 3000000)):
@@ -224,7 +228,7 @@ def check_far(page, file):
     page.well("far links")
 
 
-def check_large_file(page):
+def check_large_file(page: Deeds) -> None:
     """A file that is too long is refused by its size: it is not read."""
     page.type("#(ps,kept)'")
     page.script("""(() => {
@@ -245,11 +249,11 @@ def check_large_file(page):
 class Quiet(http.server.SimpleHTTPRequestHandler):
     """A server that says nothing."""
 
-    def log_message(self, *words):
+    def log_message(self, *words: object) -> None:
         """Nothing."""
 
 
-def check_share(page):
+def check_share(page: Deeds) -> None:
     """All of it."""
     file = page.address[len("file://"):]
     check_run(page, file)

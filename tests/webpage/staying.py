@@ -1,5 +1,7 @@
 """What stays on the page: after a run that came to no end, after an edit, and where other input is given at an earlier step."""
-from pages import check
+from __future__ import annotations
+
+from pages import Deeds, check
 
 # A program that never ends, and one that does not if its input is x.
 NO_END = "#(ps,(wxyz))'#(ds,L,(#(cl,L)))'#(cl,L)'"
@@ -14,7 +16,7 @@ NO_FORM = "document.getElementById('input-form').hidden"
 HAS_RUN = "document.getElementById('stop').hidden && document.getElementById('ending').textContent.startsWith('{}')"
 
 
-def give(page, line, question=None):
+def give(page: Deeds, line: str, question: str | None = None) -> None:
     """Types a line of input; it may be asked first, and the answer is yes."""
     page.script("document.getElementById('input').focus()")
     page.insert(line)
@@ -22,7 +24,7 @@ def give(page, line, question=None):
     answer(page, question)
 
 
-def answer(page, question):
+def answer(page: Deeds, question: str | None) -> None:
     """Answers a question by yes, if there is one."""
     if question:
         page.until("document.getElementById('question').open", "it asks")
@@ -30,7 +32,7 @@ def answer(page, question):
         page.click("document.getElementById('question-yes')")
 
 
-def follow(page, sign, place):
+def follow(page: Deeds, sign: str, place: str) -> None:
     """Clicks a sign of the output, in the middle of it, and waits until it is told where that was read."""
     page.script("document.getElementById('output').scrollIntoView({ block: 'nearest' })")
     page.frames()
@@ -45,7 +47,7 @@ def follow(page, sign, place):
     page.until("document.getElementById('way-list').textContent.endsWith('reads it: {}')".format(place), "the way of " + sign)
 
 
-def check_stopped(page):
+def check_stopped(page: Deeds) -> None:
     """Where another program is stopped before anything is known of it, the run before stays, and says so."""
     page.type("#(ps,ABC)#(pr)'")
     page.run()
@@ -60,7 +62,7 @@ def check_stopped(page):
     check(page.text("output") == "again", "the page goes on: " + page.text("output"))
 
 
-def check_before(page):
+def check_before(page: Deeds) -> None:
     """Where a line of input leads to no end, the run before stays, and is asked over its own input."""
     page.type(PERHAPS)
     page.run()
@@ -87,7 +89,7 @@ def check_before(page):
     check(page.text("given") == "Input: y'LF", "what was given: " + page.text("given"))
 
 
-def check_listed(page):
+def check_listed(page: Deeds) -> None:
     """A Stop while calls are listed does not end that."""
     page.type("#(ps,#(ad,1,2))'")
     page.script("""(() => {
@@ -105,7 +107,7 @@ def check_listed(page):
     check(page.text("output") == "3" and page.text("ending").startswith("Done after "), "what stays: " + page.text("ending"))
 
 
-def check_edited(page):
+def check_edited(page: Deeds) -> None:
     """After an edit no place of the run is lit or chosen in the new text; so too while it runs."""
     page.type("#(ps,ABC)'")
     page.run()
@@ -131,7 +133,7 @@ def check_edited(page):
     check(page.text("program-note") == "changed since the run", "an edit while it runs: " + page.text("program-note"))
 
 
-def check_other_input(page):
+def check_other_input(page: Deeds) -> None:
     """After a run has halted, was ended or is spent, other input is given at an earlier step; but not where none was read later."""
     page.type("#(ps,Hello ##(rs))#(hl)'")
     page.run()

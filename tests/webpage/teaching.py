@@ -1,8 +1,9 @@
 """What a teacher shows with the page: why a comma ends an argument and a decision took its branch, what was protected,
 steps by token, marks over the slider, the idle program, and the large view."""
 import os
+from collections.abc import Sequence
 
-from pages import FACTORIAL, IS_GATHERED, KEPT, check, opened
+from pages import FACTORIAL, IS_GATHERED, KEPT, Deeds, check, opened
 from readers import PROGRAM, READERS
 
 # The least number that is too great for 128 bits, and that less one.
@@ -70,20 +71,20 @@ FILLED = """(([steps, end]) => {{
 }})({})"""
 
 
-def says(page, name, words):
+def says(page: Deeds, name: str, words: str) -> None:
     """What the page says of the last step or the next one has these words."""
     text = page.text(name)
     check(words in text, "it says: {}, without: {}".format(text[:300], words))
 
 
-def check_reasons(page):
+def check_reasons(page: Deeds) -> None:
     """Sentences of decisions and decimals; the number of the list is that of the sentence, the slider and the box."""
     check_sentences(page, "".join(call for call, _ in REASONS[:12]) + "'" + "".join(call for call, _ in REASONS[12:]) + "'", REASONS)
     # (why the default of a call that reads a form)
     check_sentences(page, PROGRAM, READERS)
 
 
-def check_sentences(page, program, rows):
+def check_sentences(page: Deeds, program: str, rows: Sequence[tuple[str, str]]) -> None:
     """Of each call of a program, one after the other, the sentence before its step and after it."""
     wrong = []
     page.type(program)
@@ -111,7 +112,7 @@ def check_sentences(page, program, rows):
     check(not wrong, "sentences: {}".format(wrong[:3]))
 
 
-def check_protected(page):
+def check_protected(page: Deeds) -> None:
     """Protected commas stand in quotes, in the list, the sentence and what is struck; the empty text has a sign."""
     page.type(PROTECTED)
     page.tab("tree")
@@ -144,7 +145,7 @@ def check_protected(page):
     says(page, "last", "its value is null, which is scanned next")
 
 
-def check_tokens(page):
+def check_tokens(page: Deeds) -> None:
     """Steps by token, both ways, by keys and buttons; the idle program is explained once, and folded after that."""
     explained = "It is #(ps,#(rs)), there at the start and whenever nothing is left"
     page.type("#(ps,abc)'\n##(zz)'")
@@ -188,7 +189,7 @@ def check_tokens(page):
     check(page.text("next").startswith("Next, steps 12 to 20,011: longlong"), "a long token: " + page.text("next")[:80])
 
 
-def check_marks(page):
+def check_marks(page: Deeds) -> None:
     """Each mark over the slider has a name and leads to its step, by keys and by the mouse."""
     name = ("document.getElementById(document.getElementById('marks').getAttribute('aria-activedescendant'))"
             ".getAttribute('aria-label')")
@@ -217,7 +218,7 @@ def check_marks(page):
     page.at(50)
 
 
-def check_large_view(page):
+def check_large_view(page: Deeds) -> None:
     """A key or a button opens the large view and closes it, and Esc leaves it; the focus comes back."""
     is_open = "document.documentElement.dataset.big === 'yes' && !document.getElementById('source').checkVisibility()"
     pressed = "document.getElementById('big').getAttribute('aria-pressed')"
@@ -247,7 +248,7 @@ def check_large_view(page):
     check(page.script("scrollY") == before, "the page stands where it stood: {}".format(page.script("scrollY")))
 
 
-def check_sizes(kind, file):
+def check_sizes(kind: type[Deeds], file: str) -> None:
     """The large view fills windows of projectors, and nothing of it is out of view."""
     seen = ("['rules', 'tape', 'mark', 'slider', 'big', 'start', 'end', 'place'].filter((id) => {{ "
             "const box = document.getElementById(id).getBoundingClientRect(); "

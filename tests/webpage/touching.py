@@ -1,5 +1,5 @@
 """The page by fingers: what a newcomer does, how large targets are, and a swipe over the text as a step."""
-from pages import FACTORIAL, IS_FOLLOWED, IS_GATHERED, check, opened
+from pages import FACTORIAL, IS_FOLLOWED, IS_GATHERED, Deeds, check, opened
 
 # What a finger presses and is smaller than 44 pixels, or one of those in another's row.
 SMALL = ("[...document.querySelectorAll('button, select, input, textarea, summary, .row, .way-row [tabindex]')].filter((it) => it.checkVisibility())"
@@ -14,13 +14,14 @@ MIDDLE = "(() => {{ const box = {}.getBoundingClientRect(); return [box.x + box.
 STEP = "document.getElementById('slider').value"
 
 
-def middle(page, element):
+def middle(page: Deeds, element: str) -> tuple[float, float]:
     """The middle of an element, in view."""
     page.script("{}.scrollIntoView({{ block: 'center' }})".format(element))
-    return page.script(MIDDLE.format(element))
+    x, y = page.script(MIDDLE.format(element))
+    return x, y
 
 
-def check_newcomer(page):
+def check_newcomer(page: Deeds) -> None:
     """From a wrong 0 to the place where it was written, in four actions."""
     page.touch(middle(page, "document.getElementById('source')"))
     page.script("document.getElementById('source').select()")
@@ -35,7 +36,7 @@ def check_newcomer(page):
     page.until("document.getElementById('way-list').textContent.endsWith('reads it: line 1, column 26')", "where it was written")
 
 
-def check_lesson(page):
+def check_lesson(page: Deeds) -> None:
     """With a lesson open, what a program prints comes in view."""
     page.script("(() => { const list = document.getElementById('course'); list.value = '4'; list.dispatchEvent(new Event('change')); })()")
     page.until("document.getElementById('lesson-title').textContent === '2. Commas and protection'", "a lesson is open")
@@ -49,7 +50,7 @@ def check_lesson(page):
     page.script("document.getElementById('lesson-close').click()")
 
 
-def check_sizes(page):
+def check_sizes(page: Deeds) -> None:
     """Each target has 44 by 44 pixels: with the help, doubts, an input, forms; and a question."""
     check(page.script("matchMedia('(pointer: coarse)').matches"), "a finger points")
     page.script("document.getElementById('help-button').click()")
@@ -62,7 +63,7 @@ def check_sizes(page):
     page.script("document.getElementById('question').close()")
 
 
-def check_swipes(page):
+def check_swipes(page: Deeds) -> None:
     """A swipe over the text is a step; up and down the page scrolls as it does elsewhere."""
     page.go(100)
     x, y = middle(page, "document.getElementById('tape')")
@@ -87,7 +88,7 @@ def check_swipes(page):
     page.until("{} > 150".format(STEP), "a finger moves the slider")
 
 
-def check_touching(kind, file):
+def check_touching(kind: type[Deeds], file: str) -> None:
     """All that, in Chromium."""
     with opened(kind, file, width=390, height=844) as page:
         page.call("Emulation.setTouchEmulationEnabled", enabled=True)

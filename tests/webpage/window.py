@@ -2,7 +2,7 @@
 import json
 import os
 
-from pages import FACTORIAL, KEPT, TOP, check, opened
+from pages import FACTORIAL, KEPT, TOP, Deeds, check, opened
 from staying import LIT
 
 # Whether the first lit byte of a kind is seen within the editor.
@@ -28,14 +28,14 @@ LINES = "".join("{}\n".format(number) for number in range(1, 14))
 HEIGHT = "document.getElementById('{}').clientHeight"
 
 
-def pick(page, name):
+def pick(page: Deeds, name: str) -> None:
     """Opens a program from the list."""
     page.script("(() => {{ const list = document.getElementById('library'); list.value = [...list.options].find((one) => one.title === "
                 "'{}').value; list.dispatchEvent(new Event('change')); }})()".format(name))
     page.until("document.getElementById('program-name').textContent === '{}'".format(name), name + " is opened")
 
 
-def sign_of_output(page, sign, last=False):
+def sign_of_output(page: Deeds, sign: str, last: bool = False) -> None:
     """Clicks a sign of the output, in view."""
     place = page.script("""(() => {{
       const box = document.getElementById('output');
@@ -52,7 +52,7 @@ def sign_of_output(page, sign, last=False):
     page.click_at(*place)
 
 
-def check_scrolls(page):
+def check_scrolls(page: Deeds) -> None:
     """A program that is longer than its box scrolls, and what is lit comes in view, under its own sign."""
     pick(page, "roman.trac")
     page.run()
@@ -78,7 +78,7 @@ def check_scrolls(page):
     check(page.script(IN_EDITOR.format("read")), "and in view")
 
 
-def check_output(page):
+def check_output(page: Deeds) -> None:
     """13 lines, doubts, and input that is waited for: the output has room, and a click leaves it as it is."""
     page.type("#(pr,a)#(ps,({}))#(ps,##(rs))'".format(LINES))
     page.run()
@@ -95,7 +95,7 @@ def check_output(page):
     check(after == before and seen, "after the click: {} and {} pixels high, in view: {}".format(before, after, seen))
 
 
-def check_sizes(kind, file):
+def check_sizes(kind: type[Deeds], file: str) -> None:
     """From 1024 by 700 on the page itself never scrolls, all parts are in the window, and they fill it; on a phone the program and the bar
     stay in sight."""
     for width, height in SIZES:
@@ -129,7 +129,7 @@ def check_sizes(kind, file):
             page.picture(os.path.join(KEPT, "window-{}.png".format(look)))
 
 
-def check_help(page):
+def check_help(page: Deeds) -> None:
     """The help lies over the window, scrolls by itself, and is closed by Esc, by its button, and by the one that opened it."""
     seen = OUTSIDE.format(json.dumps(["help", "help-close", "help-button"]))
     hidden = "document.getElementById('help').hidden"
@@ -151,7 +151,7 @@ def check_help(page):
     check(page.script("document.activeElement.id") == "rules", "the focus comes back: " + page.script("document.activeElement.id"))
 
 
-def check_doubts(page):
+def check_doubts(page: Deeds) -> None:
     """Many doubts: none is cut off, and the last one's links can be clicked."""
     page.put("".join("#(nosuchname{},{})\n".format("x" * 60, at) for at in range(25)) + "'")
     page.run()
@@ -167,7 +167,7 @@ def check_doubts(page):
     check(line == 25, "to line 25: {}".format(line))
 
 
-def check_lesson(kind, file):
+def check_lesson(kind: type[Deeds], file: str) -> None:
     """A lesson keeps its room when the program runs, leads back and on, and speaks of no shell."""
     with opened(kind, file, width=1024, height=700) as page:
         page.script("(() => { const list = document.getElementById('course'); list.value = '0'; list.dispatchEvent(new Event('change')); })()")
@@ -188,7 +188,7 @@ def check_lesson(kind, file):
         page.script("document.getElementById('lesson-close').click()")
 
 
-def check_timeline(page):
+def check_timeline(page: Deeds) -> None:
     """Over the slider of a run of millions of steps there is something everywhere, as soon as its doubts are listed."""
     with open(os.path.join(TOP, "programs", "examples", "endless.trac")) as program:
         page.put("#(pr)'" + program.read())
@@ -209,7 +209,7 @@ def check_timeline(page):
     check(high > 0.9, "so much of it is filled: {:.2f}".format(high))
 
 
-def check_window(kind, file):
+def check_window(kind: type[Deeds], file: str) -> None:
     """All that: at 1280 by 900, and at other sizes."""
     with opened(kind, file, width=1280, height=900) as page:
         for part in (check_scrolls, check_output, check_help, check_doubts, check_timeline):

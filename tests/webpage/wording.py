@@ -4,7 +4,7 @@ import json
 import os
 import tempfile
 
-from pages import FACTORIAL, IS_GATHERED, check, opened
+from pages import FACTORIAL, IS_GATHERED, Deeds, check, opened
 
 # How far a character of the list of calls goes, and the commas with the blanks after them.
 BLANKS = """(() => {
@@ -21,7 +21,7 @@ SEEN = """[...document.querySelectorAll('#tree, #rules, #tape, #way-list, #mark-
   .map((it) => it.textContent).join(' ')"""
 
 
-def check_blanks(page):
+def check_blanks(page: Deeds) -> None:
     """In the list of calls a blank is there where one was written, and nowhere else."""
     page.type("#(ds,a, x)'#(ds,b,x)'#(ds,c,(p,q))'")
     page.tab("tree")
@@ -31,7 +31,7 @@ def check_blanks(page):
     check(abs(more - one) < 0.5, "a blank is as wide as a comma: {} and {}".format(more, one))
 
 
-def check_messages(page):
+def check_messages(page: Deeds) -> None:
     """Messages say what is so, and what to do: mixed line ends, a division by 0, a blank after #, an apostrophe within a word."""
     with tempfile.TemporaryDirectory(prefix="trac-webpage-test-") as room:
         path = os.path.join(room, "mixed.trac")
@@ -60,7 +60,7 @@ def check_messages(page):
                   "why the call never ended: " + page.text("doubts"))
 
 
-def check_marked(page):
+def check_marked(page: Deeds) -> None:
     """What is doubted is marked whole: a name, an argument, a sign that begins no call."""
     marked = "[...CSS.highlights.get('doubtful') ?? []].map((range) => range.toString()).join('')"
     for program, wanted in (("#(prnt,a)'", "prnt"), ("#(ps,Hello, big world)'", " big world"), ("# (ps,Hello)'", "# ("),
@@ -71,7 +71,7 @@ def check_marked(page):
         page.until(marked + " === " + json.dumps(wanted), "of {} what is marked: {}".format(program, page.script(marked)))
 
 
-def check_counting(page):
+def check_counting(page: Deeds) -> None:
     """The box, the sentence and the slider have one number; elsewhere than at the end it is said where one is."""
     page.type(open(FACTORIAL).read())
     page.run()
@@ -89,7 +89,7 @@ def check_counting(page):
     check(page.text("ending").startswith("Done after 276 steps"), "at the end: " + page.text("ending"))
 
 
-def check_line_ends(page):
+def check_line_ends(page: Deeds) -> None:
     """A line end that is no end of a line is shown as LF in a frame, everywhere."""
     page.type("#(ds,A,(x\ny))'\n#(ps,##(cl,A))'#(ps,##(cl,A))'")
     page.tab("tree")
@@ -110,7 +110,7 @@ def check_line_ends(page):
         [seen[max(at - 30, 0):at + 30] for at in (seen.find("\\x0a"), seen.find("\u2039")) if at >= 0]))
 
 
-def check_lights(page):
+def check_lights(page: Deeds) -> None:
     """Where the browser has no highlights, what is lit has a box under its sign, in the program and in the output."""
     page.script("delete window.Highlight")
     page.type("#(ps,(wxyz\nabc))'")
@@ -141,7 +141,7 @@ def check_lights(page):
     check(page.script("document.querySelectorAll('.light.read').length") == 0, "after an edit nothing is lit")
 
 
-def check_wording(kind, file):
+def check_wording(kind: type[Deeds], file: str) -> None:
     """All that."""
     with opened(kind, file) as page:
         for part in (check_blanks, check_messages, check_marked, check_counting, check_line_ends, check_lights):

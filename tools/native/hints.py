@@ -4,6 +4,8 @@
 A function is known by its crate, its module and its name. A type of one module may have methods in another, so a name
 that is marked once in a crate is enough.
 """
+from __future__ import annotations
+
 import glob
 import os
 import re
@@ -15,9 +17,9 @@ HINT = re.compile(r"\s*#\[(inline(?:\((?:always|never)\))?|cold)\]")
 FUNCTION = re.compile(r"\s*(?:pub(?:\([a-z]+\))?\s+)?(?:const\s+)?(?:unsafe\s+)?(?:final\s+)?fn\s+(\w+)")
 
 
-def hints():
+def hints() -> dict[tuple[str, str], list[tuple[list[str], str]]]:
     """By crate and name: the modules with a function of that name that has a hint, and the hint."""
-    found = {}
+    found: dict[tuple[str, str], list[tuple[list[str], str]]] = {}
     for folder in glob.glob(f"{TOP}/crates/*/src") + glob.glob(f"{KIT}/rattle/*/src"):
         crate = folder.split("/")[-2]
         for path in glob.glob(folder + "/**/*.rt", recursive=True):
@@ -36,7 +38,7 @@ def hints():
     return found
 
 
-def hint_of(found, symbol):
+def hint_of(found: dict[tuple[str, str], list[tuple[list[str], str]]], symbol: str) -> str | None:
     """The hint of the function that this symbol names, if it has one."""
     parts = re.sub(r"::<.*$", "", symbol).split("::")
     marked = found.get((parts[0], parts[-1]), [])
@@ -46,7 +48,7 @@ def hint_of(found, symbol):
     return None
 
 
-def main():
+def main() -> None:
     found = hints()
     with open(SOURCE, encoding="utf-8") as lines, open(TARGET, "w", encoding="utf-8") as out:
         for line in lines:
