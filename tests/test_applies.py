@@ -1,14 +1,14 @@
 """Whether each edit file of the crates can be applied: crates/NAME/must-fail/*.edit, which the gate tries, and
 crates/NAME/further-edits/*.edit, which ./check --edits tries. Each `old` has to stand exactly once in its file, in what
-the pairs before it made, and no more than 16 edits stand in one must-fail/. Whether the prover refuses them is not
-looked at, and no program is needed."""
+the pairs before it made. No more than 16 edits stand in one must-fail/, and no more than 64 in all. Whether the prover
+refuses them is not looked at, and no program is needed."""
 from __future__ import annotations
 
 import pathlib
 
 from support.cases import TOP, Case, each, near, tests
 
-MOST = 16
+MOST, MOST_OF_ALL = 16, 64
 CRATES = TOP / "crates"
 
 
@@ -54,3 +54,7 @@ class Applies(Case):
                 self.bad("{}: {}".format(near(edit), why))
             else:
                 self.well()
+
+    def test_number(self) -> None:
+        count = len(list(CRATES.glob("*/must-fail/*.edit")))
+        self.holds("at most {} edits are in the gate".format(MOST_OF_ALL), count <= MOST_OF_ALL)
