@@ -41,8 +41,8 @@ class Library(Case):
         given = file.with_suffix(".in")
         words = ["--input", given.name] if given.exists() else []
         run = ran([TOP / "trac", "lint", *words, file.name], folder=HERE)
-        self.same("its doubts", STEP.sub(b"", run.output + run.error), bytes_in(file.with_suffix(".lint")),
-                  Place(near(file.with_suffix(".lint"))), "said by trac lint")
+        self.same("trac lint {}".format(" ".join([*words, file.name])), STEP.sub(b"", run.output + run.error),
+                  bytes_in(file.with_suffix(".lint")), Place(near(file.with_suffix(".lint"))), "said by trac lint")
 
     def check_walk(self, file: pathlib.Path, walk: pathlib.Path) -> None:
         """A walk through it."""
@@ -55,12 +55,12 @@ class Library(Case):
         self.holds("its walk comes to a line of the program", re.search(rb"reads it: line [0-9]*, column", wanted))
 
     def test_files(self) -> None:
-        """Its files belong to its programs, five are walks, and its list is short."""
+        """Its files belong to its programs, five or more are walks, and its list is short."""
         endings = {".trac", ".md", ".in", ".out", ".64", ".lint", ".walk"}
         left = [near(file) for file in sorted(HERE.iterdir()) if file.suffix not in endings]
         self.holds("the kind of each file is known: {}".format(left), not left)
         left = [it for it in strays(HERE, endings) if it != "programs/library/README.md"]
         self.holds("each file belongs to a program: {}".format(left), not left)
-        self.holds("five walks", len(stems(HERE, ".walk")) == 5)
+        self.holds("five walks at least", len(stems(HERE, ".walk")) >= 5)
         count = len((HERE / "README.md").read_text(encoding="utf-8").split())
-        self.holds("README.md has at most 200 words, and not {}".format(count), count <= 200)
+        self.holds("README.md has at most 250 words, and not {}".format(count), count <= 250)
