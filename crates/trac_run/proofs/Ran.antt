@@ -1,11 +1,13 @@
 -- A whole run, turn by turn.
-use Rattle.std.proofs.Common.{◌≡◌, ℕ, ◌+◌, ◌-◌, ◌*◌, ◌≤◌, true, false, List, [], ◌++◌, length, refl, sym, ap, subst, ◌∙◌, arith, ⊎_elim}
-use Rattle.std.specs.Prelude.{Option}
-use Rattle.std.proofs.lemmas.Bool.{false≢true}
+use Rattle.std.proofs.Common.{◌≡◌, ℕ, ◌+◌, ◌-◌, ◌*◌, ◌≤◌, true, false, List, [], ◌++◌, length, refl, sym, ap, subst, ◌∙◌, arith, inl, ⊎_elim}
+use Rattle.std.specs.Prelude.{Option, nat_lt}
+use Rattle.std.proofs.lemmas.Bool.{false≢true, leb-true}
 use Rattle.std.proofs.lemmas.List.{append_assoc, length-append}
 use Rattle.trac_rules.specs.declared.limit.TheConstants.{TAPE_LIMIT}
 use Rattle.trac_rules.specs.declared.width.Width.{Width}
-use Rattle.trac_rules.specs.Session.{PlainSession, new_session}
+use Rattle.trac_rules.specs.Scanning.{scan}
+use Rattle.trac_rules.specs.Session.{MayRunOut, PlainSession, Step, answer, new_session}
+use Rattle.trac_rules.specs.Stepping.{step}
 use Rattle.trac_rules.specs.Running.{Output, output_of}
 use Rattle.trac_rules.specs.GoingOn.{prepended, going_on_from}
 use Rattle.trac_streams.specs.declared.ending.Ending.{Ending}
@@ -16,7 +18,7 @@ use Rattle.trac_run.specs.Runs.{Shows, Runs, RunsAnew, RunsBy, FeedsSteps, Feeds
 use Rattle.trac_streams.specs.Reading.{end_reads}
 use Rattle.trac_streams.proofs.Gathered.{end_reads_one}
 use Rattle.trac_streams.proofs.Known.{Appends-nothing, Consumes-nothing, front_after, front_of_nothing, empty_front}
-use Rattle.trac_run.proofs.Stepped.{feeds_both, feeds_late, feeds_none, no_step}
+use Rattle.trac_run.proofs.Stepped.{feeds_both, feeds_late, feeds_none, leaves_closed, no_step}
 use Rattle.trac_run.proofs.Transfers.{only_written, both_moved, goes_on_twice, rest_left}
 use Rattle.trac_run.proofs.Turned.{Shows-Write, no_steps_write}
 
@@ -144,9 +146,9 @@ ran in_old in_now in_new out_old out_now out_new width budget start p m n reads_
     }
 
 -- the steps of the last turn too
-pub ran_steps : {in_new out_new : Option (List ℕ)} (in_old in_now out_old out_now : Option (List ℕ)) (width : Width) (budget : ℕ) (start p q : PlainSession) (m n reads : ℕ) →
-    SoFar in_old in_now out_old out_now width budget start p m reads → n ≤ m → FeedsToLast in_now in_new out_now out_new (m - n) p q → FeedsToLast in_old in_new out_old out_new (budget - n) start q
-ran_steps in_old in_now out_old out_now width budget start p q m n reads far fewer steps = (steps.0, steps.1, steps_so_far budget m n start p q far.within fewer far.steps steps.2)
+pub ran_steps : {in_new out_new : Option (List ℕ)} {ending : Ending} (in_old in_now out_old out_now : Option (List ℕ)) (width : Width) (budget : ℕ) (start p q : PlainSession) (m n reads : ℕ) →
+    SoFar in_old in_now out_old out_now width budget start p m reads → n ≤ m → FeedsToLast ending in_now in_new out_now out_new (m - n) p q → FeedsToLast ending in_old in_new out_old out_new (budget - n) start q
+ran_steps in_old in_now out_old out_now width budget start p q m n reads far fewer steps = (steps.0, steps.1, steps_so_far budget m n start p q far.within fewer far.steps steps.2, steps.3)
 
 -- a run that did not begin for want of memory
 pub ran_not : (input : Option (List ℕ)) (out_old out_new : Option (List ℕ)) (text : List ℕ) (width : Width) (budget : ℕ) (result : Ending) → text ≡ [] → Closes out_old out_new text Memory result →
@@ -175,23 +177,33 @@ ran_not input out_old out_new text width budget result none closes =
 pub new_by_itself : (limit : ℕ) (width : Width) (p : PlainSession) → p ≡ new_session limit width → p ≡ new_session p.limit p.width
 new_by_itself limit width p made = made ∙ sym (ap (λ (s : PlainSession). new_session s.limit s.width) made)
 
+-- the first step of a new session begins a function
+new_lacks : (limit : ℕ) (width : Width) → 1 ≤ limit → MayRunOut Step (answer Step (new_session limit width)).reply
+unfolding answer, step, scan
+new_lacks limit width some = let test : nat_lt 0 limit ≡ true = leb-true 1 limit some in rw test tt
+
 -- it took no steps
-pub ran_not_anew : (input : Option (List ℕ)) (out_old out_new : Option (List ℕ)) (text : List ℕ) (journal : ℕ) (width : Width) (budget : ℕ) (result : Ending) → text ≡ [] → Closes out_old out_new text Memory result →
+pub ran_not_anew : (input : Option (List ℕ)) (out_old out_new : Option (List ℕ)) (text : List ℕ) (journal : ℕ) (width : Width) (budget : ℕ) (result : Ending) → 1 ≤ journal → text ≡ [] → Closes out_old out_new text Memory result →
     RunsAnew input input out_old out_new journal width budget result
 unfolding ran_not
-ran_not_anew input out_old out_new text journal width budget result none closes = record {
+ran_not_anew input out_old out_new text journal width budget result some none closes = record {
   runs = ran_not input out_old out_new text width budget result none closes;
   session = new_session journal width;
-  feeds = ([], closes.written, feeds_late (new_session journal width) (new_session journal width) refl (record { written = closes.written; front = subst (IsFrontOf closes.written) none closes.front; gave = closes.gave }));
+  feeds = (
+    [],
+    closes.written,
+    feeds_late (new_session journal width) (new_session journal width) refl (record { written = closes.written; front = subst (IsFrontOf closes.written) none closes.front; gave = closes.gave }),
+    leaves_closed Memory result [] (new_session journal width) closes.ends (inl (refl, (new_lacks journal width some, refl))),
+  );
 }
 
 -- a run from a new session
 pub ran_anew : {in_old in_new out_old out_new : Option (List ℕ)} (journal : ℕ) (width : Width) (budget steps reads : ℕ) (start q : PlainSession) (ending : Ending) → start ≡ new_session journal width →
-    RunsBy in_old in_new out_old out_new start.width budget steps reads ending → FeedsToLast in_old in_new out_old out_new steps start q → RunsAnew in_old in_new out_old out_new journal width budget ending
+    RunsBy in_old in_new out_old out_new start.width budget steps reads ending → FeedsToLast ending in_old in_new out_old out_new steps start q → RunsAnew in_old in_new out_old out_new journal width budget ending
 ran_anew {in_old} {in_new} {out_old} {out_new} journal width budget steps reads start q ending made by feeds =
     let here : start ≡ new_session journal start.width = made ∙ ap (λ (s : PlainSession). new_session journal s.width) (sym made) in
     subst (λ w. RunsAnew in_old in_new out_old out_new journal w budget ending) (ap (λ (s : PlainSession). s.width) made) (record {
       runs = by.runs;
       session = q;
-      feeds = subst (λ n. FeedsToLast in_old in_new out_old out_new n (new_session journal start.width) q) (sym by.taken) (subst (λ p. FeedsToLast in_old in_new out_old out_new steps p q) here feeds);
+      feeds = subst (λ n. FeedsToLast ending in_old in_new out_old out_new n (new_session journal start.width) q) (sym by.taken) (subst (λ p. FeedsToLast ending in_old in_new out_old out_new steps p q) here feeds);
     })

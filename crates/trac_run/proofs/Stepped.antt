@@ -6,14 +6,17 @@ use Rattle.std.proofs.lemmas.List.{append-nil, append_assoc}
 use Rattle.std.proofs.lemmas.Option.{option_and_then_some}
 use Rattle.std.specs.Prelude.{Option, Some, Result, Ok, Err}
 use Rattle.trac_rules.specs.declared.refusal.Refusal.{Refusal}
+use Rattle.trac_rules.specs.declared.refusal.Refusal.TheVariants as refusals
+use Rattle.trac_rules.specs.declared.reply.Reply.TheVariants.{Refused}
 use Rattle.trac_rules.specs.Fronts.{IsFrontOf}
-use Rattle.trac_rules.specs.Session.{PlainSession, Command, Feed, End, Step, Back, Commit, done, accepted_by, answer, first_kept, repeated, no_goal}
+use Rattle.trac_rules.specs.Session.{PlainSession, Command, Feed, End, Step, Back, Commit, Answers, done, accepted_by, answer, first_kept, repeated, no_goal}
 use Rattle.trac_rules.proofs.Replies.{accepted_done}
 use Rattle.trac_session.specs.Within.{IsWalkWithin}
 use Rattle.trac_streams.specs.declared.ending.Ending.{Ending}
+use Rattle.trac_streams.specs.declared.ending.Ending.TheVariants.{Memory, Write}
 use Rattle.trac_streams.specs.Written.{Closes, WritesFront}
 use Rattle.trac_streams.proofs.Known.{Appends-both, Appends-nothing, Consumes-both, Consumes-nothing, front_of_nothing}
-use Rattle.trac_run.specs.Runs.{AreDone, FeedsAsFar, FeedsSteps, FeedsToLast, IsOfRead, TakesMore, TakesNone, TakesSteps, Waits, fed_by, step_count}
+use Rattle.trac_run.specs.Runs.{AreDone, EndsFor, FeedsAsFar, FeedsSteps, FeedsToLast, IsOfRead, Leaves, TakesMore, TakesNone, TakesSteps, Waits, fed_by, step_count}
 
 -- ---- lists of commands
 
@@ -179,6 +182,24 @@ feeds_end in_old in_new output p q waits h took = record {
   pending = front_of_nothing q.last.output;
 }
 
+-- ---- what an ending leaves
+
+-- a fault of the writer says nothing of it
+pub leaves_written : (ending : Ending) (rest : List ℕ) (p : PlainSession) → ending ≡ Write → Leaves ending rest p
+leaves_written ending rest p fault = subst (λ e. Leaves e rest p) (sym fault) tt
+
+-- nor does it change what was to be said
+pub leaves_closed : {A : Type 0} (ending result : Ending) (rest : List ℕ) (p : PlainSession) → ((result ≡ ending) × A) ⊎ (result ≡ Write) → Leaves ending rest p → Leaves result rest p
+leaves_closed {A} ending result rest p ends leaves = ⊎_elim
+    (λ (all : (result ≡ ending) × A). subst (λ e. Leaves e rest p) (sym all.0) leaves)
+    (λ (fault : result ≡ Write). leaves_written result rest p fault)
+    ends
+
+-- what a read gave that changed nothing
+pub leaves_unfed : (ending : Ending) (got : List ℕ) (r s : PlainSession) → s ≡ r → EndsFor ending r got → Leaves ending got s
+leaves_unfed Memory got r s same why = inr (why.0, subst (λ p. Answers (Feed got) p (Refused refusals.Memory) p) (sym same) why.1)
+leaves_unfed ending got r s same why = tt
+
 -- ---- a turn
 
 -- a walk, and what comes after it, which takes no step
@@ -190,10 +211,10 @@ feeds_turn {in_old} {in_new} {out_old} {out_new} {rest} {late} {most} {n} {m} {k
 
 -- the run ends after it, with what is pending written, or a front of it
 pub feeds_walk : {input out_old out_new : Option (List ℕ)} {most n m k : ℕ} {why : Option Refusal} {p q : PlainSession} (lent : List ℕ) (ending result : Ending) → k ≤ m → IsWalkWithin most no_goal n p k why q →
-    lent ≡ q.last.output → Closes out_old out_new lent ending result → FeedsToLast input input out_old out_new (m - (m - k)) p q
-feeds_walk {input} {out_old} {out_new} {most} {n} {m} {k} {why} {p} {q} lent ending result within walk is closes =
+    lent ≡ q.last.output → Closes out_old out_new lent ending result → Leaves ending [] q → FeedsToLast result input input out_old out_new (m - (m - k)) p q
+feeds_walk {input} {out_old} {out_new} {most} {n} {m} {k} {why} {p} {q} lent ending result within walk is closes leaves =
     let front : WritesFront out_old out_new q.last.output = record { written = closes.written; front = subst (IsFrontOf closes.written) is closes.front; gave = closes.gave } in
-    ([], front.written, feeds_turn {m = m} q within walk (feeds_late q q refl front))
+    ([], front.written, feeds_turn {m = m} q within walk (feeds_late q q refl front), leaves_closed ending result [] q closes.ends leaves)
 
 -- a commit of what was written, and a read that gave more, or the end
 pub feeds_taken : {in_old in_new out_old out_new : Option (List ℕ)} (q r s : PlainSession) → Waits r → Appends out_old out_new q.last.output → answer (Commit 0) q ≡ done r → TakesMore in_old in_new r s →
@@ -205,10 +226,14 @@ feeds_taken {in_old} {in_new} {out_old} {out_new} q r s waits gave e taken = fee
     taken.fed)
 
 -- a commit of what was written, and a read that changed nothing; then what is pending is written, or a front of it
-pub feeds_untaken : {in_old in_new out_old out_now out_new : Option (List ℕ)} (q r s : PlainSession) (ending : Ending) → Waits r → Appends out_old out_now q.last.output → answer (Commit 0) q ≡ done r → TakesNone in_old in_new r s ending →
-    WritesFront out_now out_new s.last.output → FeedsToLast in_old in_new out_old out_new 0 q s
-feeds_untaken {in_old} q r s ending waits gave e taken front =
-    (taken.got, front.written, feeds_both 0 0 q r s (feeds_commit in_old q r gave e) (feeds_left taken.got r s waits taken.few taken.same taken.took front))
+pub feeds_untaken : {in_old in_new out_old out_now out_new : Option (List ℕ)} {A : Type 0} (q r s : PlainSession) (ending result : Ending) → Waits r → Appends out_old out_now q.last.output → answer (Commit 0) q ≡ done r → TakesNone in_old in_new r s ending →
+    WritesFront out_now out_new s.last.output → ((result ≡ ending) × A) ⊎ (result ≡ Write) → FeedsToLast result in_old in_new out_old out_new 0 q s
+feeds_untaken {in_old} q r s ending result waits gave e taken front ends = (
+  taken.got,
+  front.written,
+  feeds_both 0 0 q r s (feeds_commit in_old q r gave e) (feeds_left taken.got r s waits taken.few taken.same taken.took front),
+  leaves_closed ending result taken.got s ends (leaves_unfed ending taken.got r s taken.same taken.why),
+)
 
 -- ---- parts that go on or end
 
@@ -216,4 +241,4 @@ feeds_untaken {in_old} q r s ending waits gave e taken front =
 pub as_far_turn : {T : Type 0} (in_old in_new out_old out_new : Option (List ℕ)) {most n m k : ℕ} {why : Option Refusal} {p q : PlainSession} (r : PlainSession) (result : Result T Ending) → k ≤ m → IsWalkWithin most no_goal n p k why q →
     FeedsAsFar result in_old in_new out_old out_new 0 q r → FeedsAsFar result in_old in_new out_old out_new (m - (m - k)) p r
 as_far_turn in_old in_new out_old out_new {m = m} r (Ok x) within walk rest = feeds_turn {m = m} r within walk rest
-as_far_turn in_old in_new out_old out_new {m = m} r (Err ending) within walk rest = (rest.0, rest.1, feeds_turn {m = m} r within walk rest.2)
+as_far_turn in_old in_new out_old out_new {m = m} r (Err ending) within walk rest = (rest.0, rest.1, feeds_turn {m = m} r within walk rest.2, rest.3)

@@ -36,15 +36,15 @@ too_long_for p q got refusal open_ few h =
     )
 
 -- how a refused feed ends a run
-pub feed_ends : (p q : PlainSession) (got : List ℕ) (refusal : Refusal) → p.tape.ended ≡ false → length got ≤ 4096 → Answers (Feed got) p (Refused refusal) q → (q ≡ p) × EndsFor (ending_of_feed refusal) p got
-feed_ends p q got refusals.Memory open_ few h = (h.1, tt)
-feed_ends p q got refusals.TooLong open_ few h = too_long_for p q got refusals.TooLong open_ few h
-feed_ends p q got refusals.NeedInput open_ few h = too_long_for p q got refusals.NeedInput open_ few h
-feed_ends p q got refusals.Ended open_ few h = too_long_for p q got refusals.Ended open_ few h
-feed_ends p q got refusals.JournalFull open_ few h = too_long_for p q got refusals.JournalFull open_ few h
-feed_ends p q got refusals.AtStart open_ few h = too_long_for p q got refusals.AtStart open_ few h
-feed_ends p q got refusals.Closed open_ few h = too_long_for p q got refusals.Closed open_ few h
-feed_ends p q got refusals.NotMet open_ few h = too_long_for p q got refusals.NotMet open_ few h
+pub feed_ends : (p q : PlainSession) (got : List ℕ) (refusal : Refusal) → p.tape.ended ≡ false → 0 < length got → length got ≤ 4096 → Answers (Feed got) p (Refused refusal) q → (q ≡ p) × EndsFor (ending_of_feed refusal) p got
+feed_ends p q got refusals.Memory open_ some few h = (h.1, (some, (h.0, refl)))
+feed_ends p q got refusals.TooLong open_ some few h = too_long_for p q got refusals.TooLong open_ few h
+feed_ends p q got refusals.NeedInput open_ some few h = too_long_for p q got refusals.NeedInput open_ few h
+feed_ends p q got refusals.Ended open_ some few h = too_long_for p q got refusals.Ended open_ few h
+feed_ends p q got refusals.JournalFull open_ some few h = too_long_for p q got refusals.JournalFull open_ few h
+feed_ends p q got refusals.AtStart open_ some few h = too_long_for p q got refusals.AtStart open_ few h
+feed_ends p q got refusals.Closed open_ some few h = too_long_for p q got refusals.Closed open_ few h
+feed_ends p q got refusals.NotMet open_ some few h = too_long_for p q got refusals.NotMet open_ few h
 
 -- it is no fault of the reader
 pub feed_sound : (refusal : Refusal) → fault_reads (ending_of_feed refusal) ≡ 0
@@ -56,7 +56,7 @@ pub takes_none : (in_old in_new : Option (List ℕ)) (p q : PlainSession) (buffe
     ending ≡ ending_of_feed refusal → Consumes in_old in_new (take n buffer) → Answers (Feed (take n buffer)) p (Refused refusal) q → TakesNone in_old in_new p q ending
 takes_none in_old in_new p q buffer n refusal ending open_ some l few is took h =
     let few_ : length (take n buffer) ≤ 4096 = omega (arith, length-take-le n buffer l) in
-    let at = feed_ends p q (take n buffer) refusal open_ few_ h in
+    let at = feed_ends p q (take n buffer) refusal open_ (omega (arith, length-take-le n buffer l, some)) few_ h in
     record {
       got = take n buffer;
       few = few_;

@@ -5,8 +5,9 @@ use Rattle.std.specs.Io.KnownBytes.{Appends, Consumes, IsAtEnd}
 use Rattle.trac_rules.specs.declared.limit.TheConstants.{TEXT_LIMIT, TAPE_LIMIT}
 use Rattle.trac_rules.specs.declared.refusal.Refusal.{Refusal}
 use Rattle.trac_rules.specs.declared.refusal.Refusal.TheVariants as refusals
+use Rattle.trac_rules.specs.declared.reply.Reply.TheVariants.{Refused}
 use Rattle.trac_rules.specs.Session.{PlainSession, Command, Feed, End, Step, Back, Commit, done, first_kept}
-use Rattle.trac_rules.specs.Session.{new_session, refused, answer}
+use Rattle.trac_rules.specs.Session.{new_session, refused, answer, Answers}
 use Rattle.trac_rules.specs.declared.width.Width.{Width}
 use Rattle.trac_rules.specs.Running.{Output, BudgetSpent, InputEnded, LimitPassed, output_of}
 use Rattle.trac_rules.specs.GoingOn.{prepended, going_on_from}
@@ -132,18 +133,27 @@ pub record FeedsSteps (in_old in_new out_old out_new : Option (List ℕ)) (steps
   pub gave : Appends out_old out_new (takes.released ++ late)
   pub pending : IsFrontOf late q.last.output
 
--- the same, whatever the rest and that front are
-abbrev pub FeedsToLast : Option (List ℕ) → Option (List ℕ) → Option (List ℕ) → Option (List ℕ) → ℕ → PlainSession →
-    PlainSession → Type 0
-FeedsToLast in_old in_new out_old out_new steps p q =
-    (rest : List ℕ) × (late : List ℕ) × FeedsSteps in_old in_new out_old out_new steps rest late p q
+-- this rest was read and not fed. A run ends for want of memory only if the session may lack it: for its next step, if
+-- nothing is left, else to be fed the rest. So it never does where the rules refuse that step for anything but a limit,
+-- nor where the rest has no place on the tape
+abbrev pub Leaves : Ending → List ℕ → PlainSession → Type 0
+Leaves Memory rest p = ((rest ≡ []) × Answers Step p (Refused refusals.Memory) p)
+    ⊎ ((0 < length rest) × Answers (Feed rest) p (Refused refusals.Memory) p)
+Leaves ending rest p = Unit {0}
+
+-- the same to a run's end, whatever the rest and that front are
+abbrev pub FeedsToLast : Ending → Option (List ℕ) → Option (List ℕ) → Option (List ℕ) → Option (List ℕ) → ℕ →
+    PlainSession → PlainSession → Type 0
+FeedsToLast ending in_old in_new out_old out_new steps p q = (rest : List ℕ) × (late : List ℕ)
+    × FeedsSteps in_old in_new out_old out_new steps rest late p q × Leaves ending rest q
 
 -- a part of a run took so many steps. If the run goes on after it, all that it read is fed, and all that it wrote is
 -- released
 abbrev pub FeedsAsFar : {T : Type 0} → Result T Ending → Option (List ℕ) → Option (List ℕ) → Option (List ℕ) →
     Option (List ℕ) → ℕ → PlainSession → PlainSession → Type 0
 FeedsAsFar (Ok x) in_old in_new out_old out_new steps p q = FeedsSteps in_old in_new out_old out_new steps [] [] p q
-FeedsAsFar (Err ending) in_old in_new out_old out_new steps p q = FeedsToLast in_old in_new out_old out_new steps p q
+FeedsAsFar (Err ending) in_old in_new out_old out_new steps p q =
+    FeedsToLast ending in_old in_new out_old out_new steps p q
 
 -- a whole run: its session began new, and may keep so many states. What was read is what was fed to it while its next
 -- step waited for input, and perhaps what a last such read gave. So no byte was read once the program halted. What was
@@ -152,7 +162,7 @@ pub record RunsAnew (in_old in_new out_old out_new : Option (List ℕ)) (journal
     (ending : Ending) : Type 0 where
   pub runs : Runs in_old in_new out_old out_new width budget ending
   pub session : PlainSession
-  pub feeds : FeedsToLast in_old in_new out_old out_new runs.steps (new_session journal width) session
+  pub feeds : FeedsToLast ending in_old in_new out_old out_new runs.steps (new_session journal width) session
 
 -- ---- parts of a run
 
@@ -223,11 +233,11 @@ abbrev pub FeedsOrEnds : PlainSession → List ℕ → PlainSession → Option (
 FeedsOrEnds p got q rest =
     ((got ≡ []) × IsAtEnd rest × (answer End p ≡ done q)) ⊎ ((0 < length got) × (answer (Feed got) p ≡ done q))
 
--- why the bytes that the reader gave were not fed: it gave none for a fault, or there is no memory, or more
+-- why the bytes that the reader gave were not fed: it gave none for a fault, or memory may be lacking for them, or more
 -- is unread than any text may hold
 abbrev pub EndsFor : Ending → PlainSession → List ℕ → Type 0
 EndsFor Read p got = got ≡ []
-EndsFor Memory p got = Unit {0}
+EndsFor Memory p got = (0 < length got) × Answers (Feed got) p (Refused refusals.Memory) p
 EndsFor Limit p got = TEXT_LIMIT < length p.tape.bytes
 EndsFor Ended p got = ⊥
 EndsFor Budget p got = ⊥

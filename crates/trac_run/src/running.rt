@@ -82,7 +82,7 @@ pub fn run_session<R: Read, W: Write, A: Allocator + Copy>(
         session.old.width budget result.steps result.reads result.ending }
     ensures within { result.steps ≤ budget }
     ensures steps { TakesSteps result.steps session.old session.new }
-    ensures feeds { FeedsToLast (R.remaining input.old) (R.remaining input.new) (W.contents output.old)
+    ensures feeds { FeedsToLast result.ending (R.remaining input.old) (R.remaining input.new) (W.contents output.old)
         (W.contents output.new) result.steps session.old session.new }
     ensures ended { session.new.tape.ended ≡ true → IsAtEnd (R.remaining input.new) }
 {

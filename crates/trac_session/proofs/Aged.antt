@@ -23,29 +23,30 @@ use Rattle.trac_session.specs.Knowing.{AreRecent, HasForgotten}
 abbrev Has : Names → State → Type 0
 Has names s = KnowsAll names s.forms
 
+-- those of all states but the oldest are so, of which there may be fewer
+abbrev pub AreNewer : ℕ → Names → List State → Type 0
+AreNewer mark names states = All (Has names) (take (length states - mark) states)
+
 -- ---- lists of states
 
-pub none_recent : (mark : ℕ) (names : Names) → AreRecent mark names []
-none_recent mark names = All-take (Has names) (0 - mark) [] (All-nil (Has names))
+pub none_recent : (mark : ℕ) (names : Names) → mark ≤ 0 → AreRecent mark names []
+none_recent mark names none = (none, All-take (Has names) (0 - mark) [] (All-nil (Has names)))
 
 pub recent_weaker : (mark : ℕ) (names more : Names) (states : List State) → AreAmong names more → AreRecent mark names states → AreRecent mark more states
 recent_weaker mark names more states among all =
-    All-weaker (Has names) (Has more) (λ s knows name there. among name (knows name there)) (take (length states - mark) states) all
+    (all.0, All-weaker (Has names) (Has more) (λ s knows name there. among name (knows name there)) (take (length states - mark) states) all.1)
 
 -- one more
 pub recent_more : (mark : ℕ) (names : Names) (s : State) (states : List State) → Has names s → AreRecent mark names states → AreRecent mark names (s ∷ states)
-recent_more mark names s states here all = ⊎_elim
-    (λ (past : length states < mark).
-    let none : length (s ∷ states) - mark ≡ 0 = omega (arith, past) in
-    subst (λ n. All (Has names) (take n (s ∷ states))) (sym none) (All-nil (Has names)))
-    (λ (within : mark ≤ length states).
-    let one : length (s ∷ states) - mark ≡ suc (length states - mark) = omega (arith, within) in
-    subst (λ n. All (Has names) (take n (s ∷ states))) (sym one) (All-cons (Has names) s (take (length states - mark) states) here all))
-    (cases_lt (length states) mark)
+recent_more mark names s states here all =
+    let one : length (s ∷ states) - mark ≡ suc (length states - mark) = omega (arith, all.0) in (
+      omega (arith, all.0),
+      subst (λ n. All (Has names) (take n (s ∷ states))) (sym one) (All-cons (Has names) s (take (length states - mark) states) here all.1),
+    )
 
 -- one fewer
-pub recent_fewer : (mark : ℕ) (names : Names) (s : State) (states : List State) → AreRecent mark names (s ∷ states) → AreRecent mark names states
-recent_fewer mark names s states all = ⊎_elim
+newer_fewer : (mark : ℕ) (names : Names) (s : State) (states : List State) → AreNewer mark names (s ∷ states) → AreNewer mark names states
+newer_fewer mark names s states all = ⊎_elim
     (λ (past : length states < mark).
     let none : length states - mark ≡ 0 = omega (arith, past) in
     subst (λ n. All (Has names) (take n states)) (sym none) (All-nil (Has names)))
@@ -60,26 +61,26 @@ recent_front mark names [] states here all = all
 recent_front mark names (s ∷ front) states here all =
     recent_more mark names s (front ++ states) (All-head (Has names) s front here) (recent_front mark names front states (All-tail (Has names) s front here) all)
 
-recent_rest : (mark : ℕ) (names : Names) (front states : List State) → AreRecent mark names (front ++ states) → AreRecent mark names states
-recent_rest mark names [] states all = all
-recent_rest mark names (s ∷ front) states all = recent_rest mark names front states (recent_fewer mark names s (front ++ states) all)
+newer_rest : (mark : ℕ) (names : Names) (front states : List State) → AreNewer mark names (front ++ states) → AreNewer mark names states
+newer_rest mark names [] states all = all
+newer_rest mark names (s ∷ front) states all = newer_rest mark names front states (newer_fewer mark names s (front ++ states) all)
 
 -- no more are old than there are
-pub recent_min : (mark n more : ℕ) (names : Names) (states : List State) → n ≡ length states → more ≡ min mark n → AreRecent mark names states → AreRecent more names states
+pub recent_min : (mark n more : ℕ) (names : Names) (states : List State) → n ≡ length states → more ≡ min mark n → AreNewer mark names states → AreRecent more names states
 recent_min mark n more names states all_of is all =
     let same : length states - more ≡ length states - mark = omega (arith, all_of, is) in
-    subst (λ k. All (Has names) (take k states)) (sym same) all
+    (omega (arith, all_of, is), subst (λ k. All (Has names) (take k states)) (sym same) all)
 
 -- ---- by steps
 
 -- a machine that forgets names
 pub recent_forgotten : (mark : ℕ) (records : List Record) (m n : Shown) → HasForgotten records m n → AreRecent mark m.recent (earlier_of records m.state) → AreRecent mark n.recent (earlier_of records n.state)
-recent_forgotten mark [] m n h all = none_recent mark n.recent
+recent_forgotten mark [] m n h all = none_recent mark n.recent all.0
 recent_forgotten mark (r ∷ records) m n h all = subst (λ (u : Shown). AreRecent mark u.recent (earlier_of (r ∷ records) u.state)) (sym h) all
 
 -- no state is before the last
-pub recent_gone : (mark : ℕ) (records : List Record) (m : Shown) → records ≡ [] → AreRecent mark m.recent (earlier_of records m.state)
-recent_gone mark records m none = subst (λ (rs : List Record). AreRecent mark m.recent (earlier_of rs m.state)) (sym none) (none_recent mark m.recent)
+pub recent_gone : (records : List Record) (m : Shown) → records ≡ [] → AreRecent 0 m.recent (earlier_of records m.state)
+recent_gone records m none = subst (λ (rs : List Record). AreRecent 0 m.recent (earlier_of rs m.state)) (sym none) (none_recent 0 m.recent (omega arith))
 
 -- the same states
 pub recent_stays : (mark : ℕ) (old new : List Record) (m k : Shown) → new ≡ old → k.state ≡ m.state → AreAmong m.recent k.recent → AreRecent mark m.recent (earlier_of old m.state) →
@@ -93,11 +94,11 @@ recent_after_step mark names more p q h among here all =
     subst (λ (states : List State). AreRecent mark more states) (sym (ap (λ (r : PlainSession). r.earlier) at.2))
     (recent_more mark more p.last p.earlier here (recent_weaker mark names more p.earlier among all))
 
-pub recent_after_back : (mark : ℕ) (names more : Names) (p q : PlainSession) → answer Back p ≡ done q → AreAmong names more → AreRecent mark names p.earlier → AreRecent mark more q.earlier
+pub recent_after_back : (mark : ℕ) (names more : Names) (p q : PlainSession) → answer Back p ≡ done q → AreAmong names more → AreRecent mark names p.earlier → AreNewer mark more q.earlier
 recent_after_back mark names more p q h among all =
     let at = Back_done p q h in
-    subst (λ (states : List State). AreRecent mark more states) (sym (ap (λ (r : PlainSession). r.earlier) at.3))
-    (recent_fewer mark more at.0 at.1 (subst (λ (states : List State). AreRecent mark more states) at.2 (recent_weaker mark names more p.earlier among all)))
+    subst (λ (states : List State). AreNewer mark more states) (sym (ap (λ (r : PlainSession). r.earlier) at.3))
+    (newer_fewer mark more at.0 at.1 (subst (λ (states : List State). AreNewer mark more states) at.2 (recent_weaker mark names more p.earlier among all).1))
 
 -- a byte that moves leaves the forms
 forms-moved : (n : ℕ) (s : State) → (moved_on n s).forms ≡ s.forms
@@ -117,14 +118,14 @@ pub recent_passed : (mark n : ℕ) (names : Names) (s : State) (earlier later : 
 recent_passed mark n names s earlier later is here all =
     subst (λ (states : List State). AreRecent mark names states) (sym is) (recent_front mark names (on_the_way n s) earlier (have_moved names n s here) all)
 
-pub recent_passed_back : (mark n : ℕ) (names : Names) (s : State) (earlier later : List State) → later ≡ on_the_way n s ++ earlier → AreRecent mark names later → AreRecent mark names earlier
+pub recent_passed_back : (mark n : ℕ) (names : Names) (s : State) (earlier later : List State) → later ≡ on_the_way n s ++ earlier → AreRecent mark names later → AreNewer mark names earlier
 recent_passed_back mark n names s earlier later is all =
-    recent_rest mark names (on_the_way n s) earlier (subst (λ (states : List State). AreRecent mark names states) is all)
+    newer_rest mark names (on_the_way n s) earlier (subst (λ (states : List State). AreRecent mark names states) is all).1
 
 -- ---- by a commit
 
 -- of the states that stay
-module _ (mark keep : ℕ) (names : Names) (states : List State) (all : AreRecent mark names states) where
+module _ (mark keep : ℕ) (names : Names) (states : List State) (all : AreNewer mark names states) where
   abbrev left : List State
   left = take keep states
 
@@ -142,7 +143,7 @@ module _ (mark keep : ℕ) (names : Names) (states : List State) (all : AreRecen
         (subst (λ (xs : List State). All (Has names) xs) (take_all (length left) left (omega arith)) (newest (length left) (omega (arith, none, length-take keep states)) (omega arith)))
 
     -- those that are newer, where some are older
-    released_some : (more : ℕ) → more ≡ mark - (length states - length left) → length states - length left < mark → AreRecent more names (map (released o k) left)
+    released_some : (more : ℕ) → more ≡ mark - (length states - length left) → length states - length left < mark → AreNewer more names (map (released o k) left)
     released_some more is some =
         let n : ℕ = length left - more in
         let cut : take (length (map (released o k) left) - more) (map (released o k) left) ≡ map (released o k) (take n left) =
@@ -162,9 +163,11 @@ module _ (keep mark before kept : ℕ) (names : Names) (p q : PlainSession) (h :
   pub all_newer : mark ≤ before - kept → All (λ s. KnowsAll names s.forms) q.earlier
   all_newer none =
       subst (λ (xs : List State). All (Has names) xs) (sym states_are)
-      (released_all mark keep names p.earlier all (length (first_kept keep p).output) (first_kept keep p).position (omega (arith, none, before_is, kept_is, as_many)))
+      (released_all mark keep names p.earlier all.1 (length (first_kept keep p).output) (first_kept keep p).position (omega (arith, none, before_is, kept_is, as_many)))
 
   pub some_newer : (more : ℕ) → more ≡ mark - (before - kept) → before - kept < mark → AreRecent more names q.earlier
   some_newer more is some =
-      subst (λ (xs : List State). AreRecent more names xs) (sym states_are)
-      (released_some mark keep names p.earlier all (length (first_kept keep p).output) (first_kept keep p).position more (omega (arith, is, before_is, kept_is, as_many)) (omega (arith, some, before_is, kept_is, as_many)))
+      let newer = released_some mark keep names p.earlier all.1 (length (first_kept keep p).output) (first_kept keep p).position more (omega (arith, is, before_is, kept_is, as_many)) (omega (arith, some, before_is, kept_is, as_many)) in (
+        omega (arith, is, some, all.0, before_is, kept_is, as_many, length-take keep p.earlier),
+        subst (λ (xs : List State). AreNewer more names xs) (sym states_are) newer,
+      )

@@ -83,7 +83,7 @@ module _ {limit : ℕ} {width : Width} {bytes rest : List ℕ} {ended : Bool} {m
       let names = names_in k.state in
       subst (λ (u : Shown). IsSession limit width rest ended more new u) (sym is.machine)
       (answered (Commit keep) Done session still (IsSound-swept k sound there) h (own_swept kept kept new k (after_sweep k) (record { machine = refl; mark_is = refl }) own)
-      (subst (λ count. All (λ s. KnowsAll names s.forms) (take count (earlier_of new k.state))) (sym last) (All-nil (λ s. KnowsAll names s.forms))))
+      (omega (arith, kept_there, is.mark_is), subst (λ count. All (λ s. KnowsAll names s.forms) (take count (earlier_of new k.state))) (sym last) (All-nil (λ s. KnowsAll names s.forms))))
 
   pub committed_session : (mark ≤ before - kept → HasSwept kept more k n) → (before - kept < mark → (n ≡ k) × (more ≡ mark - (before - kept))) → IsSession limit width rest ended more new n
   committed_session sweeps waits = ⊎_elim

@@ -67,8 +67,8 @@ pub record IsSound (limit : ℕ) (bytes : List ℕ) (journal : List Record) (mac
   pub records : AreRecords (IsWithinReach machine (length bytes)) journal machine.state
 
 -- what is true of the fields of every session: they are sound, the width is that of the machine's numbers, each state
--- but the first is the step from the one before it; without a step to go back over no name is known but its own; and
--- the names of the forms of all earlier states are recent, but for so many of the oldest
+-- but the first is the step from the one before it. Without a step to go back over no name is known but its own. So
+-- many of the earlier states are old, and no more than there are. The names of the forms of all others are recent
 pub record IsSession (limit : ℕ) (width : Width) (bytes : List ℕ) (ended : Bool) (mark : ℕ) (journal : List Record)
     (machine : Shown) : Type 0 where
   pub sound : IsSound limit bytes journal machine

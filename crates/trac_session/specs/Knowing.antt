@@ -1,5 +1,5 @@
 -- Which names the machine of a session knows.
-use Rattle.std.specs.Prelude.{◌≡◌, ◌-◌, ℕ, List, [], ◌∷◌, length, take}
+use Rattle.std.specs.Prelude.{◌≡◌, ◌-◌, ◌≤◌, ℕ, List, [], ◌∷◌, length, take}
 use Rattle.std.specs.FinSet as set
 use Rattle.std.specs.List.{All}
 use Rattle.trac_forms.specs.Stored.{KnowsAll, Names}
@@ -22,9 +22,10 @@ abbrev pub HasForgotten : List Record → Shown → Shown → Type 0
 HasForgotten [] old new = new ≡ record old { known = names_in old.state; recent = names_in old.state }
 HasForgotten (r ∷ records) old new = new ≡ old
 
--- the names of the forms of these states, the newest first, are recent: but for so many of the oldest
+-- these are states, the newest first, so many of them old. Of all others the names of the forms are recent
 abbrev pub AreRecent : ℕ → Names → List State → Type 0
-AreRecent mark recent states = All (λ s. KnowsAll recent s.forms) (take (length states - mark) states)
+AreRecent mark recent states =
+    (mark ≤ length states) × All (λ s. KnowsAll recent s.forms) (take (length states - mark) states)
 
 -- a machine has forgotten the names that were not recent, and those of its forms alone are recent then; so many steps
 -- are left, all from before that

@@ -4,7 +4,7 @@ use Rattle.trac_run.proofs.Ran.{new_by_itself, ran_anew, ran_not_anew}
 use Rattle.trac_run.proofs.running.run.Goals as goal
 
 pub returns-in_default : goal.returns-in_default
-returns-in_default g c = ran_not_anew _ _ _ _ c.args.options.journal c.args.options.decimals c.args.options.budget c.finish.result refl c.finish.ensures
+returns-in_default g c = ran_not_anew _ _ _ _ c.args.options.journal c.args.options.decimals c.args.options.budget c.finish.result c.requires.some_records refl c.finish.ensures
 
 pub run_session-requires-clause-new : goal.run_session-requires-clause-new
 run_session-requires-clause-new g c = new_by_itself c.args.options.journal c.args.options.decimals c.in-Ok.session c.in-Ok.ensures.made

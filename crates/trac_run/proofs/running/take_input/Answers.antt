@@ -24,13 +24,13 @@ take_piece-requires-in-loop-waits-clause-few_reads g c =
 pub returns-in_err-waits-clause-steps : goal.returns-in_err-waits-clause-steps
 returns-in_err-waits-clause-steps g c =
     let out = err_from_is_err_and c.from_residual.result c.from_residual.ensures.1 in
-    rw out.1 c.in_err-waits.ensures.steps
+    rw (out.1, out.2) c.in_err-waits.ensures.steps
 
 pub returns-in_err-waits-2-clause-steps : goal.returns-in_err-waits-2-clause-steps
 returns-in_err-waits-2-clause-steps g c =
     let out = err_from_is_err_and c.from_residual-in_err-waits-2.result c.from_residual-in_err-waits-2.ensures.1 in
     let last = c.in_err-waits-2.ensures.steps in
-    rw out.1 (last.0, last.1, feeds_both 0 0 c.args.session.now c.loop-waits.session _ c.loop-waits.invariant.steps last.2)
+    rw (out.1, out.2) (last.0, last.1, feeds_both 0 0 c.args.session.now c.loop-waits.session _ c.loop-waits.invariant.steps last.2, last.3)
 
 pub returns-in_err-waits-clause-ended : goal.returns-in_err-waits-clause-ended
 returns-in_err-waits-clause-ended g c =

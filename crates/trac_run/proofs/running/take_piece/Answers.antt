@@ -1,11 +1,11 @@
-use Rattle.std.proofs.Common.{◌+◌, [], ◌∙◌, refl, subst}
+use Rattle.std.proofs.Common.{◌+◌, [], ◌∙◌, inl, refl, subst, sym}
 use Rattle.std.proofs.lemmas.Result.{err_from_is_err_and}
 use Rattle.std.specs.Io.KnownBytes.{Appends}
 use Rattle.trac_rules.proofs.Waiting.{Commit_waits}
 use Rattle.trac_streams.specs.Written.{WritesFront, Closes}
 use Rattle.trac_run.specs.Runs.{TakesNone}
 use Rattle.trac_streams.proofs.Known.{Appends-kept}
-use Rattle.trac_run.proofs.Stepped.{feeds_late, feeds_taken, feeds_untaken, wrote_none}
+use Rattle.trac_run.proofs.Stepped.{feeds_late, feeds_taken, feeds_untaken, leaves_written, wrote_none}
 use Rattle.trac_run.proofs.Taken.{wanted_open_after, taken_on, taken_fresh, taken_fewer, unwritten_finish, unflushed_front, unfed_finish, unfed_closed, unfed_never_ended, wanted_never_ended}
 use Rattle.trac_run.proofs.Turned.{sound_unless}
 use Rattle.trac_run.proofs.running.take_piece.Goals as goal
@@ -65,28 +65,29 @@ pub returns-in-Read-clause-steps : goal.returns-in-Read-clause-steps
 returns-in-Read-clause-steps g c =
     let gave : Appends (g.W.Write.contents c.args.output.now) (g.W.Write.contents c.flush.new.output) c.args.session.now.last.output =
     subst (Appends (g.W.Write.contents c.args.output.now) (g.W.Write.contents c.flush.new.output)) c.pending.ensures (Appends-kept _ _ _ _ c.in_ok-write_whole.ensures.ok c.flush.ensures.same) in
-    feeds_untaken c.args.session.now c.commit.new.self c.read_more.new.session _ (Commit_waits c.args.session.now c.commit.new.self c.requires.some_records c.requires.wanted c.commit.ensures) gave c.commit.ensures c.in-Err.ensures.err
-    (wrote_none (g.W.Write.contents c.flush.new.output) c.read_more.new.session.last.output)
+    feeds_untaken c.args.session.now c.commit.new.self c.read_more.new.session _ _ (Commit_waits c.args.session.now c.commit.new.self c.requires.some_records c.requires.wanted c.commit.ensures) gave c.commit.ensures c.in-Err.ensures.err
+    (wrote_none (g.W.Write.contents c.flush.new.output) c.read_more.new.session.last.output) (inl (sym c.in-Read.is, tt))
 
 pub returns-in_default-clause-steps : goal.returns-in_default-clause-steps
 returns-in_default-clause-steps g c =
     let gave : Appends (g.W.Write.contents c.args.output.now) (g.W.Write.contents c.flush.new.output) c.args.session.now.last.output =
     subst (Appends (g.W.Write.contents c.args.output.now) (g.W.Write.contents c.flush.new.output)) c.pending.ensures (Appends-kept _ _ _ _ c.in_ok-write_whole.ensures.ok c.flush.ensures.same) in
     let closes = c.finish.ensures in
-    feeds_untaken c.args.session.now c.commit.new.self c.read_more.new.session _ (Commit_waits c.args.session.now c.commit.new.self c.requires.some_records c.requires.wanted c.commit.ensures) gave c.commit.ensures c.in-Err.ensures.err
+    feeds_untaken c.args.session.now c.commit.new.self c.read_more.new.session _ _ (Commit_waits c.args.session.now c.commit.new.self c.requires.some_records c.requires.wanted c.commit.ensures) gave c.commit.ensures c.in-Err.ensures.err
     (subst (WritesFront (g.W.Write.contents c.flush.new.output) (g.W.Write.contents c.finish.new.output)) c.pending-in_default.ensures (record { written = closes.written; front = closes.front; gave = closes.gave }))
+    closes.ends
 
 pub returns-in_err-write_whole-clause-steps : goal.returns-in_err-write_whole-clause-steps
 returns-in_err-write_whole-clause-steps g c =
     let out = err_from_is_err_and c.from_residual.result c.from_residual.ensures.1 in
     let front = subst (WritesFront _ _) c.pending.ensures c.in_err-write_whole.ensures.err in
-    rw out.1 ([], front.written, feeds_late c.args.session.now c.args.session.now refl front)
+    rw out.1 ([], front.written, feeds_late c.args.session.now c.args.session.now refl front, leaves_written out.0 [] c.args.session.now (out.2 ∙ c.in_err-write_whole.ensures.fault))
 
 pub returns-in_err-flush-clause-steps : goal.returns-in_err-flush-clause-steps
 returns-in_err-flush-clause-steps g c =
     let out = err_from_is_err_and c.from_residual-in_err-flush.result c.from_residual-in_err-flush.ensures.1 in
     let front = subst (WritesFront _ _) c.pending.ensures (unflushed_front _ _ _ _ c.in_ok-write_whole.ensures.ok c.flush.ensures.same) in
-    rw out.1 ([], front.written, feeds_late c.args.session.now c.args.session.now refl front)
+    rw out.1 ([], front.written, feeds_late c.args.session.now c.args.session.now refl front, leaves_written out.0 [] c.args.session.now (out.2 ∙ c.in_err-flush.ensures.fault))
 
 pub returns-in_err-write_whole-clause-ended : goal.returns-in_err-write_whole-clause-ended
 returns-in_err-write_whole-clause-ended g c =

@@ -1,4 +1,4 @@
-use Rattle.std.proofs.Common.{◌≡◌, ◌-◌, [], arith, refl, ⊎_elim}
+use Rattle.std.proofs.Common.{◌≡◌, ◌-◌, [], arith, inl, refl, ⊎_elim}
 use Rattle.std.specs.Prelude.{◌⊎◌}
 use Rattle.trac_rules.specs.declared.refusal.Refusal.TheVariants as refusals
 use Rattle.trac_streams.specs.declared.ending.Ending.TheVariants.{Ended, Budget, Limit, Memory}
@@ -82,22 +82,23 @@ unreachable-requires g c =
 
 pub returns-in_default-clause-steps : goal.returns-in_default-clause-steps
 returns-in_default-clause-steps g c =
-    feeds_walk {m = c.args.left.now} c.pending.result.now Budget c.finish.result (omega (arith, c.min.ensures, c.forward_within-walk.ensures.walk.within, c.forward_within-walk.ensures.within)) c.forward_within-walk.ensures c.pending.ensures c.finish.ensures
+    feeds_walk {m = c.args.left.now} c.pending.result.now Budget c.finish.result (omega (arith, c.min.ensures, c.forward_within-walk.ensures.walk.within, c.forward_within-walk.ensures.within)) c.forward_within-walk.ensures c.pending.ensures c.finish.ensures tt
 
 pub returns-in-NeedInput-clause-steps : goal.returns-in-NeedInput-clause-steps
 returns-in-NeedInput-clause-steps g c = as_far_turn _ _ _ _ {m = c.args.left.now} c.take_input.new.session c.take_input.result (omega (arith, c.min.ensures, c.forward_within-walk.ensures.walk.within, c.forward_within-walk.ensures.within)) c.forward_within-walk.ensures c.take_input.ensures.steps
 
 pub returns-in-TooLong-2-clause-steps : goal.returns-in-TooLong-2-clause-steps
 returns-in-TooLong-2-clause-steps g c =
-    feeds_walk {m = c.args.left.now} c.pending-in-TooLong-2.result.now Limit c.finish-in-TooLong-2.result (omega (arith, c.min.ensures, c.forward_within-walk.ensures.walk.within, c.forward_within-walk.ensures.within)) c.forward_within-walk.ensures c.pending-in-TooLong-2.ensures c.finish-in-TooLong-2.ensures
+    feeds_walk {m = c.args.left.now} c.pending-in-TooLong-2.result.now Limit c.finish-in-TooLong-2.result (omega (arith, c.min.ensures, c.forward_within-walk.ensures.walk.within, c.forward_within-walk.ensures.within)) c.forward_within-walk.ensures c.pending-in-TooLong-2.ensures c.finish-in-TooLong-2.ensures tt
 
 pub returns-in-Ended-clause-steps : goal.returns-in-Ended-clause-steps
 returns-in-Ended-clause-steps g c =
-    feeds_walk {m = c.args.left.now} c.pending-in-Ended.result.now Ended c.finish-in-Ended.result (omega (arith, c.min.ensures, c.forward_within-walk.ensures.walk.within, c.forward_within-walk.ensures.within)) c.forward_within-walk.ensures c.pending-in-Ended.ensures c.finish-in-Ended.ensures
+    feeds_walk {m = c.args.left.now} c.pending-in-Ended.result.now Ended c.finish-in-Ended.result (omega (arith, c.min.ensures, c.forward_within-walk.ensures.walk.within, c.forward_within-walk.ensures.within)) c.forward_within-walk.ensures c.pending-in-Ended.ensures c.finish-in-Ended.ensures tt
 
 pub returns-in-Memory-clause-steps : goal.returns-in-Memory-clause-steps
 returns-in-Memory-clause-steps g c =
     feeds_walk {m = c.args.left.now} c.pending-in-Memory.result.now Memory c.finish-in-Memory.result (omega (arith, c.min.ensures, c.forward_within-walk.ensures.walk.within, c.forward_within-walk.ensures.within)) c.forward_within-walk.ensures c.pending-in-Memory.ensures c.finish-in-Memory.ensures
+    (inl (refl, (stopped_for c.forward_within-walk.ensures c.in-Some.is c.in-Memory.is).1))
 
 pub take_input-requires-clause-fits : goal.take_input-requires-clause-fits
 take_input-requires-clause-fits g c = omega (arith, c.requires.fits, tape_after_walk _ _ _ _ (after_walk {m = c.args.left.now} (omega (arith, c.min.ensures)) c.requires.fresh c.forward_within-walk.ensures))

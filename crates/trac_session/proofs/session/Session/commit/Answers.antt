@@ -24,7 +24,7 @@ invariant_of-self g c =
     answered_forgotten (Commit 0) Done c.self.invariant still
     (IsSound-alone _ _ _ c.self.inside.journal.records c.clear.new.self.records c.self.inside.machine c.release_all.new.machine c.release_all.ensures.tape c.clear.ensures at c.self.invariant.sound)
     (Commit_alone _ _ _ _ c.self.inside.journal.records c.clear.new.self.records _ _ _ refl c.release_all.ensures.tape c.clear.ensures at still)
-    c.forget_names.ensures.forgotten (recent_gone 0 c.clear.new.self.records c.release_all.new.machine c.clear.ensures)
+    c.forget_names.ensures.forgotten (recent_gone c.clear.new.self.records c.release_all.new.machine c.clear.ensures)
 
 pub returns-then-keep-eq0 : goal.returns-then-keep-eq0
 returns-then-keep-eq0 g c =

@@ -38,7 +38,7 @@ session_at_first limit width bytes journal m n some most none first at same forg
   wide = shows_as_before (λ s w. w) journal m n forgotten ∙ same;
   trail = subst IsTrail (sym (plain_forgotten journal m n forgotten ∙ plain_at_first limit width m.width bytes journal m.state same none first at)) (new_trail limit width);
   names = own_names journal m n forgotten;
-  recent = recent_gone 0 journal n first;
+  recent = recent_gone journal n first;
 }
 
 pub forget_names-requires : goal.forget_names-requires

@@ -4,10 +4,9 @@ use Rattle.trac_rules.specs.Session.{PlainSession, Back}
 use Rattle.trac_rules.specs.State.{State}
 use Rattle.trac_step.specs.Layout.{Shown}
 use Rattle.trac_session.specs.Journal.{IsWithinReach, earlier_of, plain_of}
-use Rattle.trac_session.specs.Knowing.{AreRecent}
 use Rattle.trac_session.specs.Runs.{HasMovedBack}
 use Rattle.trac_forms.specs.Stored.{Names}
-use Rattle.trac_session.proofs.Aged.{recent_min, recent_passed_back}
+use Rattle.trac_session.proofs.Aged.{AreNewer, recent_min, recent_passed_back}
 use Rattle.trac_session.proofs.Journaled.{length-earlier}
 use Rattle.trac_session.proofs.Known.{IsSound-forgotten, at_start, plain_forgotten, walked_forgotten}
 use Rattle.trac_session.proofs.Passed.{Back_moved, Back_passed, HasPassedBack, IsSound-passed-back, length-moved, moved_back_says, passed_back}
@@ -40,7 +39,7 @@ invariant_of-self g c =
     (recent_min inside.mark c.len.result c.min-self-inside.result k.recent (earlier_of new k.state)
     (c.len.ensures ∙ sym (length-earlier (IsWithinReach k (length inside.tape.items)) inside.limit inside.tape.items inside.ended new k.state (plain_of inside.limit k.width inside.tape.items inside.ended new k.state) refl (IsSound-passed-back sound back).records))
     c.min-self-inside.ensures
-    (subst (λ (names : Names). AreRecent inside.mark names (earlier_of new k.state)) (sym (ap (λ (u : Shown). u.recent) c.move_back.ensures.others))
+    (subst (λ (names : Names). AreNewer inside.mark names (earlier_of new k.state)) (sym (ap (λ (u : Shown). u.recent) c.move_back.ensures.others))
     (recent_passed_back inside.mark c.pop_moved-count.result inside.machine.recent k.state (earlier_of new k.state) (earlier_of inside.journal.records inside.machine.state)
     (Back_moved sound back {ended = inside.ended} refl).earlier c.self.invariant.recent)))
 
