@@ -24,7 +24,7 @@ pub data LineCommand : Type 0 where
 
 -- ---- words
 
--- the words of a line, of which any two have exactly one space between them: so two spaces have an empty word between
+-- the words of a line, of which any two have exactly one space between them. So two spaces have an empty word between
 -- them, and a space at an end of the line has one beside it
 abbrev pub words_of : List ℕ → List (List ℕ)
 words_of line = slice_split (λ b. b == SPACE) line

@@ -30,8 +30,8 @@ turn_of number None = Ends (NotUnderstood number)
 turn_of number (Some Quit) = Ends Ended
 turn_of number (Some command) = Does command
 
--- what becomes of a line of this number, which counts from 1, empty lines too: a line past the limit on their number
--- ends the session, whatever it holds; an empty line is passed over; a line that is too long is not understood
+-- what becomes of a line of this number, which counts from 1, empty lines too. A line past the limit on their number
+-- ends the session, whatever it holds. Else an empty line is passed over, and a line that is too long is not understood
 abbrev pub turn_at : ℕ → List ℕ → Turn
 turn_at number [] = if nat_le number LINE_COUNT_LIMIT then Passes else Ends Budget
 turn_at number (b ∷ bs) = if nat_le number LINE_COUNT_LIMIT
@@ -51,7 +51,7 @@ TakesBy Replied (Does command) p Rest text ending = (reply : List ℕ) × (q : P
 TakesBy Replied (Ends stop) p Rest text ending = (text ≡ []) × (ending ≡ stop)
 
 -- if the lines from this number on are these and commands are replied to so, this text may be written from this session
--- on, and then the session ends so: at the end of the lines as if asked to
+-- on. Then the session ends so. At the end of the lines it ends as if asked to
 abbrev pub WritesBy : (LineCommand → PlainSession → List ℕ → PlainSession → Type 0) → List (List ℕ) → ℕ → PlainSession →
     List ℕ → Ending → Type 0
 WritesBy Replied [] number p text ending = (text ≡ []) × (ending ≡ Ended)
@@ -65,8 +65,8 @@ Takes turn p Rest text ending = TakesBy Replies turn p Rest text ending
 abbrev pub MayWrite : List (List ℕ) → ℕ → PlainSession → List ℕ → Ending → Type 0
 MayWrite lines number p text ending = WritesBy Replies lines number p text ending
 
--- in a turn from this session on, to which so many steps led and which has released this text, the reply tells what
--- becomes of both. `Rest` says the same of what is written after it
+-- if so many steps led to this session and it has released this text, the reply in this turn tells what becomes of
+-- both. `Rest` says the same of what is written after it
 abbrev pub TurnTells : Turn → ℕ → List ℕ → PlainSession → (ℕ → List ℕ → PlainSession → List ℕ → Type 0) → List ℕ →
     Type 0
 TurnTells Passes steps text p Rest written = Rest steps text p written
@@ -76,8 +76,8 @@ TurnTells (Does command) steps text p Rest written =
     × Rest after (text ++ more) q rest
 TurnTells (Ends stop) steps text p Rest written = written ≡ []
 
--- so many steps over this input led to this session, and it has released this text. What is written of it, with these
--- lines from this number on, tells how many steps lead to each session after it, and what each has released
+-- so many steps over this input led to this session, and it has released this text. What is written, with these lines
+-- from this number on, tells how many steps lead to each later session, and what each has released
 abbrev pub TellsOutput : List ℕ → List (List ℕ) → ℕ → ℕ → List ℕ → PlainSession → List ℕ → Type 0
 TellsOutput input [] number steps text p written = HasReleased input steps text p × (written ≡ [])
 TellsOutput input (line ∷ lines) number steps text p written = HasReleased input steps text p
@@ -140,8 +140,8 @@ abbrev pub ShowsWithMemory : List ℕ → ℕ → Width → List ℕ → List �
 ShowsWithMemory tape limit width commands text ending =
     shown_by (WritesBy RepliesWithMemory) tape limit width commands text ending (nat_le (length tape) TAPE_LIMIT)
 
--- the same of a session over this tape, with such a journal and such numbers: the first so many lines of these commands
--- lead to some session. The replies tell how many steps lead to each session, and what it has released
+-- the same of a session over this tape, with such a journal and such numbers. The first so many lines of these commands
+-- lead from it to some session. The replies tell how many steps lead to each session, and what it has released
 abbrev pub RepliesToFirst : List ℕ → ℕ → Width → ℕ → List ℕ → List ℕ → Type 0
 RepliesToFirst tape limit width count commands text =
     ((q : PlainSession) × FollowsFirst (ready tape limit width) q count commands text)

@@ -31,7 +31,7 @@ abbrev pub UnlessWrite : Ending → Type 0 → Type 0
 UnlessWrite Write Fact = Unit {0}
 UnlessWrite ending Fact = Fact
 
--- a line is still being read, once so many are done with: each line feed that was read ended one of these, and the end
+-- a line is still being read, once so many are done with. Each line feed that was read ended one of these, and the end
 -- was not seen
 abbrev pub IsReading : ℕ → Bool → List ℕ → Type 0
 IsReading done saw_end read = (saw_end ≡ false) × (feed_count read ≡ done)
@@ -41,9 +41,9 @@ abbrev pub BeginsWith : (LineCommand → Type 0) → ℕ → List (List ℕ) →
 BeginsWith IsKind number lines = (line : List ℕ) × (later : List (List ℕ)) × (command : LineCommand)
     × (lines ≡ line ∷ later) × (turn_at number line ≡ Does command) × IsKind command
 
--- where a session ends for a fault that has done with so many of the lines of these commands, of which it read this:
--- the reader fails as the next line is being read, and the writer in the reply to the next. Memory is wanting as the
--- next line is being read, or for the reply to it, if that is the state or what was released: for no reply to a walk
+-- where a session ends for a fault: it is done with so many of the lines of these commands, of which it read this. The
+-- reader fails as the next line is being read, and the writer in the reply to the next. Memory is wanting as the next
+-- line is being read, or for the reply to it. Such a reply is the state or what was released, and never that to a walk
 abbrev pub FaultsAt : Ending → ℕ → ℕ → Bool → List ℕ → List ℕ → Type 0
 FaultsAt Memory done number saw_end read commands =
     IsReading done saw_end read ⊎ BeginsWith (λ command. is_walk command ≡ false) number (drop done (lines_of commands))
@@ -52,8 +52,8 @@ FaultsAt Write done number saw_end read commands =
     BeginsWith (λ command. Unit {0}) number (drop done (lines_of commands))
 FaultsAt ending done number saw_end read commands = Unit {0}
 
--- a session reads no more bytes of commands than this: as many lines as there may be, each as long as it may be and
--- with what ends it, and then as many as are held at most
+-- a session reads no more bytes of commands than this. They are as many lines as there may be, each as long as it may
+-- be and with what ends it. Then come as many bytes as are held at most
 abbrev pub MOST_READ : ℕ
 MOST_READ = LINE_COUNT_LIMIT * (LINE_LIMIT + 2) + HELD_LIMIT
 
@@ -67,12 +67,12 @@ pub record ReadsInLines (done : ℕ) (saw_end : Bool) (got : List ℕ) : Type 0 
   pub feeds : feed_count before ≤ done
   pub at_end : saw_end ≡ true → feed_count got ≤ done
 
--- a session read some commands, no more than it may, and perhaps saw the end of them, and wrote some bytes. However the
--- commands go on after what was read (not at all if the end was seen), what was written is a front of a text that is
--- stated for all of the commands. If the ending of the session is not a fault or want of memory, what was written is a
--- whole one, with that ending. Unless the writer failed, it is the replies to the first so many lines: no reply for
--- which memory was refused is written in part. A fault comes where it may come after them. No byte was read once the
--- line was read that ended the session
+-- a session read some commands, no more than it may, and perhaps saw the end of them, and wrote some bytes. The
+-- commands may go on after what was read, but not if the end was seen. However they go on, what was written is a front
+-- of a text that is stated for all of them. If the ending of the session is not a fault or want of memory, what was
+-- written is a whole one, with that ending. Unless the writer failed, it is the replies to the first so many lines: no
+-- reply for which memory was refused is written in part. A fault comes where it may come after them. No byte was read
+-- once the line was read that ended the session
 pub record Debugs (in_old in_new out_old out_new : Option (List ℕ)) (Stated : List ℕ → List ℕ → Ending → Type 0)
     (ToFirst : ℕ → List ℕ → List ℕ → Type 0) (ending : Ending) : Type 0 where
   pub got : List ℕ
@@ -93,8 +93,8 @@ pub record Debugs (in_old in_new out_old out_new : Option (List ℕ)) (Stated : 
       FaultsAt ending replied (replied + 1) saw_end got (got ++ more)
   pub reads : ReadsInLines replied saw_end got
 
--- a session, of which what it did is counted: so many lines were done with, of which no more was read than they and
--- what is held may have, and just so often
+-- a session, of which what it did is counted. So many lines were done with. It read no more bytes than these lines and
+-- what is held may have, and read just so often
 pub record DebugsBy (in_old in_new out_old out_new : Option (List ℕ)) (Stated : List ℕ → List ℕ → Ending → Type 0)
     (ToFirst : ℕ → List ℕ → List ℕ → Type 0) (lines reads : ℕ) (ending : Ending) : Type 0 where
   pub debugs : Debugs in_old in_new out_old out_new Stated ToFirst ending
@@ -115,8 +115,8 @@ pub record IsReplied (command : LineCommand) (old new : PlainSession) (out_old o
   pub replies : Replies command old reply new
   pub gave : Appends out_old out_new reply
 
--- a reply could not be made, and nothing was written, which comes of no walk; or it could not be written: then a front
--- of it was
+-- a reply could not be made to a command that is no walk, and nothing was written. Or a reply could not be written:
+-- then a front of it was
 pub record IsNotReplied
     (command : LineCommand) (old : PlainSession) (out_old out_new : Option (List ℕ)) (ending : Ending) : Type 0 where
   pub reply : List ℕ
@@ -158,9 +158,9 @@ pub record Advances (in_old in_new out_old out_new : Option (List ℕ)) (reads_o
   pub came : CameBy full got
   pub counted : reads_new + end_reads lines_old.ended ≡ reads_old + full + end_reads lines_new.ended
 
--- the session ends: a front was written of what may be written from the line of this number on, or, without a fault,
--- the whole; and nothing, unless the writer failed. A fault comes where it may come. No read came once the line was
--- read
+-- the session ends. A front was written of what may be written from the line of this number on. That is the whole if
+-- there was no fault, and nothing unless the writer failed. A fault comes where it may come. No read came once the line
+-- was read
 pub record Halts (in_old in_new out_old out_new : Option (List ℕ)) (reads_old reads_new number : ℕ)
     (lines_old : Pending) (p : PlainSession) (ending : Ending) : Type 0 where
   pub got : List ℕ

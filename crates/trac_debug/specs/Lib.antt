@@ -1,6 +1,6 @@
--- The debugger, to be read in this order, once what a text of commands is (`trac_streams/specs/Lines.antt`) and how a
--- state is shown (`trac_state_lines/specs/StateLines.antt`) are read: the command of a line, the reply to a command,
--- and a whole session. All of it is this project's profile.
+-- The debugger. First read what a text of commands is (`trac_streams/specs/Lines.antt`) and how a state is shown
+-- (`trac_state_lines/specs/StateLines.antt`). Then read these in this order: the command of a line, the reply to a
+-- command, and a whole session. All of it is this project's profile.
 pub mod Commands
 pub mod Replies
 pub mod Outputs

@@ -11,7 +11,7 @@ TellsWalk word reply less more =
     (steps : ℕ) × (why : Option Refusal) × (reply ≡ walk_line word steps why) × (more ≡ less + steps)
 
 -- so many steps led to the session before this command. This reply to it tells that so many led to the session after
--- it, and that this text was released: all that is shown by a commit
+-- it, and that this text was released. That text is all that a commit shows
 abbrev pub Tells : LineCommand → List ℕ → ℕ → ℕ → List ℕ → Type 0
 Tells (Forward n) reply before after text = TellsWalk (codes "forward") reply before after × (text ≡ [])
 Tells (Back n) reply before after text = TellsWalk (codes "back") reply after before × (text ≡ [])

@@ -38,8 +38,8 @@ ShowsWalk Walked word reply =
 
 -- ---- commands
 
--- to this command there may be this reply, and then the session is `new`: there is one reply, but that a step
--- forward may be refused for memory
+-- to this command there may be this reply, and then the session is `new`. There is one reply, but that a step forward
+-- may be refused for memory
 abbrev pub Replies : LineCommand → PlainSession → List ℕ → PlainSession → Type 0
 Replies (Forward n) old reply new =
     ShowsWalk (λ steps why. IsWalk session.Step no_goal n old steps why new) (codes "forward") reply

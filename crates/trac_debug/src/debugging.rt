@@ -33,16 +33,17 @@ pub struct DebugReport {
     pub reads: u64,
 }
 
-/// Goes forwards and backwards over a program, the tape being the whole of its input: it reads commands, one a line,
-/// carries each of them out, and writes the reply to it, which is flushed before more is read. The commands are read by
-/// at most 4,096 bytes at a time.
+/// Goes forwards and backwards over a program, the tape being the whole of its input. It reads commands, one a line,
+/// carries each of them out, and writes the reply to it. The reply is flushed before more is read. The commands are
+/// read by at most 4,096 bytes at a time.
 ///
 /// The session ends with `Ended` at the end of the commands, and when it is asked to. It ends with `NotUnderstood` at a
 /// line that says no command, and with `Budget` if there is a line after the first 1,048,576. It ends with `Limit` if
 /// the tape has more than 33,554,432 bytes: no command is read then, and nothing is written. It ends with `Read` if the
-/// reader fails, and with `Write` if the writer fails. It ends with `Memory` if there is no memory for the session, for
-/// a line that is still being read, or for the reply to `p` or `c`, of which nothing is written then. A walk for which
-/// memory was refused is replied to as any other: so no walk that was read whole is left without its reply.
+/// reader fails, and with `Write` if the writer fails. It ends with `Memory` if there is no memory for the session, or
+/// for a line that is still being read. It does so too if there is none for the reply to `p` or `c`, of which nothing
+/// is written then. A walk for which memory was refused is replied to as any other: so no walk that was read whole is
+/// left without its reply.
 pub fn debug<R: Read, W: Write, A: Allocator + Copy>(
     alloc: A,
     tape: &[u8],
@@ -65,7 +66,7 @@ pub fn debug<R: Read, W: Write, A: Allocator + Copy>(
     debug_session(alloc, &mut session, commands, output).ending
 }
 
-/// Takes the lines of the commands, as `debug` does, from the session as it stands, and counts what it does: there are
+/// Takes the lines of the commands, as `debug` does, from the session as it stands, and counts what it does. There are
 /// at most 1,048,576 lines. The session is left as the lines left it that were replied to. If the writer failed,
 /// nothing is said of it. Each read but the last gave a byte at least, and so did the last, unless it saw the end or
 /// failed.

@@ -7,9 +7,9 @@ ghost use Rattle.trac_debug.specs.Commands.{LineCommand};
 ghost use Rattle.trac_debug.specs.Debugging.{MayShow, ShowsWithMemory};
 ghost use Rattle.trac_debug.specs.Replies.{HasMemoryReply, Replies, RepliesWithMemory, SaysMemory};
 
-/// Over each tape and with each text of commands there is just one text, with one ending, in which no reply says that
-/// memory was refused. It is one of those that `debug` may write; each other reply that there may be does say so, and
-/// each other text has somewhere what such a reply says.
+/// For each tape and each text of commands there is just one text, with one ending, in which no reply says that memory
+/// was refused. It is one of those that `debug` may write. Each other reply that there may be does say so. Each other
+/// text has somewhere what such a reply says.
 pub fn one_text_has_no_refused_memory()
     ensures there { (tape : List ℕ) (limit : ℕ) (width : Width) (commands : List ℕ) →
         (text : List ℕ) × (stop : Ending) × ShowsWithMemory tape limit width commands text stop }

@@ -21,9 +21,9 @@ const WALK_LINE_LIMIT: usize = 64;
 /// The reply to a walk. It stands here, so that no memory is requested for it.
 pub(crate) type WalkLine = ArrayVec<u8, WALK_LINE_LIMIT>;
 
-/// Carries out a command that is a walk, and gives the reply to it: a word, how many steps were taken, and why no more
-/// were. No memory is requested for that, so it cannot be refused. None if the command is another one: then nothing is
-/// done.
+/// Carries out a command that is a walk, and gives the reply to it. That is a word, how many steps were taken, and why
+/// no more were. No memory is requested for it, so it cannot be refused. None if the command is another one: then
+/// nothing is done.
 pub(crate) fn reply_to_walk<A: Allocator + Copy>(
     session: &mut Session<A>,
     command: LineCommand<'_>,

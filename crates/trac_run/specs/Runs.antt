@@ -26,8 +26,8 @@ abbrev pub ending_of_feed : Refusal → Ending
 ending_of_feed refusals.Memory = Memory
 ending_of_feed refusal = Limit
 
--- what an ending says of the stated output: without a fault, and with memory enough, all of it is written,
--- and the ending is the stated one
+-- what an ending says of the stated output. If it is not a fault or want of memory, all of the output is written, and
+-- the ending is the stated one
 abbrev pub Shows : Ending → List ℕ → Output → Type 0
 Shows Ended written o = o ≡ record { bytes = written; stop = InputEnded }
 Shows Budget written o = o ≡ record { bytes = written; stop = BudgetSpent }
@@ -40,16 +40,16 @@ Shows (NotUnderstood line) written o = ⊥
 
 -- ---- a whole run
 
--- a run of so many steps reads no more bytes than this: for each step as many as a tape may have, then a tape that no
--- step reads, and one read for which that has no place
+-- a run of so many steps reads no more bytes than this: for each step as many as a tape may have. Then come a tape that
+-- no step reads, and one read for which that tape has no place
 abbrev pub most_read : ℕ → ℕ
 most_read steps = steps * TAPE_LIMIT + (TAPE_LIMIT + READ_SIZE)
 
--- a run with numbers of this width read some bytes, and perhaps saw the end of the input, and wrote some. However the
--- input goes on after what was read (not at all if the end was seen), what was written is a front of the output that is
--- stated for all of it and the budget. The ending of the run is the stated one if it is not a fault or want of memory:
--- all is written then. The run took so many steps within its budget, and read no more than they may. Unless the writer
--- failed, it wrote just what they print
+-- a run with numbers of this width read some bytes, and perhaps saw the end of the input, and wrote some. The input may
+-- go on after what was read, but not if the end was seen. However it goes on, what was written is a front of the output
+-- that is stated for all of it and the budget. The ending of the run is the stated one if it is not a fault or want of
+-- memory: all is written then. The run took so many steps within its budget, and read no more than they may. Unless the
+-- writer failed, it wrote just what they print
 pub record Runs (in_old in_new out_old out_new : Option (List ℕ)) (width : Width) (budget : ℕ) (ending : Ending)
     : Type 0 where
   pub got : List ℕ
@@ -74,8 +74,8 @@ pub record Runs (in_old in_new out_old out_new : Option (List ℕ)) (width : Wid
 abbrev pub most_reads : ℕ → ℕ
 most_reads steps = (steps + 1) * (TAPE_LIMIT + 1)
 
--- a run, of which what it did is counted. It took so many steps, and read so often as these bytes may have come by: one
--- read for each byte at most, and one that gave nothing
+-- a run, of which what it did is counted. It took so many steps, and so many reads gave it its bytes: one for each byte
+-- at most, and perhaps one that gave nothing. It read no more often than a run of so many steps may
 pub record RunsBy (in_old in_new out_old out_new : Option (List ℕ)) (width : Width) (budget steps reads : ℕ)
     (ending : Ending) : Type 0 where
   pub runs : Runs in_old in_new out_old out_new width budget ending
@@ -133,9 +133,9 @@ pub record FeedsSteps (in_old in_new out_old out_new : Option (List ℕ)) (steps
   pub gave : Appends out_old out_new (takes.released ++ late)
   pub pending : IsFrontOf late q.last.output
 
--- this rest was read and not fed. A run ends for want of memory only if the session may lack it: for its next step, if
--- nothing is left, else to be fed the rest. So it never does where the rules refuse that step for anything but a limit,
--- nor where the rest has no place on the tape
+-- this rest was read and not fed. If nothing is left, a run ends for want of memory only if the session may lack it for
+-- its next step. Else it ends so only if the session may lack it to be fed the rest. So it never does where the rules
+-- refuse that step for anything but a limit, nor where the rest has no place on the tape
 abbrev pub Leaves : Ending → List ℕ → PlainSession → Type 0
 Leaves Memory rest p = ((rest ≡ []) × Answers Step p (Refused refusals.Memory) p)
     ⊎ ((0 < length rest) × Answers (Feed rest) p (Refused refusals.Memory) p)
@@ -190,9 +190,9 @@ pub record Transfer (in_old in_new out_old out_new : Option (List ℕ)) : Type 0
   pub full : ℕ
   pub came : CameBy full got
 
--- steps were taken, as many as are left less. What they and any number of steps more write from one session on, is what
--- was written and what these steps more write from the other on. What was read is unread there, or steps took it, each
--- no more than a tape may have
+-- steps were taken, as many as are left less. They and any number of further steps write a text from one session on. It
+-- is what was written, and then what the further steps write from the other session on. What was read is unread there,
+-- or steps took it, each no more than a tape may have
 pub record GoesOn (in_old in_new out_old out_new : Option (List ℕ)) (reads_old reads_new : ℕ) (p : PlainSession) (m : ℕ)
     (q : PlainSession) (n : ℕ) : Type 0 where
   pub moved : Transfer in_old in_new out_old out_new
@@ -233,7 +233,7 @@ abbrev pub FeedsOrEnds : PlainSession → List ℕ → PlainSession → Option (
 FeedsOrEnds p got q rest =
     ((got ≡ []) × IsAtEnd rest × (answer End p ≡ done q)) ⊎ ((0 < length got) × (answer (Feed got) p ≡ done q))
 
--- why the bytes that the reader gave were not fed: it gave none for a fault, or memory may be lacking for them, or more
+-- why the bytes that the reader gave were not fed. It gave none for a fault, or memory may be lacking for them, or more
 -- is unread than any text may hold
 abbrev pub EndsFor : Ending → PlainSession → List ℕ → Type 0
 EndsFor Read p got = got ≡ []

@@ -39,8 +39,8 @@ pub struct RunReport {
     pub reads: u128,
 }
 
-/// Runs what the reader gives, and writes what it prints, until the budget is spent, the input has ended, or a limit,
-/// memory, the reader or the writer ends it. Output is written and flushed before each read, and before the end.
+/// Runs what the reader gives, and writes what it prints. It ends if the budget is spent, if the input has ended, or
+/// for a limit, memory, the reader or the writer. Output is written and flushed before each read, and before the end.
 /// After a read fault it does not flush again. However it ends, unless the writer fails, it writes just what the steps
 /// print that it takes. No byte is read but while the next step waits for input. Each read asks for at most 4,096
 /// bytes. All of them together give no more than 33,554,432 for each of these steps, as many once more, and one read.
@@ -160,7 +160,7 @@ fn release<W: Write, A: Allocator + Copy>(
     Ok(())
 }
 
-// Takes input for a step that waits for it, and does not try the step while it is sure to go on waiting: so each byte
+// Takes input for a step that waits for it. It does not try the step while that is sure to go on waiting. So each byte
 // of a long line is looked at once.
 fn take_input<R: Read, W: Write, A: Allocator + Copy>(
     session: &mut Session<A>,

@@ -23,8 +23,8 @@ abbrev pub earlier_of : List Record → State → List State
 earlier_of [] t = []
 earlier_of (r ∷ records) t = led_on (state_before r t) (λ s. earlier_of records s)
 
--- a record is that of the step from one state to another: it says the one from the other, and weighs
--- what a record of that step does
+-- a record is that of the step from one state to another. It says the one from the other, and weighs what a record of
+-- that step does
 pub record IsOfStep (r : Record) (s t : State) : Type 0 where
   pub says : state_before r t ≡ Some s
   pub weighs : weight r ≡ step_weight s
@@ -34,8 +34,8 @@ pub record IsAtStart (s : State) : Type 0 where
   pub nothing_pending : s.output ≡ []
   pub nothing_read : s.position ≡ 0
 
--- each record is that of a step, and of the state before something holds; the first of these states has no output, and
--- stands at the start of its tape: so it is from the beginning of a session, and after each commit
+-- each record is that of a step, and of the state before it something holds. The first of these states has no output,
+-- and stands at the start of its tape. So it is from the beginning of a session, and after each commit
 abbrev pub AreRecords : (State → Type 0) → List Record → State → Type 0
 AreRecords Holds [] t = IsAtStart t
 AreRecords Holds (r ∷ records) t = (s : State) × IsOfStep r s t × Holds s × AreRecords Holds records s
@@ -66,9 +66,9 @@ pub record IsSound (limit : ℕ) (bytes : List ℕ) (journal : List Record) (mac
   pub on_tape : machine.state.position ≤ length bytes
   pub records : AreRecords (IsWithinReach machine (length bytes)) journal machine.state
 
--- what is true of the fields of every session: they are sound, the width is that of the machine's numbers, each state
--- but the first is the step from the one before it. Without a step to go back over no name is known but its own. So
--- many of the earlier states are old, and no more than there are. The names of the forms of all others are recent
+-- what is true of the fields of every session. They are sound, and the width is that of the machine's numbers. Each
+-- state but the first is the step from the one before it. Without a step to go back over no name is known but its own.
+-- So many of the earlier states are old, and no more than there are. The names of the forms of all others are recent
 pub record IsSession (limit : ℕ) (width : Width) (bytes : List ℕ) (ended : Bool) (mark : ℕ) (journal : List Record)
     (machine : Shown) : Type 0 where
   pub sound : IsSound limit bytes journal machine

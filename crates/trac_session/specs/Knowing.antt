@@ -27,7 +27,7 @@ abbrev pub AreRecent : ℕ → Names → List State → Type 0
 AreRecent mark recent states =
     (mark ≤ length states) × All (λ s. KnowsAll recent s.forms) (take (length states - mark) states)
 
--- a machine has forgotten the names that were not recent, and those of its forms alone are recent then; so many steps
+-- a machine has forgotten the names that were not recent, and those of its forms alone are recent then. So many steps
 -- are left, all from before that
 pub record HasSwept (kept mark : ℕ) (old new : Shown) : Type 0 where
   pub machine : new ≡ record old { known = old.recent; recent = names_in old.state }

@@ -16,9 +16,9 @@ Prints width input steps text = output_of width input steps ≡ record { bytes =
 abbrev pub gone_back : PlainSession → PlainSession
 gone_back p = record p { earlier = []; last = first_of p.last p.earlier }
 
--- so many steps over this input led from the first state to this session, those aside that were gone back over; and it
--- has released this text. Each of its states is the step from the one before it. However the input goes on (not at all
--- if it has ended), a run over all of it prints this text, and then what it prints from the first state that is kept
+-- so many steps over this input led from the first state to this session, those aside that were gone back over. It has
+-- released this text. Each of its states is the step from the one before it. The input may go on, but not if it has
+-- ended. However it goes on, a run over all of it prints this text, and then what it prints from the first kept state
 -- on. So this text and what is pending are what the steps print (`outputs::sessions_release_what_steps_print`)
 pub record HasReleased (input : List ℕ) (steps : ℕ) (text : List ℕ) (p : PlainSession) : Type 0 where
   pub trail : IsTrail p

@@ -10,7 +10,7 @@ use Rattle.trac_rules.specs.Records.{Moved, recorded}
 use Rattle.trac_rules.specs.Session.{PlainSession}
 use Rattle.trac_rules.specs.State.{State}
 
--- the last so many steps of a session moved the first bytes of the active text to the current text, one by one; the
+-- the last so many steps of a session moved the first bytes of the active text to the current text, one by one. The
 -- second session is that before them
 pub record HasMovedBack (n : ℕ) (old new : PlainSession) : Type 0 where
   pub others : new ≡ record old { earlier = new.earlier; last = new.last }
@@ -18,8 +18,8 @@ pub record HasMovedBack (n : ℕ) (old new : PlainSession) : Type 0 where
   pub last : old.last ≡ moved_on n new.last
   pub earlier : old.earlier ≡ on_the_way n new.last ++ new.earlier
 
--- of the states before the last one, the newest first: the step from the first of them, if there is one, moves no byte
--- to the current text
+-- these are the states before the last one, the newest first. The step from the first of them, if there is one, moves
+-- no byte to the current text
 abbrev pub HasNotMovedLast : List State → Type 0
 HasNotMovedLast [] = Unit {0}
 HasNotMovedLast (s ∷ states) = recorded s ≡ Moved → ⊥
@@ -33,8 +33,8 @@ abbrev pub IsAsked : Option Refusal → State → Type 0
 IsAsked (Some Memory) s = BeginsPlain 1 s → ⊥
 IsAsked why s = Unit {0}
 
--- the next step performs no call, and there is no doubt of it, however wide numbers are: so it is
--- of each step that moves a byte
+-- the next step performs no call, and there is no doubt of it, however wide numbers are. So it is of each step that
+-- moves a byte
 pub record IsQuiet (s : State) : Type 0 where
   pub no_call : next_call s ≡ None
   pub no_doubt : (width : Width) → doubts width s ≡ []

@@ -20,25 +20,25 @@ pub enum Goal<'a, A: Allocator + Copy = Global> {
     /// The next step performs a call whose first arguments are these, its name first, each compared byte for byte. If
     /// none are given, any call.
     Call(&'a [&'a [u8]]),
-    /// The next step performs a call, but not the `ps` or the `rs` of the idle program `#(ps,#(rs))`. A
-    /// program's own `rs` that stands last in a text, with nothing gathered before it, cannot be told from
-    /// that one, and is passed over too.
+    /// The next step performs a call, but not the `ps` or the `rs` of the idle program `#(ps,#(rs))`. A program's own
+    /// `rs` that stands last in a text, with nothing gathered before it, cannot be told from that one. So it is passed
+    /// over too.
     OwnCall,
     /// The next step performs the begun function of this number, the outermost being number 1: it stands at its end. If
     /// a text ends before its functions do, the idle program is loaded, and a later function that is begun so deep
     /// meets the goal.
     End(usize),
-    /// Fewer than this many functions are begun. On the way back from inside function number N, the outermost being
-    /// number 1, `Shallower(N)` is first met at the state before that function was begun.
+    /// Fewer than this many functions are begun. The outermost function is number 1. On the way back from inside
+    /// function number N, `Shallower(N)` is first met at the state before that function was begun.
     Shallower(usize),
     /// At most so many bytes are left to scan.
     Rest(usize),
-    /// The next step performs a call, and the form of this name is another one than this: there is one on one side
+    /// The next step performs a call, and the form of this name is another one than this. There is one on one side
     /// alone, or the items or the place of the pointer differ. On the way back, with a copy of the form as it is now
     /// (`Form::copy`), this is the call that changed it last.
     OtherForm(&'a [u8], &'a Option<Form<A>>),
-    /// At most so many bytes of the output are not released yet. On the way back from where byte number `n` of it, from
-    /// 0 on, is printed, this is met first at the call that prints it.
+    /// At most so many bytes of the output are not released yet. The first of these is byte number 0. On the way back
+    /// from where byte number `n` is printed, `Unprinted(n)` is met first at the call that prints it.
     Unprinted(usize),
     /// There is a doubt of the next step (`Session::doubts`), if numbers are of this width, which is that of the
     /// session.
@@ -71,7 +71,7 @@ impl<'a, A: Allocator + Copy> Goal<'a, A> {
     }
 }
 
-// Whether a machine shows a state that meets the goal. Here and below the machine may be of any representation: that
+// Whether a machine shows a state that meets the goal. Here and below the machine may be of any representation. That
 // the gap buffer is one is shown once, where a session passes its machine on, and not at each call.
 pub(crate) fn is_met<E: TwoEnds<u8, A>, M: TwoEnds<Mark, A>, A: Allocator + Copy>(
     machine: &Core<E, M, A>,

@@ -11,8 +11,8 @@ ghost use Rattle.trac_session.specs.Outputs.{HasReleased, Prints, fed_by, releas
 
 /// A new session over any tape has released nothing after no steps. Each command that is answered, refused or not, adds
 /// to input, steps and released text what it says. So it is after any steps forward and back. What is released and then
-/// what is pending is what the steps print. If the next step is refused for the end of the input, it is all that a run
-/// prints, however many more steps it may take.
+/// what is pending is what the steps print. If the next step is refused as `Ended`, it is all that a run prints,
+/// however many more steps it may take.
 pub fn sessions_release_what_steps_print()
     ensures start { (limit : ℕ) (width : Width) (tape : Tape) →
         HasReleased tape.bytes 0 [] (record (new_session limit width) { tape = tape }) }
@@ -34,9 +34,9 @@ pub fn sessions_release_what_steps_print()
         ≡ record { bytes = text ++ p.last.output; stop = InputEnded } }
 {}
 
-/// Two sessions over the same input, to which equally many steps led by whatever ways, have released the same text,
-/// what is pending included: it is the one that these steps print. So it is of two runs that both end before their
-/// budgets are spent.
+/// Two sessions have the same input and numbers of the same width. If equally many steps led to both, by whatever ways,
+/// both have released the same text, what is pending included. It is the one that these steps print. So it is of two
+/// runs that both end before their budgets are spent.
 pub fn ways_release_the_same()
     ensures sessions { (input first second : List ℕ) (steps : ℕ) (p q : PlainSession) →
         HasReleased input steps first p → HasReleased input steps second q → p.width ≡ q.width →

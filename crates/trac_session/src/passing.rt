@@ -8,8 +8,8 @@ use crate::session::{Session, forget_names};
 use std::alloc::Allocator;
 
 impl<A: Allocator + Copy> Session<A> {
-    /// Goes forward over plain bytes at the front of the active text, up to `most` of them and as many as the journal
-    /// has room for. Returns how many these are: as many steps. It takes no memory.
+    /// Goes forward over plain bytes at the front of the active text: up to `most`, and as many as the journal has room
+    /// for. Returns how many these are: as many steps. It takes no memory.
     #[inline(always)]
     pub(crate) fn pass_plain(&mut self, most: u64) -> u64
         ensures passed { repeated Step result self.old ≡ Some self.new }

@@ -24,7 +24,8 @@ use trac_rules::width::Width;
 use trac_step::{Core, Machine, Mark, Tape};
 
 /// A processor with its input and a journal of its steps. It is seen as its limit, the width of numbers, a tape, and a
-/// list of states, from the first one that the last commit kept, or from the initial one; the last is the machine's.
+/// list of states. The first of these is the first one that the last commit kept, or the initial one. The last is the
+/// machine's.
 #[derive(Drop)]
 pub struct Session<A: Allocator + Copy = Global> {
     pub(crate) tape: SlidingBuf<u8, A>,
@@ -81,8 +82,8 @@ impl<A: Allocator + Copy> Session<A> {
     }
 
     /// Adds these bytes to the end of the tape.
-    /// Refused, with nothing changed, as `Closed` after the end of the input, as `TooLong` if the tape would pass
-    /// 33,554,432 bytes, and with `Memory` if the tape cannot grow.
+    /// Refused, with nothing changed, as `Closed` after the end of the input. Else as `TooLong` if the tape would pass
+    /// 33,554,432 bytes; and with `Memory` if the tape cannot grow.
     pub fn feed(&mut self, bytes: &[u8]) -> Result<(), Refusal>
         ensures { Answers (Feed bytes.now) self.old (reply_of result) self.new }
     {
@@ -223,9 +224,9 @@ impl<A: Allocator + Copy> Session<A> {
         self.len() == 0
     }
 
-    /// What the records of the steps that can be gone back over weigh together: of what was destroyed bytes and items
-    /// of forms, and one for each comma, begun function, name and meta character; and one for each gap that a call
-    /// made, but not its place. Lengths, places and flags are not weighed. It takes no memory.
+    /// What the records of the steps that can be gone back over weigh together. Of what was destroyed they weigh bytes
+    /// and items of forms, and one for each comma, begun function, name and meta character. They weigh one too for each
+    /// gap that a call made, but not its place. Lengths, places and flags are not weighed. It takes no memory.
     pub fn weight(&self) -> u64
         ensures together { result ≡ weights_from self.now.earlier }
         ensures within { result ≤ losses_from self.now.earlier }
@@ -243,7 +244,7 @@ impl<A: Allocator + Copy> Session<A> {
     /// The machine, which shows the last state. It has room for that state and each before it, and knows the names of
     /// all their forms: so going back takes no memory. Without a state before the last, as after `commit(0)`, it knows
     /// no other names. Each of these states but the first is the step from the one before it, over the tape as it is
-    /// now, whatever the session was told before. It takes no memory.
+    /// now. So it is whatever the session was told before. It takes no memory.
     pub fn machine(&self) -> &Machine<A>
         ensures last { result.now.state ≡ self.now.last }
         ensures width { result.now.width ≡ self.now.width }
@@ -288,8 +289,8 @@ pub(crate) fn forget_names<E: TwoEnds<u8, A>, M: TwoEnds<Mark, A>, A: Allocator 
     }
 }
 
-// Sweeps aged names if none of the steps that are left, so many, is from before the last sweep: if so many were dropped
-// as there were of those. For such a step alone may need a name that is aged now.
+// Sweeps aged names if none of the steps that are left, so many, is from before the last sweep. So it is if no fewer
+// were dropped than there were of those. For such a step alone may need a name that is aged now.
 fn age_names<E: TwoEnds<u8, A>, M: TwoEnds<Mark, A>, A: Allocator + Copy>(
     machine: &mut Core<E, M, A>,
     mark: &mut usize,

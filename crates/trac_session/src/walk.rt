@@ -8,9 +8,9 @@ use trac_rules::refusal::Refusal;
 pub struct Walk {
     /// How many steps were taken.
     pub done: u64,
-    /// Why it went no further: the refusal that ended it, or `NotMet` if it looked for a goal, as a name, and did not
-    /// meet it. None if all the steps that were wanted were taken, if the goal was met, or if `forward_within` stopped
-    /// for what the records weigh.
+    /// Why it went no further. This is the refusal that ended it, or `NotMet` if it looked for a goal, as a name, and
+    /// did not meet it. None if all the steps that were wanted were taken, if the goal was met, or if `forward_within`
+    /// stopped for what the records weigh.
     pub why: Option<Refusal>,
 }
 
@@ -34,7 +34,7 @@ pub enum Return {
     Met(u64),
     /// No earlier state meets the goal, and the session shows the states that it had.
     NotMet,
-    /// No earlier state meets the goal. On the way forward again a step was refused for this, which is `Memory`: the
+    /// No earlier state meets the goal. On the way forward again a step was refused for this, which is `Memory`. The
     /// session stands so many steps, one at least, before the state that it had. The step moves no plain byte.
     Stopped { left: u64, why: Refusal },
 }

@@ -61,8 +61,8 @@ impl<A: Allocator + Copy> Session<A> {
         }
     }
 
-    // Goes this way by up to so many steps: by one, or, if no state before a step that moves a byte meets the goal,
-    // over bytes that a step each moves. Returns how many steps these are.
+    // Goes this way by up to so many steps. If no state before a step that moves a byte meets the goal, it goes over
+    // bytes that a step each moves. Else, or without such bytes, it goes by one. Returns how many steps these are.
     #[inline(always)]
     fn go_on(&mut self, direction: Direction, goal: &Goal<'_, A>, most: u64) -> Result<u64, Refusal>
         requires { 0 < most }
@@ -122,8 +122,8 @@ impl<A: Allocator + Copy> Session<A> {
         Walk { done, why: None }
     }
 
-    // Goes forward by up to `n` steps, until one is refused, which the walk returns, or the goal is met, or the
-    // records weigh more than `most`.
+    // Goes forward by up to `n` steps, until one is refused, which the walk returns, or the goal is met. It stops also
+    // after a step after which the records weigh more than `most`.
     fn walk_within(&mut self, goal: &Goal<'_, A>, n: u64, most: u64) -> Walk
         ensures { IsWalkWithin most (goal_of goal.now) n self.old result.done result.why self.new }
     {
@@ -178,7 +178,7 @@ impl<A: Allocator + Copy> Session<A> {
     }
 
     /// Goes forward as `forward` does, and stops also after a step after which the records weigh more than `most`
-    /// (`Session::weight`): then no refusal is answered, and fewer than `n` steps may be done. So whoever never goes
+    /// (`Session::weight`). Then no refusal is answered, and fewer than `n` steps may be done. So whoever never goes
     /// back can commit before the records hold much memory.
     pub fn forward_within(&mut self, n: u64, most: u64) -> Walk
         ensures { IsWalkWithin most no_goal n self.old result.done result.why self.new }
@@ -216,8 +216,8 @@ impl<A: Allocator + Copy> Session<A> {
     }
 
     /// Goes forward to a goal as `forward_to` does, and stops also after a step after which the records weigh more than
-    /// `most` (`Session::weight`): then it returns `NotMet` too, and fewer than `n` steps may be done. So a search that
-    /// never goes back further can commit before the records hold much memory.
+    /// `most` (`Session::weight`). Then it returns `NotMet` too if the goal is not met, and fewer than `n` steps may be
+    /// done. So a search that never goes back further can commit before the records hold much memory.
     pub fn forward_to_within(&mut self, goal: Goal<'_, A>, n: u64, most: u64) -> Walk
         ensures { IsSearchWithin most (goal_of goal.entry) n self.old result.done result.why self.new }
     {
