@@ -1,10 +1,11 @@
 -- A whole run, turn by turn.
 use Rattle.std.proofs.Common.{◌≡◌, ℕ, ◌+◌, ◌-◌, ◌*◌, ◌≤◌, true, false, List, [], ◌++◌, length, refl, sym, ap, subst, ◌∙◌, arith, inl, ⊎_elim}
 use Rattle.std.specs.Prelude.{Option, nat_lt}
-use Rattle.std.proofs.lemmas.Bool.{false≢true, leb-true}
+use Rattle.std.proofs.lemmas.Bool.{false≢true, lt-ltb}
 use Rattle.std.proofs.lemmas.List.{append_assoc, length-append}
 use Rattle.trac_rules.specs.declared.limit.TheConstants.{TAPE_LIMIT}
 use Rattle.trac_rules.specs.declared.width.Width.{Width}
+use Rattle.trac_rules.specs.Limits.{texts_fit}
 use Rattle.trac_rules.specs.Scanning.{scan}
 use Rattle.trac_rules.specs.Session.{MayRunOut, PlainSession, Step, answer, new_session}
 use Rattle.trac_rules.specs.Stepping.{step}
@@ -146,9 +147,9 @@ ran in_old in_now in_new out_old out_now out_new width budget start p m n reads_
     }
 
 -- the steps of the last turn too
-pub ran_steps : {in_new out_new : Option (List ℕ)} {ending : Ending} (in_old in_now out_old out_now : Option (List ℕ)) (width : Width) (budget : ℕ) (start p q : PlainSession) (m n reads : ℕ) →
+pub ran_steps : {in_new out_new : Option (List ℕ)} (ending : Ending) (in_old in_now out_old out_now : Option (List ℕ)) (width : Width) (budget : ℕ) (start p q : PlainSession) (m n reads : ℕ) →
     SoFar in_old in_now out_old out_now width budget start p m reads → n ≤ m → FeedsToLast ending in_now in_new out_now out_new (m - n) p q → FeedsToLast ending in_old in_new out_old out_new (budget - n) start q
-ran_steps in_old in_now out_old out_now width budget start p q m n reads far fewer steps = (steps.0, steps.1, steps_so_far budget m n start p q far.within fewer far.steps steps.2, steps.3)
+ran_steps ending in_old in_now out_old out_now width budget start p q m n reads far fewer steps = (steps.0, steps.1, steps_so_far budget m n start p q far.within fewer far.steps steps.2, steps.3)
 
 -- a run that did not begin for want of memory
 pub ran_not : (input : Option (List ℕ)) (out_old out_new : Option (List ℕ)) (text : List ℕ) (width : Width) (budget : ℕ) (result : Ending) → text ≡ [] → Closes out_old out_new text Memory result →
@@ -179,8 +180,8 @@ new_by_itself limit width p made = made ∙ sym (ap (λ (s : PlainSession). new_
 
 -- the first step of a new session begins a function
 new_lacks : (limit : ℕ) (width : Width) → 1 ≤ limit → MayRunOut Step (answer Step (new_session limit width)).reply
-unfolding answer, step, scan
-new_lacks limit width some = let test : nat_lt 0 limit ≡ true = leb-true 1 limit some in rw test tt
+unfolding answer step scan texts_fit
+new_lacks limit width some = let test : nat_lt 0 limit ≡ true = lt-ltb 0 limit (omega (arith, some)) in rw test tt
 
 -- it took no steps
 pub ran_not_anew : (input : Option (List ℕ)) (out_old out_new : Option (List ℕ)) (text : List ℕ) (journal : ℕ) (width : Width) (budget : ℕ) (result : Ending) → 1 ≤ journal → text ≡ [] → Closes out_old out_new text Memory result →

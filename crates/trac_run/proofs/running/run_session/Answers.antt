@@ -20,10 +20,10 @@ pub returns-in-Err-clause-runs : goal.returns-in-Err-clause-runs
 returns-in-Err-clause-runs g c = ran _ _ _ _ _ _ c.args.session.now.width c.args.budget c.args.session.now _ _ _ _ _ c.in-Err.ending c.loop-ending.invariant c.in-Err.ensures.err c.take_turn.ensures.within
 
 pub returns-in-Err-clause-steps : goal.returns-in-Err-clause-steps
-returns-in-Err-clause-steps g c = (ran_steps _ _ _ _ c.args.session.now.width c.args.budget c.args.session.now _ _ _ _ _ c.loop-ending.invariant c.take_turn.ensures.within c.in-Err.ensures.steps).2.takes
+returns-in-Err-clause-steps g c = (ran_steps _ _ _ _ _ c.args.session.now.width c.args.budget c.args.session.now _ _ _ _ _ c.loop-ending.invariant c.take_turn.ensures.within c.in-Err.ensures.steps).2.takes
 
 pub returns-in-Err-clause-feeds : goal.returns-in-Err-clause-feeds
-returns-in-Err-clause-feeds g c = ran_steps _ _ _ _ c.args.session.now.width c.args.budget c.args.session.now _ _ _ _ _ c.loop-ending.invariant c.take_turn.ensures.within c.in-Err.ensures.steps
+returns-in-Err-clause-feeds g c = ran_steps _ _ _ _ _ c.args.session.now.width c.args.budget c.args.session.now _ _ _ _ _ c.loop-ending.invariant c.take_turn.ensures.within c.in-Err.ensures.steps
 
 pub loop-ending-smaller : goal.loop-ending-smaller
 loop-ending-smaller g c = c.in_default.ensures.fewer

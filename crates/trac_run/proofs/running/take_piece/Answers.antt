@@ -65,7 +65,7 @@ pub returns-in-Read-clause-steps : goal.returns-in-Read-clause-steps
 returns-in-Read-clause-steps g c =
     let gave : Appends (g.W.Write.contents c.args.output.now) (g.W.Write.contents c.flush.new.output) c.args.session.now.last.output =
     subst (Appends (g.W.Write.contents c.args.output.now) (g.W.Write.contents c.flush.new.output)) c.pending.ensures (Appends-kept _ _ _ _ c.in_ok-write_whole.ensures.ok c.flush.ensures.same) in
-    feeds_untaken c.args.session.now c.commit.new.self c.read_more.new.session _ _ (Commit_waits c.args.session.now c.commit.new.self c.requires.some_records c.requires.wanted c.commit.ensures) gave c.commit.ensures c.in-Err.ensures.err
+    feeds_untaken {A = Unit {0}} c.args.session.now c.commit.new.self c.read_more.new.session _ _ (Commit_waits c.args.session.now c.commit.new.self c.requires.some_records c.requires.wanted c.commit.ensures) gave c.commit.ensures c.in-Err.ensures.err
     (wrote_none (g.W.Write.contents c.flush.new.output) c.read_more.new.session.last.output) (inl (sym c.in-Read.is, tt))
 
 pub returns-in_default-clause-steps : goal.returns-in_default-clause-steps

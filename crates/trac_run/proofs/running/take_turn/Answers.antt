@@ -1,4 +1,4 @@
-use Rattle.std.proofs.Common.{◌≡◌, ◌-◌, [], arith, inl, refl, ⊎_elim}
+use Rattle.std.proofs.Common.{◌≡◌, ◌-◌, arith, inl, refl, ⊎_elim}
 use Rattle.std.specs.Prelude.{◌⊎◌}
 use Rattle.trac_rules.specs.declared.refusal.Refusal.TheVariants as refusals
 use Rattle.trac_streams.specs.declared.ending.Ending.TheVariants.{Ended, Budget, Limit, Memory}
