@@ -16,7 +16,7 @@ WIDTH, SOME = 120, 12
 KNOWN = {"shellcheck": r"version: 0\.9\.0$", "flake8": r"^5\.0\.", "mypy": r"^mypy 1\.0\.",
          "tsc": r"^Version 4\.8\."}
 # The folders whose files are not looked at: Rattle, what is made, and the pages, which have their own measures.
-ELSEWHERE = re.compile("^(?:crates|release|web|tests/web|tests/webpage)/")
+ELSEWHERE = re.compile("^(?:crates|release|web|tests/web)/")
 # The folders where functions do not say their types, and the modules that are looked at where others take them.
 UNTYPED = re.compile(r"^(?!python/|tests/|tools/)|^tests/(?:web/|support/.*\.py$)")
 # What is no script: texts, programs, what is wanted of them, and manual pages.
@@ -86,16 +86,12 @@ class Style(Case):
 
     def test_python_types(self) -> None:
         """The package, the tests and the tools by the types that they say themselves (pyproject.toml), and what of
-        Python they take: python/README.md says so of the package. The tests of the page are looked at apart, since of
-        some of their modules there are others of the same names."""
+        Python they take: python/README.md says so of the package."""
         tool = self.tool("mypy")
         names = [near(file) for file, first, _ in scripts(UNTYPED) if is_python(file, first)]
-        package, of_page = ([name for name in names if name.startswith(it)] for it in ("python/", "tests/webpage/"))
-        others = [name for name in names if name not in package + of_page]
-        for files, version, path in (
-                (package, "3.8", ""), (others, "3.9", ""), (of_page, "3.9", "tests/webpage:tests/support")):
-            words = [tool, "--no-error-summary", "--python-version", version]
-            run = ran([*words, *files], env={**os.environ, "MYPYPATH": path})
+        package = [name for name in names if name.startswith("python/")]
+        for files, version in ((package, "3.8"), ([name for name in names if name not in package], "3.9")):
+            run = ran([tool, "--no-error-summary", "--python-version", version, *files])
             self.same(tool, run.output, b"", None, "found")
             self.status(tool, run, 0)
             self.holds("there are files to look at", len(files) > 5)

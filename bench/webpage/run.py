@@ -17,9 +17,9 @@ import sys
 import time
 
 ROOT = pathlib.Path(__file__).resolve().parent.parent.parent
-sys.path.insert(0, str(ROOT / "tests" / "support"))
+sys.path.insert(0, str(ROOT / "tests"))
 sys.dont_write_bytecode = True
-import browser  # noqa: E402
+from support import browser  # noqa: E402
 
 PROGRAM = (ROOT / "programs" / "examples" / "long-way-back.trac").read_text()
 ENDLESS = (ROOT / "programs" / "examples" / "endless.trac").read_text()

@@ -11,8 +11,8 @@ import subprocess
 import tempfile
 from typing import Any
 
-from firefox import Firefox  # noqa: F401
-from waiting import SILENCE, Gone, Waiting
+from support.firefox import Firefox  # noqa: F401
+from support.waiting import SILENCE, Gone, Waiting
 
 # What keys have beside their names.
 CODES = {

@@ -12,7 +12,7 @@ import time
 from collections.abc import Sequence
 from typing import Any
 
-from waiting import SILENCE, Gone, Missed, Waiting
+from support.waiting import SILENCE, Gone, Missed, Waiting
 
 # What stands for keys that write no sign.
 KEYS = {
@@ -85,7 +85,9 @@ class Firefox(Waiting):
         with open(os.path.join(self.room, "user.js"), "w") as settings:
             for name, value in SETTINGS.items():
                 settings.write("user_pref({}, {});\n".format(json.dumps(name), json.dumps(value)))
-        command = [find() or "", "--headless", "--marionette", "--remote-allow-system-access", "--no-remote", "--profile", self.room]
+        # (it ends with this process, however that ends)
+        bound = ["setpriv", "--pdeathsig", "KILL"] if shutil.which("setpriv") else []
+        command = [*bound, find() or "", "--headless", "--marionette", "--remote-allow-system-access", "--no-remote", "--profile", self.room]
         nothing = subprocess.DEVNULL
         self.process = subprocess.Popen(command + ["about:blank"], stdin=nothing, stdout=nothing, stderr=nothing)
         try:
@@ -148,7 +150,7 @@ class Firefox(Waiting):
         assert self.socket
         try:
             more = self.socket.recv(1 << 20)
-        except TimeoutError:
+        except socket.timeout:
             self.process.kill()
             raise Gone("Firefox says nothing") from None
         if not more:
