@@ -1,7 +1,7 @@
 """How scripts are written: what shellcheck says of those in Bash, flake8 and mypy of those in Python, and tsc of the
 page's, where they are installed in the versions that are known here; that no line of a script has more than 120
-columns, but for those of support/long-lines, which are still to be mended; and that four commands stand at the top, of
-which the launcher is short."""
+columns, but for those of support/long-lines, which are still to be mended; that four commands stand at the top, of
+which the launcher is short; and that each folder there says what belongs there."""
 import os
 import pathlib
 import re
@@ -95,6 +95,15 @@ class Style(Case):
             self.same(tool, run.output, b"", None, "found")
             self.status(tool, run, 0)
             self.holds("there are files to look at", len(files) > 5)
+
+    def test_folders(self) -> None:
+        """Each folder at the top says what belongs there; of docs README.md at the top does, of crates, where no other
+        file may stand, crates.txt."""
+        folders = {name.split("/")[0] for name in listed() if "/" in name} - {".ci", "crates", "docs"}
+        for name in sorted(folders):
+            file = TOP / name / "README.md"
+            count = len(file.read_text(encoding="utf-8").splitlines()) if file.exists() else 0
+            self.holds("{} has 1 to 10 lines, and not {}".format(near(file), count), 1 <= count <= 10)
 
     def test_top(self) -> None:
         there = sorted(it.name for it in TOP.iterdir() if it.is_file() and os.access(it, os.X_OK))

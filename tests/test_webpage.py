@@ -86,12 +86,15 @@ class Webpage(Case):
             self.counts(False, str(fault) if is_told else traceback.format_exc(), seen.last_compared())
 
     def test_file(self) -> None:
-        """The page is not too large, and has nothing that later browsers alone have."""
+        """The page is not too large, and has its dark colours once."""
         size = os.path.getsize(PAGE)
         self.holds("the page has {:,} bytes".format(size), size <= MOST_BYTES)
         with open(PAGE, encoding="utf-8") as page:
             count = page.read().count("color-scheme: dark;")
         self.holds("the dark colours stand there {} times".format(count), count == 1)
+
+    def test_features(self) -> None:
+        """Its parts have nothing that later browsers alone have, and are short."""
         features.check_features()
 
 
