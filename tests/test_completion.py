@@ -23,7 +23,8 @@ ROWS = [
     ("trac run --decimals ", "128 64"), ("trac run --budget 5 --j", "--journal"), ("trac debug f", FILES),
 ] + [row for at in ("trac ", "trac-") for row in (
     (at + "course h", "hint"), (at + "course hint 3.1", "3.1"), (at + "course 7.", "7.1 7.2 7.3"),
-    (at + "course solution 10.", "10.1 10.2 10.3"), (at + "course check 3.1 f", FILES), (at + "play --budget 9 f", FILES),
+    (at + "course solution 10.", "10.1 10.2 10.3"), (at + "course check 3.1 f", FILES), (at + "play --budget 9 f",
+                                                                                         FILES),
     (at + "walk --memory ", ""), (at + "lint --input f", FILES), (at + "page --step ", ""),
     *((at + command + rest, wanted) for command in ("walk", "lint", "play", "page")
       for rest, wanted in ((" --ver", "--version"), (" f", FILES))),

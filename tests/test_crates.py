@@ -1,5 +1,5 @@
-"""README.md of each crate has 10 to 20 lines, and what it names is there: files, crates, and the words of the language and of its proofs, each in
-some file of the crates. So a name that changed, or went, is changed there too."""
+"""README.md of each crate has 10 to 20 lines, and what it names is there: files, crates, and the words of the language
+and of its proofs, each in some file of the crates. So a name that changed, or went, is changed there too."""
 import pathlib
 import re
 

@@ -59,7 +59,8 @@ class Webpage(Case):
             self.well()
             return
         texts = [it.encode("utf-8", "backslashreplace") for it in compared or ()]
-        self.bad(words, difference(texts[0], texts[1], Place(*self.where(), is_whole=True), "the page") if texts else ())
+        self.bad(words, difference(texts[0], texts[1], Place(*self.where(), is_whole=True),
+                                   "the page") if texts else ())
 
     def row(self, row: Row, kind: type[pages.Deeds]) -> None:
         """Tries a row; and once more in a new browser if something failed, since a busy machine can stop a browser.

@@ -1,4 +1,4 @@
-# Has Ctrl-G complete the line that is typed, once, and put all that may stand there into a file: for test_completion.py.
+# Has Ctrl-G complete the line that is typed, once, and puts all that may stand there into a file.
 #
 #     source completing.zsh COMPLETIONS ROOM     completion from that folder; the file is ROOM/told, a word a line
 fpath=($1 $fpath) room=$2

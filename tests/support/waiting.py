@@ -46,7 +46,8 @@ class Waiting:
     end: Callable[[], None]
 
     def until(self, test: str, what: str) -> Any:
-        """Waits until a script tells that this holds, and returns what it tells. Else what comes after cannot be tried."""
+        """Waits until a script tells that this holds, and returns what it tells. Else what comes after cannot be
+        tried."""
         began, pause = time.monotonic(), 0.002
         while not (told := self.script(test)):
             passed = time.monotonic() - began
@@ -70,7 +71,8 @@ class Waiting:
 
     def frames(self) -> None:
         """Waits until what was scrolled, changed in size or drawn for the next frame is there."""
-        self.script("new Promise((done) => { let left = 4; const next = () => (left-- ? requestAnimationFrame(next) : done()); next(); })")
+        self.script("new Promise((done) => { let left = 4; "
+                    "const next = () => (left-- ? requestAnimationFrame(next) : done()); next(); })")
 
     def rest(self, milliseconds: int) -> None:
         """Lets those timers of the page come first that it has set for so many milliseconds at most."""

@@ -1,5 +1,5 @@
-"""What stands around a row of the page while it is tried: who counts its checks, and the browsers, of which one that has
-done a row does the next, since it is slow to begin."""
+"""What stands around a row of the page while it is tried: who counts its checks, and the browsers, of which one that
+has done a row does the next, since it is slow to begin."""
 from __future__ import annotations
 
 import contextlib
