@@ -8,7 +8,7 @@ class End extends Error {
   }
 }
 
-// What is said of each status, for the programs that are not trac-lint.
+// What is said of each status, for the programs that are not trac lint.
 const ENDINGS = {
   [SPENT]: "budget spent",
   [LIMIT]: "limit passed",

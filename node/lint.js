@@ -1,4 +1,4 @@
-// trac-lint: the doubts of programs.
+// trac lint: the doubts of programs.
 
 const FAILED = 2;
 const LIMIT_PASSED = "where a limit is passed: too much text, or too many arguments, forms or blocks";
@@ -49,7 +49,7 @@ class Linter {
   }
 
   told(file, why) {
-    this.streams.tell(`trac-lint: ${shown(file) || "''"}: ${why}\n`);
+    this.streams.tell(`trac lint: ${shown(file) || "''"}: ${why}\n`);
     return FAILED;
   }
 

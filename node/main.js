@@ -6,9 +6,9 @@ const BAD_WORDS = 2, BROKEN_OFF = 70;
 
 // What the module cannot give as the programs do, and why.
 function refusalOf(name, { memory, keep }) {
-  const { name: program } = COMMANDS[name];
+  const program = ["walk", "lint"].includes(name) ? `trac ${name}` : "trac";
   if (memory !== undefined) return `${program}: --memory is refused: trac.mjs has 512 MiB, counted otherwise\n`;
-  if (name === "lint" && keep !== 256) return "trac-lint: --keep is refused: trac.mjs keeps 256 MiB\n";
+  if (name === "lint" && keep !== 256) return "trac lint: --keep is refused: trac.mjs keeps 256 MiB\n";
   return undefined;
 }
 
@@ -52,7 +52,7 @@ class Programs {
       this.streams.write(Buffer.from(text));
     } catch (fault) {
       if (name !== "lint") throw fault;
-      throw new End(FAILED, "trac-lint: the output cannot be written");
+      throw new End(FAILED, "trac lint: the output cannot be written");
     }
     return 0;
   }
@@ -94,7 +94,7 @@ class Programs {
     try {
       return programIn(file);
     } catch (fault) {
-      if (fault.status === NOT_READ) this.streams.tell(`trac-walk: ${shown(file)} cannot be read\n`);
+      if (fault.status === NOT_READ) this.streams.tell(`trac walk: ${shown(file)} cannot be read\n`);
       throw fault;
     }
   }

@@ -24,11 +24,11 @@ const COMMANDS = {
     options: { journal, decimals, memory: text("SIZE") },
   },
   walk: {
-    name: "trac-walk", usage: "trac-walk [OPTIONS] <FILE>", isFixed: true, file: "<FILE>", advice: "trac-walk",
+    name: "trac", usage: "trac walk [OPTIONS] <FILE>", isFixed: true, file: "<FILE>", advice: "trac walk",
     options: { journal, decimals, memory: text("SIZE"), keep, prompt: flag },
   },
   lint: {
-    name: "trac-lint", usage: "trac-lint [OPTIONS] <FILE>...", isFixed: true, file: "<FILE>...", advice: "trac-lint",
+    name: "trac", usage: "trac lint [OPTIONS] <FILE>...", isFixed: true, file: "<FILE>...", advice: "trac lint",
     options: {
       input: text("TEXTFILE"), steps: number("N", BUDGET_LIMIT, 10_000_000), keep, decimals, memory: text("SIZE"),
     },

@@ -3,8 +3,8 @@
 const COMMANDS_OF_TRAC = ["run", "debug", "help"];
 const RUN_TIP = "to run the program in FILE, put < before its name: trac run < FILE";
 const COMMAND_TIPS = {
-  walk: "the debugger for a terminal is a program of its own: trac-walk FILE",
-  page: "the page that plays a run is made by a program of its own: trac-page FILE > run.html",
+  walk: "to walk through the program in FILE at a terminal: trac walk FILE",
+  page: "to make a page that runs the program in FILE: trac page FILE > run.html",
   version: "the version is shown by: trac --version",
 };
 const BUDGET_TIP = "--budget is an option of trac run; here the commands say how far to go";
@@ -12,7 +12,7 @@ const NO_COMMAND = "'trac' requires a subcommand but one was not provided\n  [su
 const NOT_TEXT = `error: invalid UTF-8 was detected in one or more arguments
 
   tip: have the shell open such a file: trac run < FILE, trac debug /dev/fd/3 3< FILE,
-       trac-walk /dev/fd/3 3< FILE, or trac-lint /dev/fd/3 3< FILE
+       trac walk /dev/fd/3 3< FILE, or trac lint /dev/fd/3 3< FILE
 `;
 
 // How similar two words are, by Jaro: 0 to 1.

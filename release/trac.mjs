@@ -6,7 +6,7 @@
 //     node trac.mjs walk FILE        debugs it at a terminal
 //     node trac.mjs lint FILE..      says where it does what is seldom meant
 //
-// Words, replies and statuses are those of trac, trac-walk and trac-lint: `node trac.mjs run --help`. What differs:
+// Words, replies and statuses are those of the programs: `node trac.mjs run --help`. What differs:
 //
 // - The module takes 512 MiB of memory at most; more is refused with status 5. --memory is refused, and --keep of lint.
 // - It keeps nothing between two reads. So a program that waits, and a debugger, begin anew with each line that comes:
@@ -2013,11 +2013,11 @@ Gb0NX/dr3eX5xrrfzXW/P53l/Zc5+f0N+X1FfvOSz6v7XS+/X8xxvi/X/f5Zbvye/bwb/lrk92H5rchv
 
 // What the programs show of themselves.
 const TEXTS = {
-  "trac": "A processor for TRAC T-64\n\nUsage: trac <COMMAND>\n\nCommands:\n  run    Runs the program on standard input\n  debug  Steps through the program in FILE, forwards and backwards\n  help   Print this message or the help of the given subcommand(s)\n\nOptions:\n  -h, --help     Print help\n  -V, --version  Print version\n\nExamples:\n  trac run < FILE                   runs the program in FILE\n  printf \"#(ps,Hello)'\" | trac run  runs a program that another command prints\n  trac-walk FILE                    the debugger for a terminal, a program of its own\n  trac-page FILE > run.html         makes a page that plays a run, a program of its own too\n  trac debug FILE                   the debugger for scripts\n  trac help run, trac help debug    say more; so do trac-walk --help and trac-page --help\n\nExit status:\n  0    the program or the commands have ended, or help or the version is shown\n  2    the command line is not understood\n  3    the budget of steps is spent, or the debugger was given too many lines\n  4    a limit is passed, such as how long a text or FILE may be\n  5    there is no memory\n  6    standard input or FILE cannot be read\n  7    the output cannot be written\n  8    a command of the debugger is not understood\n  70   ./trac of a checkout has no program to run\n  130  Ctrl-C was typed\n",
+  "trac": "A processor for TRAC T-64\n\nUsage: trac <COMMAND>\n\nCommands:\n  run    Runs the program on standard input\n  debug  Steps through the program in FILE, forwards and backwards\n  help   Print this message or the help of the given subcommand(s)\n\nOptions:\n  -h, --help     Print help\n  -V, --version  Print version\n\nExamples:\n  trac run < FILE                   runs the program in FILE\n  printf \"#(ps,Hello)'\" | trac run  runs a program that another command prints\n  trac walk FILE                    the debugger for a terminal\n  trac page FILE > run.html         makes a page that plays a run\n  trac debug FILE                   the debugger for scripts\n  trac help run, trac help debug    say more; so do trac walk --help and trac page --help\n\nExit status:\n  0    the program or the commands have ended, or help or the version is shown\n  2    the command line is not understood\n  3    the budget of steps is spent, or the debugger was given too many lines\n  4    a limit is passed, such as how long a text or FILE may be\n  5    there is no memory\n  6    standard input or FILE cannot be read\n  7    the output cannot be written\n  8    a command of the debugger is not understood\n  70   ./trac of a checkout has no program to run\n  130  Ctrl-C was typed\n",
   "run": "Runs the program on standard input\n\nUsage: trac run [OPTIONS] < FILE\n\nOptions:\n      --budget <N>       How many steps the run may take: 1 to 1000000000000 [default: 1000000000]\n      --journal <N>      Output is written after N steps at the latest, or 8192 if N is more: 1 to 1048576 [default: 65536]\n      --decimals <BITS>  How wide numbers are, in bits [default: 128] [possible values: 64, 128]\n      --memory <SIZE>    Most memory, in bytes or with K, M or G: 1M to 1024G [default: 2G, or half the machine's if less]\n  -h, --help             Print help\n  -V, --version          Print version\n\nThe program is read from standard input: put < before the name of its file.\n  trac run < FILE\n  printf \"#(ps,Hello)'\" | trac run\n\nA program is one text or more, each ended by '. At a terminal a text is run once ' and Enter are\ntyped. Enter and then Ctrl-D end the input, and with it the run; Ctrl-C ends the run at once.\n\nExit status: 0 at the end; 2 the command line is not understood; 3 the budget of steps is spent;\n4 a limit is passed; 5 no memory; 6 the input cannot be read; 7 the output cannot be written;\n70 ./trac of a checkout has no program to run; 130 Ctrl-C was typed.\n",
-  "debug": "Steps through the program in FILE, forwards and backwards\n\nUsage: trac debug [OPTIONS] <FILE>\n\nArguments:\n  <FILE>  The file that holds the program\n\nOptions:\n      --journal <N>      How many steps can be gone back over: 1 to 1048576 [default: 65536]\n      --decimals <BITS>  How wide numbers are, in bits [default: 128] [possible values: 64, 128]\n      --memory <SIZE>    Most memory, in bytes or with K, M or G: 1M to 1024G [default: 2G, or half the machine's if less]\n  -h, --help             Print help\n  -V, --version          Print version\n\nThis debugger is made for scripts; trac-walk FILE is the one for a terminal.\n\nFILE holds the program, and after it all that the program reads. Commands are read from standard\ninput, one a line:\n  s COUNT       COUNT steps forward\n  b COUNT       COUNT steps back\n  u NAME COUNT  forward to a call of NAME, by COUNT steps at most\n  r NAME        back to a call of NAME\n  p             show the state\n  c             show what was printed and no c has shown yet, and forget all steps so far\n  c COUNT       forget all steps but the last COUNT, and show what was printed before these\n  q             end\n\nThere is no prompt. NAME is what stands first in the call: #(cl,F) is met as cl, and not as F.\n\nExit status: 0 at the end; 2 the command line is not understood; 3 more than 1048576 lines;\n4 FILE is too long; 5 no memory; 6 FILE or the commands cannot be read; 7 the output cannot be\nwritten; 8 a command is not understood; 70 ./trac of a checkout has no program to run;\n130 Ctrl-C was typed.\n",
-  "walk": "Walks through the TRAC T-64 program in FILE, forwards and backwards, for a person at a terminal\n\nUsage: trac-walk [OPTIONS] <FILE>\n\nArguments:\n  <FILE>  The file that holds the program\n\nOptions:\n      --journal <N>      How many steps can be gone back over: 1 to 1048576 [default: 65536]\n      --decimals <BITS>  How wide numbers are, in bits [default: 128] [possible values: 64, 128]\n      --memory <SIZE>    Most memory, in bytes or with K, M or G: 1M to 1024G [default: 2G, or half the machine's if less]\n      --keep <SIZE>      About how many MiB of memory these steps may take: 1 to 1048576 [default: 256]\n      --prompt           Prompt also where standard input is no terminal\n  -h, --help             Print help\n  -V, --version          Print version\n\nFILE holds the program, and after it what the program reads; more can be typed in the walk.\nCommands are read from standard input, one a line, and each gets its reply at once: h lists them,\nand q, or Ctrl-D, ends.\n\nExit status: 0 at the end; 2 the command line is not understood; 4 FILE is too long; 5 no memory;\n6 FILE or the commands cannot be read; 7 the output cannot be written; 70 ./trac-walk of a checkout\nhas no program to run; 130 Ctrl-C was typed.\n",
-  "lint": "Runs the TRAC T-64 program in each FILE, and says where it does what is seldom meant\n\nUsage: trac-lint [OPTIONS] <FILE>...\n\nArguments:\n  <FILE>...  The files that hold a program each\n\nOptions:\n      --input <TEXTFILE>  What each program reads after its FILE\n      --steps <N>         How many steps a program may take: 1 to 1000000000000 [default: 10000000]\n      --keep <SIZE>       About how many MiB of memory the way back may take: 1 to 1048576 [default: 256]\n      --decimals <BITS>   How wide numbers are, in bits [default: 128] [possible values: 64, 128]\n      --memory <SIZE>     Most memory, in bytes or with K, M or G: 1M to 1024G [default: 2G, or half the machine's if less]\n  -h, --help              Print help\n  -V, --version           Print version\n\nWhat a program prints is thrown away. Each doubt is told once for each place, as\n  FILE:3:5: no primitive is named pr (step 124)\nwhich is line 3, column 5; trac-walk FILE shows that step by g 124.\n\nExit status: 0 no doubt; 1 some doubts; 2 the command line is not understood, a file cannot be read\nor is too long, no memory, or the output cannot be written; 70 ./trac-lint of a checkout has no\nprogram to run; 130 Ctrl-C was typed. If a program is stopped before its end, standard error says so.\n",
+  "debug": "Steps through the program in FILE, forwards and backwards\n\nUsage: trac debug [OPTIONS] <FILE>\n\nArguments:\n  <FILE>  The file that holds the program\n\nOptions:\n      --journal <N>      How many steps can be gone back over: 1 to 1048576 [default: 65536]\n      --decimals <BITS>  How wide numbers are, in bits [default: 128] [possible values: 64, 128]\n      --memory <SIZE>    Most memory, in bytes or with K, M or G: 1M to 1024G [default: 2G, or half the machine's if less]\n  -h, --help             Print help\n  -V, --version          Print version\n\nThis debugger is made for scripts; trac walk FILE is the one for a terminal.\n\nFILE holds the program, and after it all that the program reads. Commands are read from standard\ninput, one a line:\n  s COUNT       COUNT steps forward\n  b COUNT       COUNT steps back\n  u NAME COUNT  forward to a call of NAME, by COUNT steps at most\n  r NAME        back to a call of NAME\n  p             show the state\n  c             show what was printed and no c has shown yet, and forget all steps so far\n  c COUNT       forget all steps but the last COUNT, and show what was printed before these\n  q             end\n\nThere is no prompt. NAME is what stands first in the call: #(cl,F) is met as cl, and not as F.\n\nExit status: 0 at the end; 2 the command line is not understood; 3 more than 1048576 lines;\n4 FILE is too long; 5 no memory; 6 FILE or the commands cannot be read; 7 the output cannot be\nwritten; 8 a command is not understood; 70 ./trac of a checkout has no program to run;\n130 Ctrl-C was typed.\n",
+  "walk": "Walks through the TRAC T-64 program in FILE, forwards and backwards, for a person at a terminal\n\nUsage: trac walk [OPTIONS] <FILE>\n\nArguments:\n  <FILE>  The file that holds the program\n\nOptions:\n      --journal <N>      How many steps can be gone back over: 1 to 1048576 [default: 65536]\n      --decimals <BITS>  How wide numbers are, in bits [default: 128] [possible values: 64, 128]\n      --memory <SIZE>    Most memory, in bytes or with K, M or G: 1M to 1024G [default: 2G, or half the machine's if less]\n      --keep <SIZE>      About how many MiB of memory these steps may take: 1 to 1048576 [default: 256]\n      --prompt           Prompt also where standard input is no terminal\n  -h, --help             Print help\n  -V, --version          Print version\n\nFILE holds the program, and after it what the program reads; more can be typed in the walk.\nCommands are read from standard input, one a line, and each gets its reply at once: h lists them,\nand q, or Ctrl-D, ends.\n\nExit status: 0 at the end; 2 the command line is not understood; 4 FILE is too long; 5 no memory;\n6 FILE or the commands cannot be read; 7 the output cannot be written; 70 ./trac of a checkout has\nno program to run; 130 Ctrl-C was typed.\n",
+  "lint": "Runs the TRAC T-64 program in each FILE, and says where it does what is seldom meant\n\nUsage: trac lint [OPTIONS] <FILE>...\n\nArguments:\n  <FILE>...  The files that hold a program each\n\nOptions:\n      --input <TEXTFILE>  What each program reads after its FILE\n      --steps <N>         How many steps a program may take: 1 to 1000000000000 [default: 10000000]\n      --keep <SIZE>       About how many MiB of memory the way back may take: 1 to 1048576 [default: 256]\n      --decimals <BITS>   How wide numbers are, in bits [default: 128] [possible values: 64, 128]\n      --memory <SIZE>     Most memory, in bytes or with K, M or G: 1M to 1024G [default: 2G, or half the machine's if less]\n  -h, --help              Print help\n  -V, --version           Print version\n\nWhat a program prints is thrown away. Each doubt is told once for each place, as\n  FILE:3:5: no primitive is named pr (step 124)\nwhich is line 3, column 5; trac walk FILE shows that step by g 124.\n\nExit status: 0 no doubt; 1 some doubts; 2 the command line is not understood, a file cannot be read\nor is too long, no memory, or the output cannot be written; 70 ./trac of a checkout has no\nprogram to run; 130 Ctrl-C was typed. If a program is stopped before its end, standard error says so.\n",
   "help": "Print this message or the help of the given subcommand(s)\n\nUsage: trac help [COMMAND]...\n\nArguments:\n  [COMMAND]...  Print help for the subcommand(s)\n",
   "version": "1.7.0 (logic dac8208d650f15bf)"
 };
@@ -2184,11 +2184,11 @@ const COMMANDS = {
     options: { journal, decimals, memory: text("SIZE") },
   },
   walk: {
-    name: "trac-walk", usage: "trac-walk [OPTIONS] <FILE>", isFixed: true, file: "<FILE>", advice: "trac-walk",
+    name: "trac", usage: "trac walk [OPTIONS] <FILE>", isFixed: true, file: "<FILE>", advice: "trac walk",
     options: { journal, decimals, memory: text("SIZE"), keep, prompt: flag },
   },
   lint: {
-    name: "trac-lint", usage: "trac-lint [OPTIONS] <FILE>...", isFixed: true, file: "<FILE>...", advice: "trac-lint",
+    name: "trac", usage: "trac lint [OPTIONS] <FILE>...", isFixed: true, file: "<FILE>...", advice: "trac lint",
     options: {
       input: text("TEXTFILE"), steps: number("N", BUDGET_LIMIT, 10_000_000), keep, decimals, memory: text("SIZE"),
     },
@@ -2392,8 +2392,8 @@ class Words {
 const COMMANDS_OF_TRAC = ["run", "debug", "help"];
 const RUN_TIP = "to run the program in FILE, put < before its name: trac run < FILE";
 const COMMAND_TIPS = {
-  walk: "the debugger for a terminal is a program of its own: trac-walk FILE",
-  page: "the page that plays a run is made by a program of its own: trac-page FILE > run.html",
+  walk: "to walk through the program in FILE at a terminal: trac walk FILE",
+  page: "to make a page that runs the program in FILE: trac page FILE > run.html",
   version: "the version is shown by: trac --version",
 };
 const BUDGET_TIP = "--budget is an option of trac run; here the commands say how far to go";
@@ -2401,7 +2401,7 @@ const NO_COMMAND = "'trac' requires a subcommand but one was not provided\n  [su
 const NOT_TEXT = `error: invalid UTF-8 was detected in one or more arguments
 
   tip: have the shell open such a file: trac run < FILE, trac debug /dev/fd/3 3< FILE,
-       trac-walk /dev/fd/3 3< FILE, or trac-lint /dev/fd/3 3< FILE
+       trac walk /dev/fd/3 3< FILE, or trac lint /dev/fd/3 3< FILE
 `;
 
 // How similar two words are, by Jaro: 0 to 1.
@@ -2501,7 +2501,7 @@ class End extends Error {
   }
 }
 
-// What is said of each status, for the programs that are not trac-lint.
+// What is said of each status, for the programs that are not trac lint.
 const ENDINGS = {
   [SPENT]: "budget spent",
   [LIMIT]: "limit passed",
@@ -2766,7 +2766,7 @@ class Walk extends Dialogue {
   }
 }
 
-// trac-lint: the doubts of programs.
+// trac lint: the doubts of programs.
 
 const FAILED = 2;
 const LIMIT_PASSED = "where a limit is passed: too much text, or too many arguments, forms or blocks";
@@ -2817,7 +2817,7 @@ class Linter {
   }
 
   told(file, why) {
-    this.streams.tell(`trac-lint: ${shown(file) || "''"}: ${why}\n`);
+    this.streams.tell(`trac lint: ${shown(file) || "''"}: ${why}\n`);
     return FAILED;
   }
 
@@ -2997,9 +2997,9 @@ const BAD_WORDS = 2, BROKEN_OFF = 70;
 
 // What the module cannot give as the programs do, and why.
 function refusalOf(name, { memory, keep }) {
-  const { name: program } = COMMANDS[name];
+  const program = ["walk", "lint"].includes(name) ? `trac ${name}` : "trac";
   if (memory !== undefined) return `${program}: --memory is refused: trac.mjs has 512 MiB, counted otherwise\n`;
-  if (name === "lint" && keep !== 256) return "trac-lint: --keep is refused: trac.mjs keeps 256 MiB\n";
+  if (name === "lint" && keep !== 256) return "trac lint: --keep is refused: trac.mjs keeps 256 MiB\n";
   return undefined;
 }
 
@@ -3043,7 +3043,7 @@ class Programs {
       this.streams.write(Buffer.from(text));
     } catch (fault) {
       if (name !== "lint") throw fault;
-      throw new End(FAILED, "trac-lint: the output cannot be written");
+      throw new End(FAILED, "trac lint: the output cannot be written");
     }
     return 0;
   }
@@ -3085,7 +3085,7 @@ class Programs {
     try {
       return programIn(file);
     } catch (fault) {
-      if (fault.status === NOT_READ) this.streams.tell(`trac-walk: ${shown(file)} cannot be read\n`);
+      if (fault.status === NOT_READ) this.streams.tell(`trac walk: ${shown(file)} cannot be read\n`);
       throw fault;
     }
   }

@@ -1,5 +1,5 @@
-"""What README.md of each crate names is there: files, crates, and the words of the language and of its proofs, each in
-some file of the crates. So a name that changed, or went, is changed there too."""
+"""README.md of each crate has 10 to 20 lines, and what it names is there: files, crates, and the words of the language
+and of its proofs, each in some file of the crates. So a name that changed, or went, is changed there too."""
 import pathlib
 import re
 
@@ -43,5 +43,7 @@ class Crates(Case):
         crate = CRATES / name
         text = (crate / "README.md").read_text(encoding="utf-8")
         self.holds("it begins with the crate's name", text.startswith("# {}\n".format(name)))
+        count = text.count("\n")
+        self.holds("it has 10 to 20 lines, and not {}".format(count), 10 <= count <= 20)
         for code in sorted(set(CODE.findall(text))):
             self.holds("`{}`, which README.md of {} names, is there".format(code, name), is_there(crate, code))

@@ -71,4 +71,5 @@ class Limits(Case):
             self.same(what + ": standard error", done.error, LINES.get(done.status, b""))
             count = len(whole) if done.status == 0 else len(done.output)
             self.same(what + ": what it printed", done.output, whole[:count])
-        self.holds("it ends with {} under the last limit, and not {}".format(status, done.status), done.status == status)
+        self.holds("it ends with {} under the last limit, and not {}".format(status, done.status),
+                   done.status == status)

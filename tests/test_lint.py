@@ -192,7 +192,7 @@ class Loops(Linter):
         self.says("each place is told once",
                   self.lint(b"#(ds,L,(#(cl,XN)\n#(gr,N,10000,(#(opb)))#(cl,L,#(ad,N,1))))'#(ss,L,N)'#(cl,L,1)'"),
                   b"it:1:14: no form is named X1\nit:2:17" + UNKNOWN + b"opb\n", 1,
-                  b"trac-lint: it: stopped after 10000000 steps; --steps allows more\n")
+                  b"trac lint: it: stopped after 10000000 steps; --steps allows more\n")
 
     def test_text_that_grows(self) -> None:
         """Each round appends to an argument, which names a call once the rounds are over."""
@@ -206,7 +206,7 @@ class Loops(Linter):
 
     def test_loop_without_end(self) -> None:
         run = self.bounded(b"#(ds,L,(#(x)#(cl,L)))'#(cl,L)'")
-        self.was("a loop without end", run, 1, b"trac-lint: it: stopped after 10000000 steps; --steps allows more\n")
+        self.was("a loop without end", run, 1, b"trac lint: it: stopped after 10000000 steps; --steps allows more\n")
         self.same("its doubt is told once", STEP.sub(b"", run.output), b"it:1:11" + UNKNOWN + b"x\n")
 
     def test_recursion_without_end(self) -> None:
@@ -217,7 +217,7 @@ class Loops(Linter):
         """2 marks of the idle program's ps, and one of each function that is begun, are 1,048,576 at most; 8 steps
         come before."""
         self.was("functions that pass a limit", self.lint(b"#(" * 1048575 + b"'"), 0,
-                 b"trac-lint: it: stopped after 1048582 steps, where a limit is passed: "
+                 b"trac lint: it: stopped after 1048582 steps, where a limit is passed: "
                  b"too much text, or too many arguments, forms or blocks\n")
 
 
@@ -230,7 +230,7 @@ class Words(Linter):
         self.ends("it is shown as one", ran([*LINT, name], folder=self.room),
                   b"a line\\x0aanother\\x1b:1:3: no primitive is named pr (step 11)\n", 1)
         self.ends("two lines of a file that is not there", ran([*LINT, "no\nfile"], folder=self.room), b"", 2,
-                  b"trac-lint: no\\x0afile: it cannot be read\n")
+                  b"trac lint: no\\x0afile: it cannot be read\n")
 
     def test_name_with_signs_that_are_not_seen(self) -> None:
         """They are shown as `trac debug` shows them; letters of all scripts stand as themselves."""
@@ -244,10 +244,10 @@ class Words(Linter):
         (self.room / "it").write_bytes(PR)
         run = ran([*LINT, "none", "it"], folder=self.room)
         self.status("a file that is not there", run, 2)
-        self.same("it is named", run.error, b"trac-lint: none: it cannot be read\n")
+        self.same("it is named", run.error, b"trac lint: none: it cannot be read\n")
         self.same("the next one", run.output, b"it:1:3: no primitive is named pr (step 11)\n")
         run = self.lint(PR, "--input", "none")
-        self.was("input that is not there", run, 2, b"trac-lint: none: it cannot be read\n")
+        self.was("input that is not there", run, 2, b"trac lint: none: it cannot be read\n")
 
     def test_words_that_are_not_understood(self) -> None:
         lines: tuple[list[str], ...] = ["--fast", "it"], []
@@ -264,16 +264,16 @@ class Words(Linter):
         for words, said in ((["it", "another"], b"it: the output"), (["--help"], b"the output"),
                             (["--version"], b"the output")):
             run = ran(["bash", "-c", 'exec "$@" >/dev/full', "-", *LINT, *words], folder=self.room)
-            self.was("a full disk and {}".format(words), run, 2, b"trac-lint: " + said + b" cannot be written\n")
+            self.was("a full disk and {}".format(words), run, 2, b"trac lint: " + said + b" cannot be written\n")
 
     def test_empty_name(self) -> None:
-        said = b"trac-lint: '': it cannot be read\n"
+        said = b"trac lint: '': it cannot be read\n"
         self.was("input of an empty name", self.lint(PR, "--input", ""), 2, said)
         self.was("a file of an empty name", ran([*LINT, ""], folder=self.room), 2, said)
 
     def test_few_steps(self) -> None:
         for steps, said in ("1", b"1 step"), ("2", b"2 steps"):
-            wanted = b"trac-lint: it: stopped after " + said + b"; --steps allows more\n"
+            wanted = b"trac lint: it: stopped after " + said + b"; --steps allows more\n"
             self.was("few steps", self.lint(PR, "--steps", steps), 0, wanted)
 
     def test_name_that_is_no_utf_8(self) -> None:
@@ -284,6 +284,6 @@ class Words(Linter):
         run = ran([*LINT, b"\xff"], folder=self.room)
         self.status("a name that is not UTF-8", run, 2)
         self.same("nothing is printed", run.output, b"")
-        self.holds("the tip says how to name it", b"trac-lint /dev/fd/3 3< FILE" in run.error)
+        self.holds("the tip says how to name it", b"trac lint /dev/fd/3 3< FILE" in run.error)
         run = ran([b"bash", b"-c", b'exec "$@" 3<"$0"', b"\xff", *LINT, "/dev/fd/3"], folder=self.room)
         self.was("a file whose name is not UTF-8, opened by the shell", run, 1)

@@ -203,11 +203,11 @@ class Stored(InNode):
     def test_what_is_refused(self) -> None:
         """What the module cannot give is said, with the status of a line that is not understood."""
         memory = b": --memory is refused: trac.mjs has 512 MiB, counted otherwise\n"
-        keep = b"trac-lint: --keep is refused: trac.mjs keeps 256 MiB\n"
+        keep = b"trac lint: --keep is refused: trac.mjs keeps 256 MiB\n"
         self.are([(row(words), {"status": 2, "error": error}) for words, error in (
             (["run", "--memory", "5M"], b"trac" + memory), (["debug", "--memory", "5M", "F"], b"trac" + memory),
-            (["walk", "--memory", "5M", "F"], b"trac-walk" + memory),
-            (["lint", "--memory", "5M", "F"], b"trac-lint" + memory), (["lint", "--keep", "5", "F"], keep))])
+            (["walk", "--memory", "5M", "F"], b"trac walk" + memory),
+            (["lint", "--memory", "5M", "F"], b"trac lint" + memory), (["lint", "--keep", "5", "F"], keep))])
 
     def test_endings(self) -> None:
         """Budgets, limits and files that cannot be read, as the programs end."""
@@ -301,7 +301,7 @@ class Streams(InNode):
             self.skipTest("there is no /dev/full")
         fault = b"trac: write fault\n"
         for words, given, status, said in ((["run"], b"AB'", 7, fault), (["--help"], b"", 7, fault),
-                                           (["lint", "--help"], b"", 2, b"trac-lint: the output cannot be written\n")):
+                                           (["lint", "--help"], b"", 2, b"trac lint: the output cannot be written\n")):
             with open("/dev/full", "wb") as full:
                 process = self.begun(words, full)
                 _, error = process.communicate(given, patience())

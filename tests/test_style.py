@@ -1,7 +1,7 @@
 """How scripts are written: what shellcheck says of those in Bash, flake8 and mypy of those in Python, and tsc of the
 page's, where they are installed in the versions that are known here; that no line of a script has more than 120
-columns, but for those of support/long-lines, which are still to be mended; and that four commands stand at the top, of
-which the launcher is short."""
+columns, but for those of support/long-lines, which are still to be mended; that four commands stand at the top, of
+which the launcher is short; and that each folder there says what belongs there."""
 import os
 import pathlib
 import re
@@ -16,7 +16,7 @@ WIDTH, SOME = 120, 12
 KNOWN = {"shellcheck": r"version: 0\.9\.0$", "flake8": r"^5\.0\.", "mypy": r"^mypy 1\.0\.",
          "tsc": r"^Version 4\.8\."}
 # The folders whose files are not looked at: Rattle, what is made, and the pages, which have their own measures.
-ELSEWHERE = re.compile("^(?:crates|release|web|tests/web|tests/webpage)/")
+ELSEWHERE = re.compile("^(?:crates|release|web|tests/web)/")
 # The folders where functions do not say their types, and the modules that are looked at where others take them.
 UNTYPED = re.compile(r"^(?!python/|tests/|tools/)|^tests/(?:web/|support/.*\.py$)")
 # What is no script: texts, programs, what is wanted of them, and manual pages.
@@ -86,19 +86,24 @@ class Style(Case):
 
     def test_python_types(self) -> None:
         """The package, the tests and the tools by the types that they say themselves (pyproject.toml), and what of
-        Python they take: python/README.md says so of the package. The tests of the page are looked at apart, since of
-        some of their modules there are others of the same names."""
+        Python they take: python/README.md says so of the package."""
         tool = self.tool("mypy")
         names = [near(file) for file, first, _ in scripts(UNTYPED) if is_python(file, first)]
-        package, of_page = ([name for name in names if name.startswith(it)] for it in ("python/", "tests/webpage/"))
-        others = [name for name in names if name not in package + of_page]
-        for files, version, path in (
-                (package, "3.8", ""), (others, "3.9", ""), (of_page, "3.9", "tests/webpage:tests/support")):
-            words = [tool, "--no-error-summary", "--python-version", version]
-            run = ran([*words, *files], env={**os.environ, "MYPYPATH": path})
+        package = [name for name in names if name.startswith("python/")]
+        for files, version in ((package, "3.8"), ([name for name in names if name not in package], "3.9")):
+            run = ran([tool, "--no-error-summary", "--python-version", version, *files])
             self.same(tool, run.output, b"", None, "found")
             self.status(tool, run, 0)
             self.holds("there are files to look at", len(files) > 5)
+
+    def test_folders(self) -> None:
+        """Each folder at the top says what belongs there; of docs README.md at the top does, of crates, where no other
+        file may stand, crates.txt."""
+        folders = {name.split("/")[0] for name in listed() if "/" in name} - {".ci", "crates", "docs"}
+        for name in sorted(folders):
+            file = TOP / name / "README.md"
+            count = len(file.read_text(encoding="utf-8").splitlines()) if file.exists() else 0
+            self.holds("{} has 1 to 10 lines, and not {}".format(near(file), count), 1 <= count <= 10)
 
     def test_top(self) -> None:
         there = sorted(it.name for it in TOP.iterdir() if it.is_file() and os.access(it, os.X_OK))

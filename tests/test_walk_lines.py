@@ -172,11 +172,11 @@ class Endings(Walker):
     def test_no_file(self) -> None:
         run = ran([WALK, self.room / "none"])
         self.status("no FILE", run, 6)
-        wanted = "trac-walk: {} cannot be read".format(self.room / "none")
+        wanted = "trac walk: {} cannot be read".format(self.room / "none")
         self.holds("and which one: {}".format(run.error), wanted in run.error.decode().splitlines())
         run = ran([WALK, ""])
         self.status("a FILE of an empty name", run, 6)
-        self.holds("and which one", b"trac-walk: '' cannot be read" in run.error.splitlines())
+        self.holds("and which one", b"trac walk: '' cannot be read" in run.error.splitlines())
 
     def test_long_file(self) -> None:
         self.status("a long FILE", self.walk(bytes(33554433), b""), 4)
@@ -191,7 +191,7 @@ class Endings(Walker):
         for words in lines:
             run = ran([WALK, *words])
             self.status("no FILE named", run, 2)
-            self.holds("and the usage", b"Usage: trac-walk [OPTIONS] <FILE>" in run.error.splitlines())
+            self.holds("and the usage", b"Usage: trac walk [OPTIONS] <FILE>" in run.error.splitlines())
 
     def test_memory_that_may_not_be_kept(self) -> None:
         for size in "0", "1048577":
@@ -205,5 +205,5 @@ class Endings(Walker):
         lines = run.error.decode().splitlines()
         self.status("a FILE whose name begins with -", run, 2)
         self.holds("and how it is written: {}".format(lines),
-                   "  tip: a FILE whose name begins with - is written so: trac-walk ./-file" in lines)
+                   "  tip: a FILE whose name begins with - is written so: trac walk ./-file" in lines)
         self.holds("and no other tip", sum("tip:" in line for line in lines) == 1)

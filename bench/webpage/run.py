@@ -1,12 +1,13 @@
 #!/usr/bin/env python3
-"""Times trac.html in Chromium: from opening to ready, a run of a million steps, and what is done over it. Prints a table of
-milliseconds: the least, the median and the most of all rounds, as the page itself measures them.
+"""Times trac.html in Chromium: from opening to ready, a run of a million steps, and what is done over it. Prints a
+table of milliseconds: the least, the median and the most of all rounds, as the page itself measures them.
 
     python3 bench/webpage/run.py [ROUNDS [PAGE]]
 
 PAGE is release/trac.html if none is given. The run is programs/examples/long-way-back.trac, of 1,024,773 steps. A click
-is timed until the calls on the way are shown; `move` goes out of a call, to where one begins, and to calls, and `who` to the one that changed a form last;
-`tree` lists all calls of the run after a search, until they are painted; `stop` ends the Worker of a run without end.
+is timed until the calls on the way are shown; `move` goes out of a call, to where one begins, and to calls, and `who`
+to the one that changed a form last; `tree` lists all calls of the run after a search, until they are painted; `stop`
+ends the Worker of a run without end.
 """
 import json
 import os
@@ -17,16 +18,17 @@ import sys
 import time
 
 ROOT = pathlib.Path(__file__).resolve().parent.parent.parent
-sys.path.insert(0, str(ROOT / "tests" / "support"))
+sys.path.insert(0, str(ROOT / "tests"))
 sys.dont_write_bytecode = True
-import browser  # noqa: E402
+from support import browser  # noqa: E402
 
 PROGRAM = (ROOT / "programs" / "examples" / "long-way-back.trac").read_text()
 ENDLESS = (ROOT / "programs" / "examples" / "endless.trac").read_text()
-GOALS = {"ready": 300, "run": 500, "step": 100, "jump": 100, "move": 100, "click": 100, "who": 100, "tree": 300, "stop": 200}
+GOALS = {"ready": 300, "run": 500, "step": 100, "jump": 100, "move": 100, "click": 100, "who": 100, "tree": 300,
+         "stop": 200}
 END = 1_024_773
-READY = "new MutationObserver(() => { if (document.documentElement.dataset.ready) window.readyAt ??= performance.now(); })" \
-        ".observe(document, { attributes: true, subtree: true });"
+READY = "new MutationObserver(() => { if (document.documentElement.dataset.ready) " \
+        "window.readyAt ??= performance.now(); }).observe(document, { attributes: true, subtree: true });"
 # Does something, and waits until this holds; its value is how long that took.
 TIMED = """new Promise((done) => {{
   const from = performance.now();
@@ -74,26 +76,28 @@ LISTED = """new Promise((done) => {
 
 def timed(page, does, until):
     """How long it takes from here to there, in milliseconds."""
-    said = page.call("Runtime.evaluate", expression=TIMED.format(does=does, until=until), awaitPromise=True, returnByValue=True)
+    said = page.call("Runtime.evaluate", expression=TIMED.format(does=does, until=until), awaitPromise=True,
+                     returnByValue=True)
     return said["result"]["value"]
 
 
 def go(step):
     """The script that goes to a step, and what holds then."""
-    does = "const box = document.getElementById('place'); box.value = '{}'; box.dispatchEvent(new Event('change'))".format(step)
-    return does, "document.getElementById('place').value === '{:,}'".format(step)
+    does = "const box = document.getElementById('place'); box.value = '{}'; box.dispatchEvent(new Event('change'))"
+    return does.format(step), "document.getElementById('place').value === '{:,}'".format(step)
 
 
 def clicked(selector):
     """The script that clicks the first byte of an element."""
-    return ("(() => {{ const byte = document.querySelector('{} [data-byte]'); const box = byte.getBoundingClientRect(); "
-            "byte.dispatchEvent(new MouseEvent('click', {{ bubbles: true, clientX: box.x + 2, clientY: box.y + box.height / 2 }})); }})()"
-            ).format(selector)
+    return ("(() => {{ const byte = document.querySelector('{} [data-byte]'), box = byte.getBoundingClientRect(); "
+            "const place = {{ clientX: box.x + 2, clientY: box.y + box.height / 2 }}; "
+            "byte.dispatchEvent(new MouseEvent('click', {{ bubbles: true, ...place }})); }})()").format(selector)
 
 
 def pressed(name):
     """The script that presses a button, and what holds once it has gone somewhere."""
-    return "document.getElementById('{}').click()".format(name), "document.getElementById('place').value !== window.stood"
+    moved = "document.getElementById('place').value !== window.stood"
+    return "document.getElementById('{}').click()".format(name), moved
 
 
 def rest(page):
@@ -112,7 +116,8 @@ def one_round(file, times):
             pass
         times["ready"].append(page.script("window.readyAt"))
         page.script("document.getElementById('source').value = " + json.dumps(PROGRAM))
-        times["run"].append(timed(page, "document.getElementById('run').click()", "document.getElementById('output').textContent === '24060'"))
+        times["run"].append(timed(page, "document.getElementById('run').click()",
+                                  "document.getElementById('output').textContent === '24060'"))
         while not page.script("document.getElementById('tree-count').textContent[0] > '0'"):
             pass
         time.sleep(4)
@@ -149,7 +154,9 @@ def main():
         one_round(file, times)
     print("{:,} bytes".format(os.path.getsize(file)))
     for name, goal in GOALS.items():
-        print("{:6} least {:6.1f}  median {:6.1f}  most {:6.1f}  goal {}".format(name, min(times[name]), statistics.median(times[name]), max(times[name]), goal))
+        print("{:6} least {:6.1f}  median {:6.1f}  most {:6.1f}  goal {}".format(name, min(times[name]),
+                                                                                 statistics.median(times[name]),
+                                                                                 max(times[name]), goal))
 
 
 if __name__ == "__main__":

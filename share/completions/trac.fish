@@ -11,6 +11,11 @@ function __trac_is
     end
 end
 
+# Whether the words before the one that is completed are of trac course, with what this expression takes after that.
+function __trac_course
+    string match -qr "^(\S*/)?trac[ -]course$argv\$" -- (string join -- ' ' (commandline -opc))
+end
+
 set -l every run play walk debug lint page course
 for it in trac trac-walk trac-lint trac-play trac-page trac-course
     complete -c $it -e
@@ -26,8 +31,10 @@ for it in trac trac-walk trac-lint trac-play trac-page trac-course
     complete -c $it -x -n '__trac_is lint' -l steps -d 'How many steps a program may take'
     complete -c $it -r -n '__trac_is lint page' -l input -d 'What is read after FILE'
     complete -c $it -x -n '__trac_is page' -l step -d 'Where the page opens'
-    complete -c $it -f -n '__trac_is course' -a '(seq 10) hint solution check'
-    complete -c $it -F -n '__trac_is course; and __fish_seen_subcommand_from check'
+    complete -c $it -f -n '__trac_is course'
+    complete -c $it -n __trac_course -a '(seq 10) (seq 10).{1,2,3} hint solution check'
+    complete -c $it -n '__trac_course " (hint|solution|check)"' -a '(seq 10).{1,2,3}'
+    complete -c $it -F -n '__trac_course " check \S+"'
 end
 complete -c trac -f -n __fish_use_subcommand -a "$every help"
 complete -c trac -f -n '__trac_is run'

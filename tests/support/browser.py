@@ -1,5 +1,6 @@
-"""A page in a browser without a window: in Chromium, spoken to by its DevTools protocol over two pipes, or in Firefox. Both
-classes have the same methods: become, load, script, press, insert, click_at, touch, choose_file, faults, picture, end."""
+"""A page in a browser without a window: in Chromium, spoken to by its DevTools protocol over two pipes, or in Firefox.
+Both classes have the same methods: become, load, script, press, insert, click_at, touch, choose_file, faults, picture,
+end."""
 from __future__ import annotations
 
 import base64
@@ -11,8 +12,8 @@ import subprocess
 import tempfile
 from typing import Any
 
-from firefox import Firefox  # noqa: F401
-from waiting import SILENCE, Gone, Waiting
+from support.firefox import Firefox  # noqa: F401
+from support.waiting import SILENCE, Gone, Waiting
 
 # What keys have beside their names.
 CODES = {
@@ -27,12 +28,14 @@ def find() -> str | None:
 
 
 # That all input reaches the page, also before its first frame, and that nothing in it is put off, since nobody looks.
-SETTINGS = ("--allow-pre-commit-input", "--disable-background-timer-throttling", "--disable-backgrounding-occluded-windows",
+SETTINGS = ("--allow-pre-commit-input", "--disable-background-timer-throttling",
+            "--disable-backgrounding-occluded-windows",
             "--disable-renderer-backgrounding", "--disable-hang-monitor")
 
 
 class Browser(Waiting):
-    """One page of it: at a size, light or dark, with forced colours, without motion, or without modules of WebAssembly."""
+    """One page of it: at a size, light or dark, with forced colours, without motion, or without modules of
+    WebAssembly."""
 
     name, is_slow = "Chromium", False
     session: str | None
@@ -50,20 +53,23 @@ class Browser(Waiting):
         from_it, by_it = os.pipe()
         command = [
             "bash", "-c", 'exec "${@:3}" 3<&"$1" 4>&"$2"', "-", str(for_it), str(by_it),
-            find() or "", "--headless=new", "--no-sandbox", "--disable-gpu", "--disable-dev-shm-usage", "--no-first-run",
+            find() or "", "--headless=new", "--no-sandbox", "--disable-gpu", "--disable-dev-shm-usage",
+            "--no-first-run",
             "--remote-debugging-pipe", "--user-data-dir=" + self.room, *SETTINGS,
             # (without compiled code it has no modules either)
             *([] if modules else ["--js-flags=--jitless"]), "about:blank",
         ]
         self.process = subprocess.Popen(
-            command, pass_fds=(for_it, by_it), stdin=subprocess.DEVNULL, stdout=subprocess.DEVNULL, stderr=subprocess.DEVNULL
+            command, pass_fds=(for_it, by_it), stdin=subprocess.DEVNULL, stdout=subprocess.DEVNULL,
+            stderr=subprocess.DEVNULL
         )
         os.close(for_it)
         os.close(by_it)
         self.reader, self.writer, self.modules = from_it, to_it, modules
         self.read, self.number, self.session, self.events, self.replies = b"", 0, None, [], {}
         try:
-            self.target = next(one for one in self.call("Target.getTargets")["targetInfos"] if one["type"] == "page")["targetId"]
+            targets = self.call("Target.getTargets")["targetInfos"]
+            self.target = next(one for one in targets if one["type"] == "page")["targetId"]
             self.become(**looks)
         except OSError:
             self.end()
@@ -157,7 +163,8 @@ class Browser(Waiting):
     def resize(self, width: int, height: int) -> None:
         """Gives the page another size, and waits until it has it."""
         self.call("Emulation.setDeviceMetricsOverride", width=width, height=height, deviceScaleFactor=1, mobile=False)
-        self.until("innerWidth === {} && innerHeight === {}".format(width, height), "{} by {} pixels".format(width, height))
+        self.until("innerWidth === {} && innerHeight === {}".format(width, height), "{} by {} pixels".format(width,
+                                                                                                             height))
         self.frames()
 
     def script(self, text: str) -> Any:
@@ -204,7 +211,8 @@ class Browser(Waiting):
 
     def faults(self) -> list[Any]:
         """What it wrote to its console, or asked or fetched, since the page was loaded."""
-        names = ("Runtime.exceptionThrown", "Runtime.consoleAPICalled", "Log.entryAdded", "Page.javascriptDialogOpening")
+        names = ("Runtime.exceptionThrown", "Runtime.consoleAPICalled", "Log.entryAdded",
+                 "Page.javascriptDialogOpening")
         faults = [event for event in self.events if event.get("method") in names]
         for event in self.events:
             if event.get("method") == "Network.requestWillBeSent":

@@ -12,12 +12,14 @@ import time
 from collections.abc import Sequence
 from typing import Any
 
-from waiting import SILENCE, Gone, Missed, Waiting
+from support.waiting import SILENCE, Gone, Missed, Waiting
 
 # What stands for keys that write no sign.
 KEYS = {
-    "Backspace": "\ue003", "Tab": "\ue004", "Enter": "\ue006", "Shift": "\ue008", "Control": "\ue009", "Escape": "\ue00c",
-    "PageUp": "\ue00e", "PageDown": "\ue00f", "End": "\ue010", "Home": "\ue011", "ArrowLeft": "\ue012", "ArrowUp": "\ue013",
+    "Backspace": "\ue003", "Tab": "\ue004", "Enter": "\ue006", "Shift": "\ue008", "Control": "\ue009",
+    "Escape": "\ue00c",
+    "PageUp": "\ue00e", "PageDown": "\ue00f", "End": "\ue010", "Home": "\ue011", "ArrowLeft": "\ue012",
+    "ArrowUp": "\ue013",
     "ArrowRight": "\ue014", "ArrowDown": "\ue015", "Delete": "\ue017",
 }
 # How the browser itself is to look, and that it asks nobody for anything.
@@ -58,7 +60,8 @@ Services.obs.addObserver((request) => {
 CLEAR = "Services.console.reset(); window.askedFor.length = 0;"
 FAULTS = """
 const said = Services.console.getMessageArray().filter((one) => one instanceof Ci.nsIScriptError);
-const own = said.filter(({ sourceName, category }) => /^(file|blob|data|http):/.test(sourceName) || /CSP/.test(category));
+const isOwn = ({ sourceName, category }) => /^(file|blob|data|http):/.test(sourceName) || /CSP/.test(category);
+const own = said.filter(isOwn);
 const words = ({ errorMessage, sourceName, lineNumber }) => `${errorMessage} (${sourceName}, ${lineNumber})`;
 return [...own.map(words), ...window.askedFor];
 """
@@ -70,7 +73,8 @@ def find() -> str | None:
 
 
 class Firefox(Waiting):
-    """One page of it: at a size, light or dark, with forced colours, without motion, or without modules of WebAssembly."""
+    """One page of it: at a size, light or dark, with forced colours, without motion, or without modules of
+    WebAssembly."""
 
     name, is_slow = "Firefox", True
 
@@ -85,14 +89,18 @@ class Firefox(Waiting):
         with open(os.path.join(self.room, "user.js"), "w") as settings:
             for name, value in SETTINGS.items():
                 settings.write("user_pref({}, {});\n".format(json.dumps(name), json.dumps(value)))
-        command = [find() or "", "--headless", "--marionette", "--remote-allow-system-access", "--no-remote", "--profile", self.room]
+        # (it ends with this process, however that ends)
+        bound = ["setpriv", "--pdeathsig", "KILL"] if shutil.which("setpriv") else []
+        command = [*bound, find() or "", "--headless", "--marionette", "--remote-allow-system-access", "--no-remote",
+                   "--profile", self.room]
         nothing = subprocess.DEVNULL
         self.process = subprocess.Popen(command + ["about:blank"], stdin=nothing, stdout=nothing, stderr=nothing)
         try:
             self.socket, self.read, self.number = socket.create_connection(("127.0.0.1", self.port()), SILENCE), b"", 0
             self.message()
             times = {"script": SILENCE * 1000, "pageLoad": SILENCE * 1000}
-            self.call("WebDriver:NewSession", capabilities={"alwaysMatch": {"pageLoadStrategy": "normal", "timeouts": times}})
+            self.call("WebDriver:NewSession", capabilities={"alwaysMatch": {"pageLoadStrategy": "normal",
+                                                                            "timeouts": times}})
             self.inside(NOTED)
             self.become(**looks)
         except (OSError, Missed) as fault:
@@ -116,8 +124,8 @@ class Firefox(Waiting):
         })
         asked = ("prefers-color-scheme: dark", "forced-colors: active", "prefers-reduced-motion: reduce")
         wanted = [width, height, dark and not forced, forced, still]
-        self.until("[innerWidth, innerHeight, ...{}.map((one) => matchMedia(`(${{one}})`).matches)].join() === '{}'".format(
-            list(asked), ",".join(str(one).lower() for one in wanted)), "these looks")
+        looks = "[innerWidth, innerHeight, ...{}.map((one) => matchMedia(`(${{one}})`).matches)].join() === '{}'"
+        self.until(looks.format(list(asked), ",".join(str(one).lower() for one in wanted)), "these looks")
 
     def port(self) -> int:
         """Where it listens, once it does."""
@@ -148,7 +156,7 @@ class Firefox(Waiting):
         assert self.socket
         try:
             more = self.socket.recv(1 << 20)
-        except TimeoutError:
+        except socket.timeout:
             self.process.kill()
             raise Gone("Firefox says nothing") from None
         if not more:

@@ -1,12 +1,17 @@
 """What tests wait for in a page, in any browser. All that a test asks for has its time: a slow machine is no fault."""
+import re
 import subprocess
 import time
 from collections.abc import Callable
 from typing import Any
 
-# So many seconds what was asked for may take to hold, and a browser to say something: only what hangs takes so long.
-PATIENCE = 300
-SILENCE = 600
+from support.cases import SILENCE, patience  # noqa: F401
+
+# So many seconds what was asked for may take to hold, where a machine has no more to do than it has processors: only
+# what hangs takes so long.
+PATIENCE = 25
+# A script that compares something with a text, and what it compares.
+COMPARES = re.compile(r"(.+?)(?: === |\.(?:startsWith|endsWith|includes)\()'((?:[^'\\]|\\.)*)'\)?")
 
 
 class Gone(OSError):
@@ -41,14 +46,23 @@ class Waiting:
     end: Callable[[], None]
 
     def until(self, test: str, what: str) -> Any:
-        """Waits until a script tells that this holds, and returns what it tells. Else what comes after cannot be tried."""
-        end, pause = time.monotonic() + PATIENCE, 0.002
+        """Waits until a script tells that this holds, and returns what it tells. Else what comes after cannot be
+        tried."""
+        began, pause = time.monotonic(), 0.002
         while not (told := self.script(test)):
-            if time.monotonic() > end:
-                raise Missed("{}: {}, within {} seconds; {}".format(self.name, what, PATIENCE, self.where()))
+            passed = time.monotonic() - began
+            if passed > PATIENCE and passed > patience(PATIENCE):
+                self.compare(test)
+                raise Missed("{}: {}, within {:.0f} seconds; {}".format(self.name, what, passed, self.where()))
             time.sleep(pause)
             pause = min(pause * 1.5, 0.05)
         return told
+
+    def compare(self, test: str) -> None:
+        """Compares here what a script compares with a text there."""
+        found = COMPARES.fullmatch(test)
+        if found:
+            self.script(found[1]) == found[2]  # noqa: B015
 
     def where(self) -> Any:
         """Where a page stands, for those who read that something did not come."""
@@ -57,7 +71,8 @@ class Waiting:
 
     def frames(self) -> None:
         """Waits until what was scrolled, changed in size or drawn for the next frame is there."""
-        self.script("new Promise((done) => { let left = 4; const next = () => (left-- ? requestAnimationFrame(next) : done()); next(); })")
+        self.script("new Promise((done) => { let left = 4; "
+                    "const next = () => (left-- ? requestAnimationFrame(next) : done()); next(); })")
 
     def rest(self, milliseconds: int) -> None:
         """Lets those timers of the page come first that it has set for so many milliseconds at most."""

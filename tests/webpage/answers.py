@@ -7,7 +7,8 @@ import glob
 import json
 import os
 
-from pages import TOP, Deeds, check
+from webpage.pages import TOP, Deeds, check
+from webpage.rows import ONE, rows
 
 LONG = os.path.join(TOP, "programs", "examples", "long-way-back.trac")
 ENDLESS = os.path.join(TOP, "programs", "examples", "endless.trac")
@@ -131,7 +132,4 @@ def check_changes(page: Deeds) -> None:
         check(call in page.text("next"), "{!r} was changed by {}: {}".format(name, call, page.text("next")))
 
 
-def check_answers(page: Deeds) -> None:
-    """All of it."""
-    for part in (check_programs, check_jumps, check_changes, check_stop):
-        part(page)
+TRIED = rows(check_programs, check_jumps, check_changes, check_stop, where=ONE)

@@ -2,7 +2,8 @@
 stays where it is."""
 import os
 
-from pages import FACTORIAL, IS_FOLLOWED, IS_GATHERED, TOP, Deeds, check, opened
+from webpage.pages import FACTORIAL, IS_FOLLOWED, IS_GATHERED, TOP, Deeds, check
+from webpage.rows import rows
 
 ENDLESS = os.path.join(TOP, "programs", "examples", "endless.trac")
 # A program that takes long.
@@ -309,11 +310,5 @@ def check_comes_back(page: Deeds) -> None:
     page.until(FOCUS + " === 'output'", "the output has the focus then")
 
 
-def check_by_keys(kind: type[Deeds], file: str) -> None:
-    """All that, in one browser."""
-    with opened(kind, file) as page:
-        start(page)
-        for part in (check_order, check_others, check_buttons, check_texts, check_focus_stays, check_tree, check_switch, check_playing,
-                     check_input, check_comes_back):
-            part(page)
-            page.well(part.__name__)
+TRIED = rows(check_order, check_others, check_buttons, check_texts, check_focus_stays, check_tree, check_switch,
+             check_playing, check_input, check_comes_back, before=start)

@@ -3,7 +3,8 @@ import glob
 import json
 import os
 
-from pages import TOP, Deeds, check
+from webpage.pages import TOP, Deeds, check
+from webpage.rows import ONE, rows
 
 COURSE = os.path.join(TOP, "programs", "course")
 # A check that is stopped after a minute tells no more than how slow the machine is: so it may take an hour.
@@ -120,8 +121,9 @@ def check_failure(page: Deeds) -> None:
     check(page.script("document.getElementById('lesson').hidden"), "the lesson is closed")
 
 
-def check_course(page: Deeds) -> None:
-    """All of it."""
+def patient(page: Deeds) -> None:
+    """No check is stopped for its time."""
     page.script(PATIENT)
-    for part in (check_lessons, check_exercises, check_failure):
-        part(page)
+
+
+TRIED = rows(check_lessons, check_exercises, check_failure, before=patient, where=ONE, seconds=10)

@@ -1,5 +1,6 @@
 """The program as it is edited: Tab sets lines in and out, Esc and then Tab leaves, undo brings back, find meets each place once."""
-from pages import Deeds, check, opened
+from webpage.pages import Deeds, check
+from webpage.rows import rows
 
 SOURCE = "document.getElementById('source')"
 VALUE = SOURCE + ".value"
@@ -80,9 +81,4 @@ def check_find(page: Deeds) -> None:
     check("painted" not in places and places.count("program") <= 1, "it is met: {}".format(places or "by the browser's own search alone"))
 
 
-def check_editing(kind: type[Deeds], file: str) -> None:
-    """All that."""
-    with opened(kind, file) as page:
-        for part in (check_tab, check_leaving, check_find):
-            part(page)
-            page.well(part.__name__)
+TRIED = rows(check_tab, check_leaving, check_find)

@@ -3,7 +3,7 @@ import glob
 import os
 import re
 
-from pages import TOP, check
+from webpage.pages import TOP, check
 
 # What later browsers alone have, or what Safari has in part.
 LATER = {

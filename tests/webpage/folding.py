@@ -2,7 +2,8 @@
 import os
 from collections.abc import Iterable
 
-from pages import TOP, Deeds, check, opened
+from webpage.pages import TOP, Deeds, check
+from webpage.rows import rows
 
 LONG = os.path.join(TOP, "programs", "examples", "long-way-back.trac")
 PRESSED = "document.getElementById('idle').getAttribute('aria-pressed')"
@@ -57,9 +58,4 @@ def check_listed(page: Deeds) -> None:
     page.until("document.getElementById('tree-count').textContent.endsWith(', the last of the run')", "at the end the last ones are")
 
 
-def check_folding(kind: type[Deeds], file: str) -> None:
-    """All that."""
-    with opened(kind, file) as page:
-        for part in (check_idle, check_listed):
-            part(page)
-            page.well(part.__name__)
+TRIED = rows(check_idle, check_listed)

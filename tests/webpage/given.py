@@ -1,15 +1,18 @@
 """Pages that trac page makes of programs: what they show when they are opened, from a file and without a connection."""
 from __future__ import annotations
 
+import contextlib
 import os
 import shutil
 import subprocess
 import tempfile
+from collections.abc import Iterator
 
-from pages import FACTORIAL, IS_FOLLOWED, IS_GATHERED, TOP, Deeds, check, opened, ready
-from share import body, held, link, shared
-from staying import LIT
-from strange import ASKING, ENDLESS, HOSTILE, HOSTILE_NAME
+from webpage.pages import FACTORIAL, IS_FOLLOWED, IS_GATHERED, TOP, Deeds, check, ready
+from webpage.rows import rows
+from webpage.share import body, held, link, shared
+from webpage.staying import LIT
+from support.strange import ASKING, ENDLESS, HOSTILE, HOSTILE_NAME
 
 # A number that has no room in 64 bits.
 WIDE = b"#(ps,#(ad,9223372036854775807,1,Z))'"
@@ -131,10 +134,11 @@ def check_decimals(page: Deeds, maker: Maker) -> None:
     check("numbers have 64 bits here" in page.text("share-words"), "what the link lacks: " + page.text("share-words"))
 
 
-def check_given(kind: type[Deeds], file: str) -> None:
-    """All that."""
-    with tempfile.TemporaryDirectory(prefix="trac-webpage-test-") as room, opened(kind, file) as page:
-        maker = Maker(room, file)
-        for part in (check_step, check_hostile, check_input, check_budget, check_decimals):
-            part(page, maker)
-            page.well(part.__name__)
+@contextlib.contextmanager
+def a_maker(page: Deeds) -> Iterator[Maker]:
+    """What makes pages of programs."""
+    with tempfile.TemporaryDirectory(prefix="trac-webpage-test-") as room:
+        yield Maker(room, page.address[len("file://"):])
+
+
+TRIED = rows(check_step, check_hostile, check_input, check_budget, check_decimals, given=a_maker)

@@ -1,7 +1,8 @@
 """What is kept: the program over a reload, in the middle of typing too, its name and the looks; and over the opening of another."""
-from pages import Deeds, check, opened, ready
-from waiting import Gone
-from window import pick
+from webpage.pages import Deeds, check, ready
+from webpage.rows import file_of, rows
+from support.waiting import Gone
+from webpage.window import pick
 
 VALUE = "document.getElementById('source').value"
 NAME = "document.getElementById('program-name').textContent"
@@ -71,10 +72,4 @@ def check_question(page: Deeds) -> None:
     page.script("document.getElementById('question').close()")
 
 
-def check_keeping(kind: type[Deeds], file: str) -> None:
-    """All that."""
-    with opened(kind, file) as page:
-        check_draft(page, file)
-        check_undo(page)
-        check_question(page)
-        page.well("keeping")
+TRIED = rows(check_draft, given=file_of) + rows(check_undo, check_question)

@@ -2,8 +2,9 @@
 import os
 import tempfile
 
-from given import Maker
-from pages import FACTORIAL, Deeds, check, opened, ready
+from webpage.given import Maker
+from webpage.pages import FACTORIAL, Deeds, check, opened, ready
+from webpage.rows import ONE, opening
 
 NOT_RUN = "This takes the processor, which does not run in this browser."
 
@@ -42,3 +43,6 @@ def check_forbidden(kind: type[Deeds], file: str) -> None:
             page.load(copies[1])
             ready(page)
             check_writing(page, "does not take the module")
+
+
+TRIED = opening(check_lacking) + opening(check_forbidden, where=ONE)

@@ -1,8 +1,8 @@
 """How the page looks, as far as it can be computed: contrast, widths, large type, the colours of a system, and no motion."""
 import os
-from collections.abc import Callable, Iterable
 
-from pages import KEPT, Deeds, check, opened
+from webpage.pages import KEPT, Deeds, check
+from webpage.rows import CHROMIUM, rows
 
 # Colours that a person sees: of text on what is behind it, of controls' borders, and of the ring around what has the focus. The worst
 # pairs whose contrast is less than it should be.
@@ -199,15 +199,5 @@ def check_still(page: Deeds) -> None:
 
 
 # The looks of a page, and what is tried of each.
-LOOKS: list[tuple[dict[str, bool], list[Callable[[Deeds], None]]]] = [
-    ({}, [check_contrast, check_widths]), ({"dark": True}, [check_contrast]), ({"forced": True}, [check_forced]),
-    ({"still": True}, [check_still])]
-
-
-def check_looks(kind: type[Deeds], file: str, looks: dict[str, bool],
-                checks: Iterable[Callable[[Deeds], None]]) -> None:
-    """The page with some looks, in Chromium."""
-    with opened(kind, file, **looks) as page:
-        for one in checks:
-            one(page)
-            page.well(one.__name__)
+TRIED = (rows(check_contrast, check_widths, where=CHROMIUM) + rows(check_contrast, where=CHROMIUM, name="-dark", dark=True)
+         + rows(check_forced, where=CHROMIUM, forced=True) + rows(check_still, where=CHROMIUM, still=True))

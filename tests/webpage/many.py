@@ -1,6 +1,7 @@
 """Much of what the page shows: 72,000 calls in the tree, and a step with 1,000 begun calls."""
-import names
-from pages import Deeds, check, opened
+from webpage import names
+from webpage.pages import Deeds, check
+from webpage.rows import CHROMIUM, rows
 
 # A form that calls itself: 3 calls at each turn, of cl, su and eq; before that ds, ss and a first cl, and at last eq.
 TURNS = "#(ds,L,(#(eq,N,0,,(#(cl,L,#(su,N,1))))))'#(ss,L,N)'#(cl,L,{})'"
@@ -50,9 +51,4 @@ def check_begun(page: Deeds) -> None:
     check(page.script("document.activeElement.id") == "begun", "the focus stays")
 
 
-def check_many(kind: type[Deeds], file: str) -> None:
-    """All that, in Chromium."""
-    with opened(kind, file) as page:
-        for part in (check_calls, check_begun):
-            part(page)
-            page.well(part.__name__)
+TRIED = rows(check_calls, check_begun, where=CHROMIUM)

@@ -1,9 +1,13 @@
 """What a tab takes of memory for large programs: at most 1 GiB, at any moment. And what is said of them."""
-import os
-import shutil
-import tempfile
+from __future__ import annotations
 
-from pages import Deeds, check, opened
+import contextlib
+import os
+import tempfile
+from collections.abc import Iterator
+
+from webpage.pages import Deeds, check
+from webpage.rows import CHROMIUM, rows
 
 MOST = 1 << 30
 MIB = 1 << 20
@@ -146,11 +150,12 @@ def check_opened(page: Deeds, room: str) -> None:
     check(tab.peak() <= MOST, "a file that is only opened takes {} MiB".format(tab.peak() // MIB))
 
 
-def check_memory(kind: type[Deeds], file: str) -> None:
-    """All of it, in Chromium, which tells what its processes take."""
-    room = tempfile.mkdtemp(prefix="trac-webpage-memory-")
-    with opened(kind, file) as page:
-        for part in (check_opened, check_programs, check_refused):
-            part(page, room)
-            page.well(part.__name__)
-    shutil.rmtree(room)
+@contextlib.contextmanager
+def a_room(_: Deeds) -> Iterator[str]:
+    """A folder for files."""
+    with tempfile.TemporaryDirectory(prefix="trac-webpage-memory-") as room:
+        yield room
+
+
+# (Chromium tells what its processes take)
+TRIED = rows(check_opened, check_programs, check_refused, given=a_room, where=CHROMIUM, seconds=30)

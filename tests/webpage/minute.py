@@ -1,6 +1,7 @@
 """The first minute: what is there at first, how a run ends in true words, where the focus is, and what Stop leaves."""
-from pages import FACTORIAL, Deeds, check, opened
-from window import pick
+from webpage.pages import FACTORIAL, Deeds, check
+from webpage.rows import rows
+from webpage.window import pick
 
 # A program that prints on and on, and takes long.
 ENDLESS = ("#(ds,A,0123456789abcdef)'#(ds,D,(#(ds,A,##(cl,A)##(cl,A))))'" + "#(cl,D)" * 11
@@ -113,9 +114,4 @@ def check_stopped(page: Deeds) -> None:
     page.unit("token")
 
 
-def check_minute(kind: type[Deeds], file: str) -> None:
-    """All that."""
-    with opened(kind, file) as page:
-        for part in (check_first, check_done, check_unended, check_waits, check_right, check_stopped):
-            part(page)
-            page.well(part.__name__)
+TRIED = rows(check_first, check_done, check_unended, check_waits, check_right, check_stopped)

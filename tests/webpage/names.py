@@ -2,7 +2,7 @@
 from collections.abc import Iterable, Iterator
 from typing import Any, Optional
 
-from pages import Deeds
+from webpage.pages import Deeds
 
 
 # A node of the tree; of a row its depth, what is told of a node there, and else a text of the page.

@@ -4,16 +4,15 @@ from __future__ import annotations
 import contextlib
 import json
 import os
-import sys
 from collections.abc import Iterator
 from typing import Any
 
+from support import browser
+from support.waiting import Missed, Waiting
+from webpage import lending, seen
+from webpage.lending import check
+
 TOP = os.path.dirname(os.path.dirname(os.path.dirname(os.path.realpath(__file__))))
-sys.path.insert(0, os.path.join(TOP, "tests", "support"))
-import browser  # noqa: E402
-import parts  # noqa: E402
-from parts import check  # noqa: E402, F401
-from waiting import Missed, Waiting  # noqa: E402
 
 KEPT = os.path.join(TOP, "out", "webpage")
 
@@ -54,6 +53,10 @@ AIM = """((find, goal = find) => {
 
 class Deeds(Waiting):
     """What is done with the page, in any browser."""
+
+    def script(self, text: str) -> Any:
+        """The value of a script in the page: texts of it remember with what they are compared."""
+        return seen.told(super().script(text))
 
     def text(self, name: str) -> str:
         """The text of an element."""
@@ -154,7 +157,7 @@ FORGET = "(() => { const is = localStorage.length > 0; localStorage.clear(); ret
 @contextlib.contextmanager
 def opened(kind: type[Deeds], file: str, **looks: Any) -> Iterator[Deeds]:
     """The page in a browser of a kind, for some time, as it is for whom opens it first."""
-    with parts.lent(kind, **looks) as page:
+    with lending.lent(kind, **looks) as page:
         page.load(file)
         ready(page)
         if page.script(FORGET):

@@ -5,8 +5,9 @@ import glob
 import os
 import unicodedata
 
-from pages import TOP, Deeds, check
-from share import body, follow, link
+from webpage.pages import TOP, Deeds, check
+from webpage.rows import rows
+from webpage.share import body, follow, link
 
 CONTROLS = ("NUL SOH STX ETX EOT ENQ ACK BEL BS TAB LF VT FF CR SO SI "
             "DLE DC1 DC2 DC3 DC4 NAK SYN ETB CAN EM SUB ESC FS GS RS US").split()
@@ -51,3 +52,6 @@ def check_programs(page: Deeds) -> None:
         if page.text("output") != wanted:
             wrong.append((os.path.basename(path), page.text("output")[:100], wanted[:100]))
     check(len(paths) > 50 and not wrong, "programs: {}".format(wrong[:3]))
+
+
+TRIED = rows(check_programs, seconds=20)

@@ -6,8 +6,9 @@ import json
 import os
 from collections.abc import Callable
 
-import names
-from pages import IS_GATHERED, Deeds, check, opened
+from webpage import names
+from webpage.pages import IS_GATHERED, Deeds, check
+from webpage.rows import CHROMIUM, rows
 
 STORED = os.path.join(os.path.dirname(os.path.realpath(__file__)), "names.txt")
 SAID = ("(() => { window.said = []; new MutationObserver(() => window.said.push(document.getElementById('said').textContent))"
@@ -168,10 +169,18 @@ def check_heard(page: Deeds) -> None:
     hears(page, lambda: press_in(page, "#library", "H", "Enter"), "first.trac is opened.")
 
 
-def check_reading(kind: type[Deeds], file: str) -> None:
-    """All that, in Chromium."""
-    with opened(kind, file) as page:
-        all_named(page, "at the start")
-        for part in (check_stored, check_named, check_changes, check_said, check_noted, check_heard):
-            part(page)
-            page.well(part.__name__)
+def check_start(page: Deeds) -> None:
+    """Nothing lacks a name at the start."""
+    all_named(page, "at the start")
+
+
+def in_a_run(page: Deeds) -> None:
+    """A step of the wrong factorial's run, with where its 0 comes from."""
+    page.followed()
+    page.go(90)
+
+
+# (what Chromium tells of a text that changes depends on whether it has told of it before)
+TRIED = (rows(check_start, check_changes, check_noted, where=CHROMIUM)
+         + rows(check_stored, before=check_start, where=CHROMIUM)
+         + rows(check_named, check_said, check_heard, before=in_a_run, where=CHROMIUM))

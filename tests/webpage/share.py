@@ -11,7 +11,8 @@ import threading
 import zlib
 from collections.abc import Sequence
 
-from pages import FACTORIAL, Deeds, check, ready
+from webpage.pages import FACTORIAL, Deeds, check, ready
+from webpage.rows import file_of, rows
 
 ASKING = "#(ps,(Who? ))#(ps,Hello ##(rs)!)'"
 # Programs whose bytes are to stay as they are.
@@ -253,18 +254,5 @@ class Quiet(http.server.SimpleHTTPRequestHandler):
         """Nothing."""
 
 
-def check_share(page: Deeds) -> None:
-    """All of it."""
-    file = page.address[len("file://"):]
-    check_run(page, file)
-    check_bytes(page)
-    check_wrong(page, file)
-    check_pasted(page)
-    check_without_packing(page)
-    check_far(page, file)
-    page.load(file)
-    ready(page)
-    check_large_file(page)
-    check_served(page, file)
-    page.load(file)
-    ready(page)
+TRIED = (rows(check_bytes, check_pasted, check_without_packing, check_large_file)
+         + rows(check_run, check_wrong, check_far, check_served, given=file_of))

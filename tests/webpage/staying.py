@@ -1,7 +1,8 @@
 """What stays on the page: after a run that came to no end, after an edit, and where other input is given at an earlier step."""
 from __future__ import annotations
 
-from pages import Deeds, check
+from webpage.pages import Deeds, check
+from webpage.rows import rows
 
 # A program that never ends, and one that does not if its input is x.
 NO_END = "#(ps,(wxyz))'#(ds,L,(#(cl,L)))'#(cl,L)'"
@@ -169,4 +170,4 @@ def check_other_input(page: Deeds) -> None:
         check(page.script(NO_FORM), "no input is taken at step {} of a program that reads none".format(step))
 
 
-STAYING = (check_stopped, check_before, check_listed, check_edited, check_other_input)
+TRIED = rows(check_stopped, check_before, check_listed, check_edited, check_other_input)

@@ -3,8 +3,9 @@ steps by token, marks over the slider, the idle program, and the large view."""
 import os
 from collections.abc import Sequence
 
-from pages import FACTORIAL, IS_GATHERED, KEPT, Deeds, check, opened
-from readers import PROGRAM, READERS
+from webpage.pages import FACTORIAL, IS_GATHERED, KEPT, Deeds, check, opened
+from webpage.rows import ONE, opening, rows
+from support.readers import PROGRAM, READERS
 
 # The least number that is too great for 128 bits, and that less one.
 WIDE = "170141183460469231731687303715884105728"
@@ -274,4 +275,5 @@ def check_sizes(kind: type[Deeds], file: str) -> None:
             page.well("the large view")
 
 
-PARTS = [check_reasons, check_protected, check_tokens, check_marks, check_large_view]
+TRIED = (rows(check_reasons, check_protected, check_tokens, check_marks, check_large_view)
+         + opening(check_sizes, where=ONE))

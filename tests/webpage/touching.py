@@ -1,5 +1,6 @@
 """The page by fingers: what a newcomer does, how large targets are, and a swipe over the text as a step."""
-from pages import FACTORIAL, IS_FOLLOWED, IS_GATHERED, Deeds, check, opened
+from webpage.pages import FACTORIAL, IS_FOLLOWED, IS_GATHERED, Deeds, check
+from webpage.rows import CHROMIUM, rows
 
 # What a finger presses and is smaller than 44 pixels, or one of those in another's row.
 SMALL = ("[...document.querySelectorAll('button, select, input, textarea, summary, .row, .way-row [tabindex]')].filter((it) => it.checkVisibility())"
@@ -88,10 +89,16 @@ def check_swipes(page: Deeds) -> None:
     page.until("{} > 150".format(STEP), "a finger moves the slider")
 
 
-def check_touching(kind: type[Deeds], file: str) -> None:
-    """All that, in Chromium."""
-    with opened(kind, file, width=390, height=844) as page:
-        page.call("Emulation.setTouchEmulationEnabled", enabled=True)
-        for part in (check_newcomer, check_sizes, check_swipes, check_lesson):
-            part(page)
-            page.well(part.__name__)
+def by_fingers(page: Deeds) -> None:
+    """Fingers point there."""
+    page.call("Emulation.setTouchEmulationEnabled", enabled=True)
+
+
+def swiped(page: Deeds) -> None:
+    """So too, with a run of the wrong factorial."""
+    by_fingers(page)
+    check_newcomer(page)
+
+
+TRIED = (rows(check_newcomer, check_sizes, check_lesson, before=by_fingers, where=CHROMIUM, width=390, height=844)
+         + rows(check_swipes, before=swiped, where=CHROMIUM, width=390, height=844))

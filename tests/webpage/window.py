@@ -2,8 +2,9 @@
 import json
 import os
 
-from pages import FACTORIAL, KEPT, TOP, Deeds, check, opened
-from staying import LIT
+from webpage.pages import KEPT, TOP, Deeds, check, opened
+from webpage.rows import opening, rows
+from webpage.staying import LIT
 
 # Whether the first lit byte of a kind is seen within the editor.
 IN_EDITOR = """((name) => {{
@@ -209,11 +210,5 @@ def check_timeline(page: Deeds) -> None:
     check(high > 0.9, "so much of it is filled: {:.2f}".format(high))
 
 
-def check_window(kind: type[Deeds], file: str) -> None:
-    """All that: at 1280 by 900, and at other sizes."""
-    with opened(kind, file, width=1280, height=900) as page:
-        for part in (check_scrolls, check_output, check_help, check_doubts, check_timeline):
-            part(page)
-            page.well(part.__name__)
-    check_lesson(kind, file)
-    check_sizes(kind, file)
+TRIED = (rows(check_scrolls, check_output, check_help, check_doubts, check_timeline, width=1280, height=900)
+         + opening(check_lesson, check_sizes))

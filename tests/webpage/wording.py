@@ -4,7 +4,8 @@ import json
 import os
 import tempfile
 
-from pages import FACTORIAL, IS_GATHERED, Deeds, check, opened
+from webpage.pages import FACTORIAL, IS_GATHERED, Deeds, check
+from webpage.rows import rows
 
 # How far a character of the list of calls goes, and the commas with the blanks after them.
 BLANKS = """(() => {
@@ -141,9 +142,4 @@ def check_lights(page: Deeds) -> None:
     check(page.script("document.querySelectorAll('.light.read').length") == 0, "after an edit nothing is lit")
 
 
-def check_wording(kind: type[Deeds], file: str) -> None:
-    """All that."""
-    with opened(kind, file) as page:
-        for part in (check_blanks, check_messages, check_marked, check_counting, check_line_ends, check_lights):
-            part(page)
-            page.well(part.__name__)
+TRIED = rows(check_blanks, check_messages, check_marked, check_counting, check_line_ends, check_lights)

@@ -1,4 +1,4 @@
-//! The command line of `trac-lint`, carried out.
+//! The command line of `trac lint`, carried out.
 
 use crate::{MIB, not_understood};
 use std::alloc::{AllocError, Global};
@@ -128,10 +128,10 @@ fn file_at<'a>(
 fn told(rt: &HostRuntime, path: &str, why: &str) -> u8 {
     match named(rt.alloc(), path) {
         Ok(name) => {
-            let _ = eprint!(rt; "trac-lint: {name}: {why}\n");
+            let _ = eprint!(rt; "trac lint: {name}: {why}\n");
         }
         Err(AllocError) => {
-            let _ = eprint!(rt; "trac-lint: {NO_MEMORY}\n");
+            let _ = eprint!(rt; "trac lint: {NO_MEMORY}\n");
         }
     }
     FAILED
@@ -139,7 +139,7 @@ fn told(rt: &HostRuntime, path: &str, why: &str) -> u8 {
 
 // Says why nothing is looked through.
 fn failed(rt: &HostRuntime, why: &str) -> ExitCode {
-    let _ = eprint!(rt; "trac-lint: {why}\n");
+    let _ = eprint!(rt; "trac lint: {why}\n");
     ExitCode::from(FAILED)
 }
 
@@ -154,14 +154,14 @@ fn tell_halt(rt: &HostRuntime, path: &str, found: Found, steps: u64) {
         Halt::Spent => {
             let unit = unit_of(steps);
             let _ = eprint!(rt;
-                "trac-lint: {name}: stopped after {steps} {unit}; --steps allows more\n"
+                "trac lint: {name}: stopped after {steps} {unit}; --steps allows more\n"
             );
             return;
         }
         Halt::Limit(steps) => {
             let unit = unit_of(steps);
             let _ = eprint!(rt;
-                "trac-lint: {name}: stopped after {steps} {unit}, where a limit is passed: \
+                "trac lint: {name}: stopped after {steps} {unit}, where a limit is passed: \
                 too much text, or too many arguments, forms or blocks\n"
             );
             return;

@@ -1,5 +1,5 @@
-//! The program `trac-walk`: a debugger of TRAC T-64 for a person at a terminal. With the first word --lint it is
-//! `trac-lint`, which looks for doubts.
+//! The program of `trac walk`: a debugger of TRAC T-64 for a person at a terminal. With the first word --lint it is
+//! that of `trac lint`, which looks for doubts.
 #![tactic(auto)]
 
 mod linting;
@@ -25,7 +25,7 @@ pub(crate) const MIB: u64 = 1 << 20;
 /// The status of a command line that is not understood.
 const NOT_UNDERSTOOD: u8 = 2;
 
-/// The first word that asks for doubts. The launcher `trac-lint` writes it.
+/// The first word that asks for doubts. The launcher `trac` writes it for `trac lint`.
 const LINT: &str = "--lint";
 
 fn main(rt: HostRuntime) -> ExitCode {
@@ -119,6 +119,6 @@ fn unread(rt: &HostRuntime, path: &str) -> Ending {
     let Ok(name) = names::named(rt.alloc(), path) else {
         return Ending::Memory;
     };
-    let _ = eprint!(rt; "trac-walk: {name} cannot be read\n");
+    let _ = eprint!(rt; "trac walk: {name} cannot be read\n");
     Ending::Read
 }

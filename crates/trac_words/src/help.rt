@@ -11,10 +11,10 @@ pub const USE: &str = "\
 Examples:
   trac run < FILE                   runs the program in FILE
   printf \"#(ps,Hello)'\" | trac run  runs a program that another command prints
-  trac-walk FILE                    the debugger for a terminal, a program of its own
-  trac-page FILE > run.html         makes a page that plays a run, a program of its own too
+  trac walk FILE                    the debugger for a terminal
+  trac page FILE > run.html         makes a page that plays a run
   trac debug FILE                   the debugger for scripts
-  trac help run, trac help debug    say more; so do trac-walk --help and trac-page --help
+  trac help run, trac help debug    say more; so do trac walk --help and trac page --help
 
 Exit status:
   0    the program or the commands have ended, or help or the version is shown
@@ -46,7 +46,7 @@ Exit status: 0 at the end; 2 the command line is not understood; 3 the budget of
 
 /// What stands at the end of the help of `trac debug`.
 pub const DEBUG_USE: &str = "\
-This debugger is made for scripts; trac-walk FILE is the one for a terminal.
+This debugger is made for scripts; trac walk FILE is the one for a terminal.
 
 FILE holds the program, and after it all that the program reads. Commands are read from standard
 input, one a line:
@@ -66,40 +66,39 @@ Exit status: 0 at the end; 2 the command line is not understood; 3 more than 104
 written; 8 a command is not understood; 70 ./trac of a checkout has no program to run;
 130 Ctrl-C was typed.";
 
-/// How `trac-walk` is used, in one line.
-pub const WALK_USAGE: &str = "trac-walk [OPTIONS] <FILE>";
+/// How `trac walk` is used, in one line.
+pub const WALK_USAGE: &str = "trac walk [OPTIONS] <FILE>";
 
-/// What stands at the end of the help of `trac-walk`.
+/// What stands at the end of the help of `trac walk`.
 pub const WALK_USE: &str = "\
 FILE holds the program, and after it what the program reads; more can be typed in the walk.
 Commands are read from standard input, one a line, and each gets its reply at once: h lists them,
 and q, or Ctrl-D, ends.
 
 Exit status: 0 at the end; 2 the command line is not understood; 4 FILE is too long; 5 no memory;
-6 FILE or the commands cannot be read; 7 the output cannot be written; 70 ./trac-walk of a checkout
-has no program to run; 130 Ctrl-C was typed.";
+6 FILE or the commands cannot be read; 7 the output cannot be written; 70 ./trac of a checkout has
+no program to run; 130 Ctrl-C was typed.";
 
-/// How `trac-lint` is used, in one line.
-pub const LINT_USAGE: &str = "trac-lint [OPTIONS] <FILE>...";
+/// How `trac lint` is used, in one line.
+pub const LINT_USAGE: &str = "trac lint [OPTIONS] <FILE>...";
 
-/// What stands at the end of the help of `trac-lint`.
+/// What stands at the end of the help of `trac lint`.
 pub const LINT_USE: &str = "\
 What a program prints is thrown away. Each doubt is told once for each place, as
   FILE:3:5: no primitive is named pr (step 124)
-which is line 3, column 5; trac-walk FILE shows that step by g 124.
+which is line 3, column 5; trac walk FILE shows that step by g 124.
 
 Exit status: 0 no doubt; 1 some doubts; 2 the command line is not understood, a file cannot be read
-or is too long, no memory, or the output cannot be written; 70 ./trac-lint of a checkout has no
+or is too long, no memory, or the output cannot be written; 70 ./trac of a checkout has no
 program to run; 130 Ctrl-C was typed. If a program is stopped before its end, standard error says so.";
 
 /// The tip for a word that `trac` or `trac run` does not understand: a file is often named there.
 pub const RUN_TIP: &str = "to run the program in FILE, put < before its name: trac run < FILE";
 
 /// The tips for words that stand where a subcommand should, and are none.
-pub const WALK_TIP: &str = "the debugger for a terminal is a program of its own: trac-walk FILE";
+pub const WALK_TIP: &str = "to walk through the program in FILE at a terminal: trac walk FILE";
 
-pub const PAGE_TIP: &str =
-    "the page that plays a run is made by a program of its own: trac-page FILE > run.html";
+pub const PAGE_TIP: &str = "to make a page that runs the program in FILE: trac page FILE > run.html";
 
 pub const VERSION_TIP: &str = "the version is shown by: trac --version";
 
@@ -122,5 +121,5 @@ pub const NOT_TEXT: &str = "\
 error: invalid UTF-8 was detected in one or more arguments
 
   tip: have the shell open such a file: trac run < FILE, trac debug /dev/fd/3 3< FILE,
-       trac-walk /dev/fd/3 3< FILE, or trac-lint /dev/fd/3 3< FILE
+       trac walk /dev/fd/3 3< FILE, or trac lint /dev/fd/3 3< FILE
 ";

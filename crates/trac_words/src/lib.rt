@@ -1,4 +1,4 @@
-//! The command lines of `trac`, `trac-walk` and `trac-lint`: what their words ask for. All of it is
+//! The command lines of `trac run`, `trac debug`, `trac walk` and `trac lint`: what their words ask for. All of it is
 //! this project's profile.
 #![tactic(auto)]
 

@@ -1,4 +1,4 @@
-//! The command line of `trac-lint`.
+//! The command line of `trac lint`.
 ghost use Rattle.std.specs.Prelude.{IfOk};
 ghost use Rattle.trac_words.specs.Words.{IsLintLine, IsMemory};
 
@@ -15,7 +15,7 @@ use trac_streams::BUDGET_LIMIT;
 /// How many steps a program may take if nothing else is said.
 pub const DEFAULT_STEPS: u64 = 10_000_000;
 
-/// What a command line of `trac-lint` asks for.
+/// What a command line of `trac lint` asks for.
 #[derive(Drop)]
 pub enum LintLine {
     /// To look for doubts in the programs in the files at these paths.
@@ -68,7 +68,7 @@ fn programs_in(
     })
 }
 
-/// Reads a command line of `trac-lint`, the program's name first. The numbers are within their ranges. The error is
+/// Reads a command line of `trac lint`, the program's name first. The numbers are within their ranges. The error is
 /// that memory was refused.
 pub fn read_lint_line(alloc: Global, words: &[&str]) -> Result<LintLine, AllocError>
     ensures { IfOk result IsLintLine }
@@ -117,7 +117,7 @@ pub(crate) fn lint_command<'a>(alloc: Global, widths: Widths<'a>) -> Made<'a> {
 // The command without its arguments.
 fn bare_command<'a>(alloc: Global) -> Command<'a> {
     described(
-        Command::new(alloc, "trac-lint"),
+        Command::new(alloc, "trac"),
         "Runs the TRAC T-64 program in each FILE, and says where it does what is seldom meant",
         LINT_USE,
     )

@@ -154,8 +154,8 @@ fn with_tip(
             return with_subcommand_tip(alloc, word, &text);
         }
         Program::Trac => {}
-        Program::Walk => return with_file_tip(alloc, word, text, "trac-walk"),
-        Program::Lint => return with_file_tip(alloc, word, text, "trac-lint"),
+        Program::Walk => return with_file_tip(alloc, word, text, "trac walk"),
+        Program::Lint => return with_file_tip(alloc, word, text, "trac lint"),
     }
     match words.get(1).copied().unwrap_or("") {
         "run" if !is_option(word) => put_tip(alloc, &paragraphs_of(&text), Place::Last, RUN_TIP),

@@ -1,4 +1,4 @@
-//! The command line of `trac-walk`.
+//! The command line of `trac walk`.
 ghost use Rattle.std.specs.Prelude.{IfOk};
 ghost use Rattle.trac_words.specs.Words.{IsWalkLine};
 
@@ -19,7 +19,7 @@ pub const DEFAULT_KEEP: u64 = 256;
 /// The most that they may be allowed: one TiB.
 pub const KEEP_LIMIT: u64 = 1_048_576;
 
-/// What a command line of `trac-walk` asks for.
+/// What a command line of `trac walk` asks for.
 #[derive(Drop)]
 pub enum WalkLine {
     /// To walk through the program in the file at this path. The budget is the default one, and not used.
@@ -39,7 +39,7 @@ pub enum WalkLine {
     Bad(String),
 }
 
-/// Reads a command line of `trac-walk`, the program's name first. The options are within their ranges. The
+/// Reads a command line of `trac walk`, the program's name first. The options are within their ranges. The
 /// error is that memory was refused.
 pub fn read_walk_line(alloc: Global, words: &[&str]) -> Result<WalkLine, AllocError>
     ensures { IfOk result IsWalkLine }
@@ -79,7 +79,7 @@ pub(crate) fn walk_command<'a>(alloc: Global, widths: Widths<'a>) -> Made<'a> {
 // The command without its arguments.
 fn bare_command<'a>(alloc: Global) -> Command<'a> {
     described(
-        Command::new(alloc, "trac-walk"),
+        Command::new(alloc, "trac"),
         "Walks through the TRAC T-64 program in FILE, forwards and backwards, for a person at a terminal",
         WALK_USE,
     )

@@ -1,57 +1,22 @@
-#!/usr/bin/env python3
-"""The page trac.html in Chromium and Firefox, as far as they are installed: what a newcomer does, by mouse and by keys, and
-programs that are large, endless or hostile; and pages that trac-page makes of it. The first of them alone tries the large
-ones and the course.
+"""The player: what a newcomer does, by mouse and by keys, steps and calls, input, doubts, files, and programs that are large,
+endless or hostile."""
+from __future__ import annotations
 
-    tests/webpage/run [--times] [PAGE]
-
-PAGE is release/trac.html if none is given. With --times, what each part took is told. The last line is `N passed, M failed`. A
-browser that is not there, or the page, is counted as skipped. Screenshots are kept in out/webpage/.
-"""
-import functools
 import glob
 import os
 import random
 import shutil
 import subprocess
-import sys
 import tempfile
-from collections.abc import Callable
 
-sys.dont_write_bytecode = True
-sys.path.insert(0, os.path.dirname(os.path.realpath(__file__)))
-from answers import check_answers  # noqa: E402
-from by_keys import check_by_keys  # noqa: E402
-from course import check_course  # noqa: E402
-from editing import check_editing  # noqa: E402
-from features import check_features  # noqa: E402
-from folding import check_folding  # noqa: E402
-from given import check_given  # noqa: E402
-from keeping import check_keeping  # noqa: E402
-from lacking import check_forbidden, check_lacking  # noqa: E402
-from looks import LOOKS, check_looks  # noqa: E402
-from many import check_many  # noqa: E402
-from memory import check_memory  # noqa: E402
-from minute import check_minute  # noqa: E402
-from pages import FACTORIAL, KEPT, PAGES, TOP, Deeds, check, installed, opened, parts  # noqa: E402
-from programs import check_programs  # noqa: E402
-from reading import check_reading  # noqa: E402
-from share import check_share  # noqa: E402
-from staying import LIT, STAYING  # noqa: E402
-from teaching import PARTS as TEACHING, check_sizes  # noqa: E402
-from touching import check_touching  # noqa: E402
-from window import check_window  # noqa: E402
-from wording import check_wording  # noqa: E402
+from webpage.pages import FACTORIAL, KEPT, TOP, Deeds, check, opened
+from webpage.rows import ONE, opening, rows
+from webpage.staying import LIT
 
-MOST_BYTES = 700_000
 # A form of 16 bytes that is doubled so often.
 DOUBLED = "#(ds,A,0123456789abcdef)'#(ds,D,(#(ds,A,##(cl,A)##(cl,A))))'{}'"
 HOSTILE = ("#(ps,</pre></textarea><script>window.hostile=1</script><img src=x onerror=\"window.hostile=1\">)'"
            "#(ds,<b onclick=window.hostile=1>,<svg onload=window.hostile=1>)'</script><!-- ]]>'")
-
-
-# What is tried of a page, in a browser of a kind.
-Check = Callable[[type[Deeds], str], None]
 
 
 def check_newcomer(kind: type[Deeds], file: str) -> None:
@@ -211,7 +176,6 @@ def check_files(page: Deeds) -> None:
         want = {"bytes.trac": "fffeNUL", "crossed.trac": "aCR\nb", "both.trac": "aCR\nb\n", "letters.trac": "äöü"}[name]
         check(page.text("output") == want, "{}: {}".format(name, ascii(page.text("output"))))
     shutil.rmtree(room)
-    check_dropped(page)
 
 
 def check_dropped(page: Deeds) -> None:
@@ -279,87 +243,11 @@ def check_hostile(page: Deeds) -> None:
     page.go(60)
 
 
-def tried(*checks: Callable[[Deeds], None]) -> Check:
-    """These checks of a page, one after the other."""
-    def does(kind: type[Deeds], file: str) -> None:
-        with opened(kind, file) as page:
-            for one in checks:
-                one(page)
-                page.well(one.__name__)
-    return does
+def factorial(page: Deeds) -> None:
+    """A run of the wrong factorial."""
+    page.type(open(FACTORIAL).read())
+    page.run()
 
 
-# What is tried, the longest first: in each browser; in the first one alone; and in Chromium alone.
-BOTH = {
-    "programs": tried(check_programs),
-    "keys alone": check_by_keys,
-    "links": tried(check_share),
-    "the player": tried(check_states, check_moves, check_input, check_doubts, check_examples, check_files, check_hostile),
-    "teaching": tried(*TEACHING),
-    "what stays": tried(*STAYING),
-    "the window": check_window,
-    "the first minute": check_minute,
-    "wording": check_wording,
-    "keeping": check_keeping,
-    "editing": check_editing,
-    "folding": check_folding,
-    "a newcomer": check_newcomer,
-    "pages of programs": check_given,
-    "without WebAssembly": check_lacking,
-}
-FIRST = {
-    "large programs": tried(check_large),
-    "a policy": check_forbidden,
-    "large windows": check_sizes,
-    "the course": tried(check_course),
-    "answers": tried(check_answers),
-}
-CHROMIUM = {
-    "memory": check_memory,
-    "many calls": check_many,
-    "a screen reader": check_reading,
-    "fingers": check_touching,
-    **{"looks, {}".format(", ".join(looks) or "as they are"): functools.partial(check_looks, looks=looks, checks=checks)
-       for looks, checks in LOOKS},
-}
-
-
-def parts_of(kind: type[Deeds], file: str, is_first: bool) -> list[parts.Part]:
-    """The parts that are tried in a browser of this kind."""
-    all_of_it = {
-        **(FIRST if is_first else {}),
-        **BOTH,
-        **(CHROMIUM if kind is PAGES[0] else {}),
-    }
-    return [parts.Part(name, kind, functools.partial(does, kind, file)) for name, does in all_of_it.items()]
-
-
-def check_file(file: str) -> None:
-    """The page is not too large, and has nothing that later browsers alone have."""
-    check(os.path.getsize(file) <= MOST_BYTES, "the page has {:,} bytes".format(os.path.getsize(file)))
-    with open(file, encoding="utf-8") as page:
-        count = page.read().count("color-scheme: dark;")
-    check(count == 1, "the dark colours stand there {} times".format(count))
-    check_features()
-
-
-def main() -> None:
-    """All checks."""
-    words = [word for word in sys.argv[1:] if word != "--times"]
-    file = os.path.realpath(words[0] if words else os.path.join(TOP, "release", "trac.html"))
-    kinds = installed()
-    if not os.path.exists(file) or not kinds:
-        print("1 skipped, 0 passed, 0 failed")
-        return
-    os.makedirs(KEPT, exist_ok=True)
-    tried_here = [part for kind in kinds for part in parts_of(kind, file, kind is kinds[0])]
-    tried_here.append(parts.Part("the file", kinds[0], functools.partial(check_file, file)))
-    parts.run(tried_here, tells_times=len(words) < len(sys.argv) - 1)
-    passed, failed = parts.totals(tried_here)
-    skipped = len(PAGES) - len(kinds)
-    print(("{} skipped, ".format(skipped) if skipped else "") + "{} passed, {} failed".format(passed, failed))
-    sys.exit(failed != 0)
-
-
-if __name__ == "__main__":
-    main()
+TRIED = (opening(check_newcomer) + rows(check_moves, before=factorial) + rows(check_large, where=ONE, seconds=15)
+         + rows(check_states, check_input, check_doubts, check_examples, check_files, check_dropped, check_hostile))
