@@ -4,10 +4,10 @@ import { NotUnderstood } from "./replies.js";
 
 // The kinds of places, as the module numbers them.
 const KINDS = { output: 0, active: 1, base: 2, argument: 3, form: 4, held: 5 };
-const ENDS = { made: "makes", read: "reads", earlier: "there", unkept: "there" };
+const ENDS = { made: "makes", read: "reads", earlier: "there" };
 
 // A row: its step, what was done, and where; where that is a form, its name follows.
-const ROW = new RegExp("(\\d+) (prints|sets|gives|made|read|earlier|nothing|unkept)"
+const ROW = new RegExp("(\\d+) (prints|sets|gives|made|read|earlier|nothing)"
   + "((?: (?:output|active|base|argument|form|held))?(?: \\d+)*)( |\n)", "y");
 
 // The way of a byte that stands at a place of the state after a step. (A byte of the output is followed from where it was there

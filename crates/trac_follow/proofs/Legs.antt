@@ -2,7 +2,7 @@
 use Rattle.std.proofs.Common.{◌≡◌, ℕ, suc, ◌+◌, ◌-◌, ◌<◌, false, not, List, [], ◌∷◌, ◌++◌, length, take, refl, sym, ap, ap₂, subst, ◌∙◌, arith, Some, append-nil, append_assoc, length-append}
 use Rattle.std.proofs.lemmas.Bool.{cond-true, cond-false, false_from_ne_true, true≢false}
 use Rattle.trac_rules.specs.Effect.{argument}
-use Rattle.trac_rules.specs.Scanning.{Call, Calls, scan}
+use Rattle.trac_rules.specs.Scanning.{scan}
 use Rattle.trac_rules.specs.Session.{PlainSession, Back, over, repeated}
 use Rattle.trac_rules.specs.State.{Environment, State}
 use Rattle.trac_origins.specs.Following.{Followed, followed, going_back}
@@ -10,13 +10,11 @@ use Rattle.trac_origins.specs.Places.{Place, InHeld, InForm, Origin, Carried, Re
 use Rattle.trac_origins.specs.Stepping.{origin}
 use Rattle.trac_follow.specs.declared.history.Followed.{Followed as Found}
 use Rattle.trac_follow.specs.declared.history.Source as code
-use Rattle.trac_follow.specs.declared.tracing.End as ends
-use Rattle.trac_follow.specs.declared.tracing.Onward as onwards
+use Rattle.trac_follow_step.specs.declared.place.Place as code_place
 use Rattle.trac_follow.specs.Following.{IsFollowed, IsOrigin, IsSource, quiet_steps}
-use Rattle.trac_follow.specs.Kept.{IsLong}
 use Rattle.trac_follow.specs.Passing.{IsUnpassed, Passing, UnpassedBy, passed_by, passings}
 use Rattle.trac_follow_step.specs.Places.{IsPassed, is_in_storage, is_passed, place_of}
-use Rattle.trac_follow.specs.Tracing.{EndsAs, LeadsTo, LeadsToLong, ToldAll, WasPassed, source_of, told_steps}
+use Rattle.trac_follow.specs.Tracing.{LeadsTo, ToldAll, WasPassed, end_of, told_steps}
 use Rattle.trac_follow.proofs.StepsBack.{followed_on, last_of_all, went_so}
 
 -- ---- steps that pass nothing on
@@ -91,46 +89,29 @@ taken_out s (InHeld number other k) name i aside = refl
 taken_out s here name i aside = ap not aside
 
 -- the last of so many steps passed on what it had from this place, from where it is followed further
-pub record HadFrom (cur next : PlainSession) (here : Place) (steps : ℕ) (s : State) (from : onwards.Onward) (q : Place) : Type 0 where
-  pub leads : LeadsTo s from q
+pub record HadFrom (cur next : PlainSession) (here : Place) (steps : ℕ) (q : Place) : Type 0 where
   pub origin : IsOrigin cur here steps steps (Carried q)
-  pub long : LeadsToLong s from → IsLong q
   pub passed : WasPassed cur here steps next q
 
-module _ (cur next : PlainSession) (here : Place) (most steps : ℕ) (s : State) (is : s ≡ next.last) where
-  -- there is such a place, and no other
-  pub had_somewhere : (from : onwards.Onward) → IsSource cur here most next steps (source_of from) →
-      (q : Place) × HadFrom cur next here steps s from q × ((p : Place) → LeadsTo s from p → p ≡ q)
-  had_somewhere (onwards.TheVariants.At p) told = (
-    place_of p,
-    record { leads = refl; origin = told.0; long = λ long. long; passed = (told.1.0, (told.1.1.0, told.1.1.1, told.1.1.2, told.1.1.3)) },
-    λ q leads. leads,
-  )
-  had_somewhere (onwards.TheVariants.OfForm i) told =
-      let call : Call = told.0.0 in
-      let asked : scan s ≡ Calls call = ap scan is ∙ told.0.1 in (
-        InForm (argument 1 call.arguments) i,
-        record {
-          leads = λ other asked_too.
-              let both : Calls call ≡ Calls other = sym asked ∙ asked_too in
-              let same : call ≡ other = cc in
-              ap (λ (c : Call). InForm (argument 1 c.arguments) i) same;
-          origin = told.0.2;
-          long = λ long. long call asked;
-          passed = (told.1.0, (told.1.1.0, told.1.1.1, told.1.1.2, taken_out next.last told.1.1.0 (argument 1 call.arguments) i told.1.1.3));
-        },
-        λ q leads. leads call asked,
-      )
+module _ (cur next : PlainSession) (here : Place) (most steps : ℕ) where
+  pub had_there : (p : code_place.Place) → IsSource cur here most next steps (code.TheVariants.Passed p) → HadFrom cur next here steps (place_of p)
+  had_there p told = record { origin = told.0; passed = (told.1.0, (told.1.1.0, told.1.1.1, told.1.1.2, told.1.1.3)) }
 
-  pub had_from : (from : onwards.Onward) (q : Place) → IsSource cur here most next steps (source_of from) → LeadsTo s from q → HadFrom cur next here steps s from q
-  had_from from q told leads =
-      let had = had_somewhere from told in
-      subst (λ p. HadFrom cur next here steps s from p) (sym (had.2 q leads)) had.1
+  pub had_of_form : (i : ℕ) (told : IsSource cur here most next steps (code.TheVariants.OfForm i)) → HadFrom cur next here steps (InForm (argument 1 told.0.0.arguments) i)
+  had_of_form i told = record {
+    origin = told.0.2;
+    passed = (told.1.0, (told.1.1.0, told.1.1.1, told.1.1.2, taken_out next.last told.1.1.0 (argument 1 told.0.0.arguments) i told.1.1.3));
+  }
+
+  pub had_from : (s : State) → s ≡ next.last → (source : code.Source) (q : Place) → IsSource cur here most next steps source → LeadsTo s source q → HadFrom cur next here steps q
+  had_from s is (code.TheVariants.Passed p) q told leads = subst (HadFrom cur next here steps) (sym leads) (had_there p told)
+  had_from s is (code.TheVariants.OfForm i) q told leads = subst (HadFrom cur next here steps) (sym (leads told.0.0 (ap scan is ∙ told.0.1))) (had_of_form i told)
+  had_from s is other q told leads = absurd leads
 
 -- no step before the last one passed it on
-quiet_before : (steps : ℕ) (from : onwards.Onward) → quiet_steps steps (source_of from) ≡ steps - 1
-quiet_before steps (onwards.TheVariants.At p) = refl
-quiet_before steps (onwards.TheVariants.OfForm i) = refl
+quiet_before : (steps : ℕ) (s : State) (source : code.Source) (q : Place) → LeadsTo s source q → quiet_steps steps source ≡ steps - 1
+quiet_before steps s (code.TheVariants.Here p) q leads = absurd leads
+quiet_before steps s other q leads = refl
 
 -- ---- the calls of a leg
 
@@ -149,17 +130,17 @@ module _ (cur next : PlainSession) (here : Place) (most : ℕ) (found : Found) (
       omega (arith, all, is, length-append (take before cur.earlier) (next.last ∷ []))
 
   -- one call, from where the byte is followed further
-  pub call_of_leg : (s : State) (from : onwards.Onward) (q : Place) → s ≡ next.last → found.source ≡ source_of from → LeadsTo s from q → (k : ℕ) (post : List State) →
+  pub call_of_leg : (s : State) (q : Place) → s ≡ next.last → LeadsTo s found.source q → (k : ℕ) (post : List State) →
       passings environment (take found.steps cur.earlier ++ post) k here here
       ≡ record { state = next.last; steps = k + found.steps; from = here } ∷ passings environment post (k + found.steps) q q
-  call_of_leg s from q is source leads k post =
-      let had = had_from cur next here most found.steps s is from q (subst (λ source. IsSource cur here most next found.steps source) source leg.source) leads in
+  call_of_leg s q is leads k post =
+      let had = had_from cur next here most found.steps s is found.source q leg.source leads in
       let before : ℕ = had.passed.0 in
       let there : Place = had.passed.1.0 in
       let last : found.steps ≡ suc before = omega (arith, had.passed.1.1) in
       let pre = take before cur.earlier in
       let steps : k + length pre + 1 ≡ k + found.steps = omega (arith, last, count before last) in
-      let unpassed : quiet_steps found.steps found.source ≡ before = ap (quiet_steps found.steps) source ∙ quiet_before found.steps from ∙ omega (arith, last) in
+      let unpassed : quiet_steps found.steps found.source ≡ before = quiet_before found.steps s found.source q leads ∙ omega (arith, last) in
       ap (λ (states : List State). passings environment (states ++ post) k here here) (split before last)
       ∙ ap (λ (states : List State). passings environment states k here here) (append_assoc pre (next.last ∷ []) post)
       ∙ one_call environment pre post next.last k here here there q (ap (λ (f : Followed). f.origin) had.passed.1.2)
@@ -182,36 +163,34 @@ module _ (cur next : PlainSession) (here : Place) (most : ℕ) (found : Found) (
       ap (λ (states : List State). passings environment states k here here) (sym (append-nil (take n cur.earlier)))
       ∙ quiet environment (take n cur.earlier) [] k here here q (ap (λ (f : Followed). f.origin) told) unpassed
 
-  -- none where it is followed no further
-  pub no_call_of_leg : (end : ends.End) → EndsAs found.source end → (k : ℕ) → passings environment (take (told_steps found.steps end) cur.earlier) k here here ≡ []
-  no_call_of_leg end ends_as k = go found.source ends_as leg.source leg.unpassed
-    where
-      said : (x : ends.End) → end ≡ x → passings environment (take (told_steps found.steps x) cur.earlier) k here here ≡ [] → passings environment (take (told_steps found.steps end) cur.earlier) k here here ≡ []
-      said x e h = ap (λ y. passings environment (take (told_steps found.steps y) cur.earlier) k here here) e ∙ h
+  -- none before a step that has it from elsewhere
+  none_before : (before k : ℕ) (q : Place) → found.steps ≡ before + 1 → IsOrigin cur here before before (Carried q) → IsUnpassed environment (take (found.steps - 1) cur.earlier) here →
+      passings environment (take (found.steps - 1) cur.earlier) k here here ≡ []
+  none_before before k q more told = none_over (found.steps - 1) k q (subst (λ n. IsOrigin cur here n n (Carried q)) (omega (arith, more)) told)
 
-      go : (source : code.Source) → EndsAs source end → IsSource cur here most next found.steps source → IsUnpassed environment (take (quiet_steps found.steps source) cur.earlier) here →
-          passings environment (take (told_steps found.steps end) cur.earlier) k here here ≡ []
-      go code.TheVariants.Nothing e told unpassed = said ends.TheVariants.Nothing e (ap (λ n. passings environment (take n cur.earlier) k here here) told.0)
-      go (code.TheVariants.Here q) e told unpassed = said ends.TheVariants.Earlier e (none_over found.steps k (place_of q) told.0 unpassed)
-      go (code.TheVariants.Read n) e told unpassed = said (ends.TheVariants.Read n) e (from_there k (Read n) told.0 told.1 unpassed)
-      go code.TheVariants.Made e told unpassed = said ends.TheVariants.Made e (from_there k Made told.0 told.1 unpassed)
-      go code.TheVariants.Memory e told unpassed = said ends.TheVariants.Memory e (none_over (found.steps - 1) k told.1.0 told.1.1 unpassed)
-      go other e told unpassed = absurd e
+  -- none where it is followed no further
+  pub no_call_of_leg : (k : ℕ) → passings environment (take (told_steps found.steps (end_of found.source)) cur.earlier) k here here ≡ []
+  no_call_of_leg k = go found.source leg.source leg.unpassed
+    where
+      go : (source : code.Source) → IsSource cur here most next found.steps source → IsUnpassed environment (take (quiet_steps found.steps source) cur.earlier) here →
+          passings environment (take (told_steps found.steps (end_of source)) cur.earlier) k here here ≡ []
+      go code.TheVariants.Nothing told unpassed = ap (λ n. passings environment (take n cur.earlier) k here here) told.0
+      go (code.TheVariants.Here q) told unpassed = none_over found.steps k (place_of q) told.0 unpassed
+      go (code.TheVariants.Passed q) told unpassed = none_before told.1.0 k told.1.1.0 told.1.1.1 told.1.1.2 unpassed
+      go (code.TheVariants.OfForm i) told unpassed = none_before told.1.0 k told.1.1.0 told.1.1.1 told.1.1.2 unpassed
+      go (code.TheVariants.Read n) told unpassed = from_there k (Read n) told.0 told.1 unpassed
+      go code.TheVariants.Made told unpassed = from_there k Made told.0 told.1 unpassed
+      go code.TheVariants.Memory told unpassed = none_over (found.steps - 1) k told.1.0 told.1.1 unpassed
 
   -- over how many steps it is told of calls, after some more
-  pub told_further : (steps : ℕ) (end : ends.End) → EndsAs found.source end → told_steps (steps + found.steps) end ≡ steps + told_steps found.steps end
-  told_further steps end ends_as = go found.source ends_as leg.source
+  pub told_further : (steps : ℕ) → told_steps (steps + found.steps) (end_of found.source) ≡ steps + told_steps found.steps (end_of found.source)
+  told_further steps = go found.source leg.source
     where
-      said : (x : ends.End) → end ≡ x → told_steps (steps + found.steps) x ≡ steps + told_steps found.steps x → told_steps (steps + found.steps) end ≡ steps + told_steps found.steps end
-      said x e h = subst (λ y. told_steps (steps + found.steps) y ≡ steps + told_steps found.steps y) (sym e) h
-
-      go : (source : code.Source) → EndsAs source end → IsSource cur here most next found.steps source → told_steps (steps + found.steps) end ≡ steps + told_steps found.steps end
-      go code.TheVariants.Nothing e told = said ends.TheVariants.Nothing e refl
-      go (code.TheVariants.Here q) e told = said ends.TheVariants.Earlier e refl
-      go (code.TheVariants.Read n) e told = said (ends.TheVariants.Read n) e refl
-      go code.TheVariants.Made e told = said ends.TheVariants.Made e refl
-      go code.TheVariants.Memory e told = said ends.TheVariants.Memory e (omega (arith, told.0))
-      go other e told = absurd e
+      go : (source : code.Source) → IsSource cur here most next found.steps source → told_steps (steps + found.steps) (end_of source) ≡ steps + told_steps found.steps (end_of source)
+      go (code.TheVariants.Passed q) told = omega (arith, told.1.1.1)
+      go (code.TheVariants.OfForm i) told = omega (arith, told.1.1.1)
+      go code.TheVariants.Memory told = omega (arith, told.0)
+      go other told = refl
 
 -- ---- a witness
 

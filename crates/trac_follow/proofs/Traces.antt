@@ -1,25 +1,25 @@
 -- A byte that is followed back leg by leg.
-use Rattle.std.proofs.Common.{◌≡◌, ℕ, ◌+◌, ◌-◌, ◌<◌, ◌≤◌, List, [], ◌∷◌, ◌++◌, length, take, refl, sym, ap, ap₂, subst, ◌∙◌, arith, inl, inr, ⊎_elim, Some, append-nil, append_assoc}
+use Rattle.std.proofs.Common.{◌≡◌, ℕ, ◌+◌, ◌-◌, ◌<◌, ◌≤◌, List, [], ◌∷◌, ◌++◌, length, take, refl, sym, ap, ap₂, subst, ◌∙◌, arith, inl, inr, ⊎_elim, Some, true, append-nil, append_assoc}
 use Rattle.trac_rules.specs.declared.width.Width.{Width}
+use Rattle.trac_rules.specs.Effect.{argument}
 use Rattle.trac_rules.specs.Session.{PlainSession, Back, over, repeated}
 use Rattle.trac_rules.specs.State.{State}
 use Rattle.trac_rules.specs.Trails.{AreSteps}
 use Rattle.trac_rules.proofs.TakenAgain.{repeated_trail}
 use Rattle.trac_origins.specs.Accounts.{IsSource as IsOriginOf}
 use Rattle.trac_origins.specs.Following.{Followed, followed, state_back}
-use Rattle.trac_origins.specs.Places.{Place, Origin, Carried, Read, Made, found_at}
+use Rattle.trac_origins.specs.Places.{Place, InForm, Origin, Carried, Read, Made, found_at}
 use Rattle.trac_origins.proofs.Accounted.{followed_back}
 use Rattle.trac_session.proofs.Walked.{repeated-from}
 use Rattle.trac_follow.specs.declared.history.Followed.{Followed as Found}
 use Rattle.trac_follow.specs.declared.history.Source as code
 use Rattle.trac_follow.specs.declared.tracing.End as ends
-use Rattle.trac_follow.specs.declared.tracing.Onward as onwards
 use Rattle.trac_follow.specs.declared.tracing.Traced.{Traced}
 use Rattle.trac_follow.specs.Following.{IsFollowed, IsKnown, IsOrigin, IsSource}
 use Rattle.trac_follow.specs.Passing.{Passing, passings}
-use Rattle.trac_follow_step.specs.Places.{place_of}
-use Rattle.trac_follow.specs.Tracing.{AllCarried, EndsAs, IsEnd, IsTold, IsTraced, LeadsTo, LeadsToLong, ToldAll, source_of, told_steps, way_of}
-use Rattle.trac_follow.proofs.Legs.{HadFrom, call_of_leg, had_from, had_somewhere, no_call_of_leg, told_further, told_more}
+use Rattle.trac_follow_step.specs.Places.{is_in_storage, place_of}
+use Rattle.trac_follow.specs.Tracing.{AllCarried, IsEnd, IsNamed, IsTold, IsTraced, LeadsTo, ToldAll, WasOfForm, end_of, told_steps, way_of}
+use Rattle.trac_follow.proofs.Legs.{HadFrom, call_of_leg, had_from, had_of_form, had_there, no_call_of_leg, told_further, told_more}
 use Rattle.trac_follow.proofs.RunsBack.{last_steps}
 use Rattle.trac_follow.proofs.StepsBack.{WentSo, after_some, all_carried, followed_on, longer, went_so}
 
@@ -75,9 +75,9 @@ module _ (width : Width) (old cur : PlainSession) (place here : Place) (steps le
     pub way_walked : repeated Back (steps + found.steps) old ≡ Some next
     way_walked = repeated-from Back steps found.steps old cur way.walked ∙ h
 
-    -- what was found of the leg
-    found_so : (from : onwards.Onward) → found.source ≡ source_of from → IsKnown width old place → IsSource cur here most next found.steps (source_of from)
-    found_so from source known = subst (λ source. IsSource cur here most next found.steps source) source (leg (known_there known)).source
+    -- the last step of the leg passed it on
+    had : (s : State) (q : Place) → s ≡ next.last → LeadsTo s found.source q → IsKnown width old place → HadFrom cur next here found.steps q
+    had s q is leads known = had_from cur next here most found.steps s is found.source q (leg (known_there known)).source leads
 
     -- the calls on the way after more steps
     longer_way : IsKnown width old place → (n : ℕ) (post : List State) →
@@ -92,62 +92,65 @@ module _ (width : Width) (old cur : PlainSession) (place here : Place) (steps le
         ∙ ap (λ e. way_of old place steps ++ passings e (legs ++ post) steps here here) (sym (ap₂ over went.same_width went.same_tape))
 
     -- they are these
-    pub one_more_call : (s : State) (from : onwards.Onward) (q : Place) → s ≡ next.last → found.source ≡ source_of from → LeadsTo s from q → IsKnown width old place →
+    one_more_call : (s : State) (q : Place) → s ≡ next.last → LeadsTo s found.source q → IsKnown width old place →
         way_of old place (steps + found.steps) ≡ way_of old place steps ++ record { state = s; steps = steps + found.steps; from = here } ∷ []
-    one_more_call s from q is passed leads known =
+    one_more_call s q is leads known =
         ap (λ (states : List State). passings (over old.width old.tape) states 0 place place) (sym (append-nil (take (steps + found.steps) old.earlier)))
         ∙ longer_way known found.steps []
-        ∙ ap (λ (later : List Passing). way_of old place steps ++ later) (call_of_leg cur next here most found h (leg (known_there known)) s from q is passed leads steps [])
+        ∙ ap (λ (later : List Passing). way_of old place steps ++ later) (call_of_leg cur next here most found h (leg (known_there known)) s q is leads steps [])
         ∙ ap (λ (t : State). way_of old place steps ++ record { state = t; steps = steps + found.steps; from = here } ∷ []) (sym is)
 
     -- and no more where it ends
-    pub no_more_calls : (end : ends.End) → EndsAs found.source end → IsKnown width old place → way_of old place (told_steps (steps + found.steps) end) ≡ way_of old place steps
-    no_more_calls end ends_as known =
-        let n : ℕ = told_steps found.steps end in
-        ap (way_of old place) (told_further cur next here most found h (leg (known_there known)) steps end ends_as)
+    no_more_calls : IsKnown width old place → way_of old place (told_steps (steps + found.steps) (end_of found.source)) ≡ way_of old place steps
+    no_more_calls known =
+        let n : ℕ = told_steps found.steps (end_of found.source) in
+        ap (way_of old place) (told_further cur next here most found h (leg (known_there known)) steps)
         ∙ ap (λ (states : List State). passings (over old.width old.tape) states 0 place place) (sym (append-nil (take (steps + n) old.earlier)))
         ∙ longer_way known n []
         ∙ ap (λ (states : List State). way_of old place steps ++ passings (over cur.width cur.tape) states steps here here) (append-nil (take n cur.earlier))
-        ∙ ap (λ (later : List Passing). way_of old place steps ++ later) (no_call_of_leg cur next here most found h (leg (known_there known)) end ends_as steps)
+        ∙ ap (λ (later : List Passing). way_of old place steps ++ later) (no_call_of_leg cur next here most found h (leg (known_there known)) steps)
         ∙ append-nil (way_of old place steps)
 
-    pub way_goes_on : (s : State) (from : onwards.Onward) (q : Place) → s ≡ next.last → found.source ≡ source_of from → LeadsTo s from q → Way width old next place q (steps + found.steps) (legs + 1)
-    way_goes_on s from q is passed leads = record {
+    pub way_goes_on : (s : State) (q : Place) → s ≡ next.last → LeadsTo s found.source q → Way width old next place q (steps + found.steps) (legs + 1)
+    way_goes_on s q is leads = record {
       walked = way_walked;
       known = λ known.
-          let had = had_from cur next here most found.steps s is from q (found_so from passed known) leads in
-          (omega (arith, had.passed.1.1, (way.known known).0), ap (λ (f : Followed). f.origin) (on known found.steps found.steps (Carried q) had.origin));
+          let from = had s q is leads known in
+          (omega (arith, from.passed.1.1, (way.known known).0), ap (λ (f : Followed). f.origin) (on known found.steps found.steps (Carried q) from.origin));
       calls = λ known post.
           longer_way known found.steps post
-          ∙ ap (λ (later : List Passing). way_of old place steps ++ later) (call_of_leg cur next here most found h (leg (known_there known)) s from q is passed leads steps post)
+          ∙ ap (λ (later : List Passing). way_of old place steps ++ later) (call_of_leg cur next here most found h (leg (known_there known)) s q is leads steps post)
           ∙ sym (append_assoc (way_of old place steps) (record { state = next.last; steps = steps + found.steps; from = here } ∷ []) (passings (over cur.width cur.tape) post (steps + found.steps) q q))
           ∙ ap (λ (t : State). (way_of old place steps ++ record { state = t; steps = steps + found.steps; from = here } ∷ []) ++ passings (over cur.width cur.tape) post (steps + found.steps) q q) (sym is)
-          ∙ ap₂ (λ (way : List Passing) e. way ++ passings e post (steps + found.steps) q q) (sym (one_more_call s from q is passed leads known)) (ap₂ over went.same_width went.same_tape);
+          ∙ ap₂ (λ (way : List Passing) e. way ++ passings e post (steps + found.steps) q q) (sym (one_more_call s q is leads known)) (ap₂ over went.same_width went.same_tape);
     }
 
     -- how it may end
-    pub way_ends : (all : ℕ) (end : ends.End) → steps ≤ all → most ≡ all - steps → EndsAs found.source end → IsKnown width old place → IsEnd old place all next (steps + found.steps) end
-    way_ends all end within is ends_as known = go found.source ends_as (leg there).source
+    pub way_ends : (all : ℕ) → steps ≤ all → most ≡ all - steps → IsNamed found.source → IsKnown width old place → IsEnd old place all next (steps + found.steps) (end_of found.source)
+    way_ends all within is named known = go found.source named (leg there).source
       where
         there : IsKnown width cur here
         there = known_there known
 
-        said : (x : ends.End) → end ≡ x → IsEnd old place all next (steps + found.steps) x → IsEnd old place all next (steps + found.steps) end
-        said x e told = subst (λ y. IsEnd old place all next (steps + found.steps) y) (sym e) told
-
         one_less : 0 < found.steps → (o : Origin) → IsOrigin cur here found.steps (found.steps - 1) o → IsOrigin old place (steps + found.steps) (steps + found.steps - 1) o
         one_less some o told = on known found.steps (found.steps - 1) o told ∙ ap (λ k. record { carried = k; origin = o }) (omega (arith, some))
 
-        go : (source : code.Source) → EndsAs source end → IsSource cur here most next found.steps source → IsEnd old place all next (steps + found.steps) end
-        go code.TheVariants.Nothing e told = absurd (told.1 there.2.0 there.2.1)
-        go (code.TheVariants.Here q) e told =
-            said ends.TheVariants.Earlier e (
-              (place_of q, on known found.steps found.steps (Carried (place_of q)) told.0),
-              ⊎_elim (λ (n : found.steps ≡ most). inl (omega (arith, n, is, within))) (λ (none : next.earlier ≡ []). inr none) told.1,
-            )
-        go (code.TheVariants.Read n) e told = said (ends.TheVariants.Read n) e (omega (arith, told.0), one_less told.0 (Read n) told.1)
-        go code.TheVariants.Made e told = said ends.TheVariants.Made e (omega (arith, told.0), one_less told.0 Made told.1)
-        go code.TheVariants.Memory e told = said ends.TheVariants.Memory e (
+        of_form : (q : Place) → is_in_storage q ≡ true → HadFrom cur next here found.steps q → WasOfForm old place (steps + found.steps) next
+        of_form q stored from =
+            let last = from.passed in
+            (q, on known found.steps found.steps (Carried q) from.origin, stored, (steps + last.0, (last.1.0, omega (arith, last.1.1), on known last.0 last.0 (Carried last.1.0) last.1.2, last.1.3)))
+
+        go : (source : code.Source) → IsNamed source → IsSource cur here most next found.steps source → IsEnd old place all next (steps + found.steps) (end_of source)
+        go code.TheVariants.Nothing named told = absurd (told.1 there.2.0 there.2.1)
+        go (code.TheVariants.Here q) named told = (
+          (place_of q, on known found.steps found.steps (Carried (place_of q)) told.0),
+          ⊎_elim (λ (n : found.steps ≡ most). inl (omega (arith, n, is, within))) (λ (none : next.earlier ≡ []). inr none) told.1,
+        )
+        go (code.TheVariants.Passed q) named told = inr (of_form (place_of q) named (had_there cur next here most found.steps q told))
+        go (code.TheVariants.OfForm i) named told = inr (of_form (InForm (argument 1 told.0.0.arguments) i) refl (had_of_form cur next here most found.steps i told))
+        go (code.TheVariants.Read n) named told = (omega (arith, told.0), one_less told.0 (Read n) told.1)
+        go code.TheVariants.Made named told = (omega (arith, told.0), one_less told.0 Made told.1)
+        go code.TheVariants.Memory named told = inl (
           omega (arith, told.0),
           (
             told.1.0,
@@ -155,33 +158,17 @@ module _ (width : Width) (old cur : PlainSession) (place here : Place) (steps le
           ),
           told.2,
         )
-        go other e told = absurd e
 
-    -- where its name cannot be kept, or the witness refuses to be told
-    module _ (s : State) (from : onwards.Onward) (is : s ≡ next.last) (passed : found.source ≡ source_of from) (known : IsKnown width old place) where
-      had : (q : Place) × HadFrom cur next here found.steps s from q × ((p : Place) → LeadsTo s from p → p ≡ q)
-      had = had_somewhere cur next here most found.steps s is from (found_so from passed known)
-
-      all_carried_there : IsOrigin old place (steps + found.steps) (steps + found.steps) (Carried had.0)
-      all_carried_there = on known found.steps found.steps (Carried had.0) had.1.origin
-
-      pub ends_unkept : (all : ℕ) → LeadsToLong s from → IsEnd old place all next (steps + found.steps) ends.TheVariants.Unkept
-      ends_unkept all long =
-          let last = had.1.passed in
-          (had.0, all_carried_there, had.1.long long, (steps + last.0, (last.1.0, omega (arith, last.1.1), on known last.0 last.0 (Carried last.1.0) last.1.2, last.1.3)))
-
+    -- where a call passed it on
+    module _ (s : State) (q : Place) (is : s ≡ next.last) (leads : LeadsTo s found.source q) (known : IsKnown width old place) where
       pub ends_untold : AllCarried old place (steps + found.steps)
-      ends_untold = (had.0, all_carried_there)
-
-      -- the call at the end of the leg
-      one_call_more : way_of old place (steps + found.steps) ≡ way_of old place steps ++ record { state = s; steps = steps + found.steps; from = here } ∷ []
-      one_call_more = one_more_call s from had.0 is passed had.1.leads known
+      ends_untold = (q, on known found.steps found.steps (Carried q) (had s q is leads known).origin)
 
       module _ {W : Type 0} (passes : W → Passing → W → Type 0) (first before after : W) (told : ToldAll passes first (way_of old place steps) before) (there : Place) (same : there ≡ here) where
         -- the witness is told of it
         pub told_of_call : passes before (record { state = s; steps = steps + found.steps; from = there }) after → ToldAll passes first (way_of old place (steps + found.steps)) after
         told_of_call one =
-            subst (λ way. ToldAll passes first way after) (sym one_call_more)
+            subst (λ way. ToldAll passes first way after) (sym (one_more_call s q is leads known))
             (told_more passes (way_of old place steps) (record { state = s; steps = steps + found.steps; from = here }) first before after told
             (subst (λ p. passes before (record { state = s; steps = steps + found.steps; from = p }) after) same one))
 
@@ -192,26 +179,22 @@ module _ (width : Width) (old cur : PlainSession) (place here : Place) (steps le
           way_of old place steps,
           (
             record { state = s; steps = steps + found.steps; from = here },
-            (before, one_call_more, refl, told, subst (λ p. refuses before (record { state = s; steps = steps + found.steps; from = p }) after) same one),
+            (before, one_more_call s q is leads known, refl, told, subst (λ p. refuses before (record { state = s; steps = steps + found.steps; from = p }) after) same one),
           ),
         )
 
-    -- where no call passed it on, it is told of no more
-    pub told_to_the_end : {W : Type 0} (passes refuses : W → Passing → W → Type 0) (first last : W) (end : ends.End) → EndsAs found.source end → IsKnown width old place →
-        ToldAll passes first (way_of old place steps) last → IsTold passes refuses (way_of old place (told_steps (steps + found.steps) end)) (steps + found.steps) end first last
-    told_to_the_end {W} passes refuses first last end ends_as known told =
-        subst (λ way. IsTold passes refuses way (steps + found.steps) end first last) (sym (no_more_calls end ends_as known)) (go found.source ends_as)
+    -- where it is followed no further, it is told of no more
+    pub told_to_the_end : {W : Type 0} (passes refuses : W → Passing → W → Type 0) (first last : W) → IsKnown width old place → ToldAll passes first (way_of old place steps) last →
+        IsTold passes refuses (way_of old place (told_steps (steps + found.steps) (end_of found.source))) (steps + found.steps) (end_of found.source) first last
+    told_to_the_end {W} passes refuses first last known told =
+        subst (λ way. IsTold passes refuses way (steps + found.steps) (end_of found.source) first last) (sym (no_more_calls known)) (go found.source)
       where
-        said : (x : ends.End) → end ≡ x → IsTold passes refuses (way_of old place steps) (steps + found.steps) x first last → IsTold passes refuses (way_of old place steps) (steps + found.steps) end first last
-        said x e h = subst (λ y. IsTold passes refuses (way_of old place steps) (steps + found.steps) y first last) (sym e) h
-
-        go : (source : code.Source) → EndsAs source end → IsTold passes refuses (way_of old place steps) (steps + found.steps) end first last
-        go code.TheVariants.Nothing e = said ends.TheVariants.Nothing e told
-        go (code.TheVariants.Here q) e = said ends.TheVariants.Earlier e told
-        go (code.TheVariants.Read n) e = said (ends.TheVariants.Read n) e told
-        go code.TheVariants.Made e = said ends.TheVariants.Made e told
-        go code.TheVariants.Memory e = said ends.TheVariants.Memory e told
-        go other e = absurd e
+        go : (source : code.Source) → IsTold passes refuses (way_of old place steps) (steps + found.steps) (end_of source) first last
+        go code.TheVariants.Nothing = told
+        go (code.TheVariants.Here q) = told
+        go (code.TheVariants.Read n) = told
+        go code.TheVariants.Made = told
+        go other = told
 
 -- what was found, in a record
 pub traced_so : (width : Width) (old new : PlainSession) (place : Place) (most steps : ℕ) (end : ends.End) (found : Traced) → found.steps ≡ steps → found.end ≡ end → IsKnown width old place →

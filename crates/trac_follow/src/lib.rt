@@ -3,10 +3,9 @@
 #![tactic(auto)]
 
 pub mod history;
-pub mod kept;
+mod kept;
 pub mod tracing;
 
 pub use history::{Followed, Source, follow};
-pub use kept::{Nameless, parts, with_name};
 pub use trac_follow_step::{After, Origin, Place, origin_of};
 pub use tracing::{End, Traced, Witness, trace};

@@ -1,18 +1,16 @@
 //! Following a byte back to where it comes from, past each call that passed it on. A call passes a byte on if it takes
 //! it from one of its arguments to another place. So it does from a block to a form, and from a form to its value, the
 //! output or a block.
-ghost use Rattle.std.specs.Prelude.{◌≡◌, ◌≤◌, [], ⊤, IfErr, IfNone, IfOk, IfSome, MatchOption, OnErr, OnOk, Some};
+ghost use Rattle.std.specs.Prelude.{◌≡◌, ◌≤◌, ⊤, IfErr, IfOk, OnErr, OnOk, Some};
 ghost use Rattle.trac_follow.specs.Following.{IsFollowed, IsKnown};
-ghost use Rattle.trac_follow.specs.Kept.{IsFormless, named};
+ghost use Rattle.trac_follow.specs.Kept.{kept_place};
 ghost use Rattle.trac_follow.specs.Passing.{Passing};
 ghost use Rattle.trac_follow_step.specs.Places.{place_of};
-ghost use Rattle.trac_follow.specs.Tracing.{EndsAs, IsOfStorage, IsTold, IsTraced, LeadsTo, LeadsToLong, source_of};
-ghost use Rattle.trac_follow.specs.Tracing.{told_steps, way_of};
+ghost use Rattle.trac_follow.specs.Tracing.{IsNamed, IsTold, IsTraced, LeadsTo, end_of, told_steps, way_of};
 ghost use Rattle.trac_rules.specs.Session.{Back, repeated};
-ghost use Rattle.trac_rules.specs.State.{State};
 
 use crate::history::{Followed, Source, follow_from};
-use crate::kept::{KeptPlace, Nameless, formless};
+use crate::kept::KeptPlace;
 use std::alloc::{AllocError, Allocator};
 use trac_follow_step::{Place, stands};
 use trac_rules::width::Width;
@@ -59,14 +57,11 @@ pub enum End {
     Read(usize),
     /// The step that comes next made it.
     Made,
-    /// The call that comes next passed it on, and the witness was told of that. But the call took it from a form whose
-    /// name has more than 256 bytes, and the trace could not keep that name. Either the name has the most owners that
-    /// can be counted, or the form is in a block and the store lacks its name.
-    Unkept,
     /// The call that comes next passed it on, and the witness refused to be told of that.
     Untold,
-    /// The step that comes next performs a call of `ln`, and memory was refused to tell where the byte comes from. The
-    /// witness was not told of that call.
+    /// Memory was refused. The step that comes next performs a call of `ln`, and it cannot be told where the byte comes
+    /// from; or a call that passed the byte on from a form, whose name the trace cannot keep. The witness was not told
+    /// of that call.
     Memory,
 }
 
@@ -85,14 +80,13 @@ pub struct Traced {
 ///
 /// The witness is told of just the calls that passed the byte on. If it refuses, the trace ends.
 ///
-/// The trace takes no memory but what the witness takes, and a list of all names if the byte may be of the value of
-/// `ln`. If that is refused, it ends as `End::Memory`.
-///
-/// If a call took the byte from a form, of the store or of a block, the trace keeps the form's name. It copies a name
-/// of up to 256 bytes, and shares a longer one with the store. If it cannot, it ends as `End::Unkept`.
+/// The trace takes no memory but what the witness takes, and this. If a call took the byte from a form, of the store or
+/// of a block, the trace keeps a copy of the form's name up to the next such call. If the byte may be of the value of
+/// `ln`, it takes a list of all names for a while. If any of that is refused, it ends as `End::Memory`.
 ///
 /// `End::Nothing` is answered only if nothing stands at the place.
 pub fn trace<A: Allocator + Copy, W: Witness<A>>(
+    alloc: A,
     session: &mut Session<A>,
     place: Place<'_>,
     most: u64,
@@ -110,27 +104,20 @@ pub fn trace<A: Allocator + Copy, W: Witness<A>>(
     }
     // It is the same on all legs, and asked once.
     let width = session.width();
-    let mut here = KeptPlace::lent(place);
+    let mut here = KeptPlace::Lent(place);
     let mut steps = 0;
     // A leg that ends at a call has gone back over one step at least: so `most` legs are enough.
     for _leg in 0..most {
         let leg = follow_leg(session, width, &here, most - steps);
         steps += leg.steps;
-        let onward = match onward_of(leg.source) {
-            Ok(onward) => onward,
+        let machine = session.machine();
+        // It is kept before the witness is told: so no call is told if there is no memory.
+        let there = match onward_of(alloc, machine, leg.source) {
+            Ok(there) => there,
             Err(end) => return ended(steps, end),
         };
-        let Ok(()) = witness.passed(session.machine(), steps, here.place()) else {
+        let Ok(()) = witness.passed(machine, steps, here.place()) else {
             return ended(steps, End::Untold);
-        };
-        // Most places are in no form, and need no name. Then only the spot changes: to write over the 256 bytes that
-        // `here` has for a name would take more time than the usual leg.
-        if let Some(spot) = formless_spot(onward) {
-            here.go_to(spot);
-            continue;
-        }
-        let Some(there) = kept_place(session.machine(), onward) else {
-            return ended(steps, End::Unkept);
         };
         here = there;
     }
@@ -147,7 +134,8 @@ fn follow_leg<'a, A: Allocator + Copy>(
 ) -> Followed<'a>
     ensures back { repeated Back result.steps session.old ≡ Some session.new }
     ensures most { result.steps ≤ most }
-    ensures followed { IsKnown width session.old place.now → IsFollowed session.old place.now most session.new result }
+    ensures followed { IsKnown width session.old (kept_place place.now) →
+        IsFollowed session.old (kept_place place.now) most session.new result }
 {
     follow_from(session, width, place.place(), most)
 }
@@ -160,57 +148,33 @@ fn ended(steps: u64, end: End) -> Traced
     Traced { steps, end }
 }
 
-// Where a byte stood before the call that comes next passed it on.
-#[derive(Clone, Copy)]
-pub(crate) enum Onward<'a> {
-    // At this place.
-    At(Place<'a>),
-    // It was this item of the form that argument 1 of the call names.
-    OfForm(usize),
-}
-
 // Where the byte stood before a call passed it on, if the leg that found this ended at a call. Else how the trace ends.
-fn onward_of<'a>(source: Source<'a>) -> Result<Onward<'a>, End>
-    ensures on { IfOk result (λ onward. source.entry ≡ source_of onward) }
-    ensures ends { IfErr result (λ end. EndsAs source.entry end) }
-{
-    match source {
-        Source::Passed(there) => Ok(Onward::At(there)),
-        Source::OfForm(item) => Ok(Onward::OfForm(item)),
-        Source::Here(_) => Err(End::Earlier),
-        Source::Read(n) => Err(End::Read(n)),
-        Source::Made => Err(End::Made),
-        Source::Memory => Err(End::Memory),
-        // It is not found on a leg: something stands where each begins.
-        Source::Nothing => Err(End::Nothing),
-    }
-}
-
-// Where a byte stood, if that was in no form and in no form of a block: such a place needs no name.
-fn formless_spot(onward: Onward<'_>) -> Option<Nameless>
-    ensures { MatchOption result (IsOfStorage onward.entry)
-        (λ spot. IsFormless spot × ((s : State) → LeadsTo s onward.entry (named spot []))) }
-{
-    match onward {
-        Onward::At(there) => formless(there),
-        Onward::OfForm(_) => None,
-    }
-}
-
-// Where a byte stood, with the name of its form. `None` if that name has more than 256 bytes and cannot be kept.
-fn kept_place<'n, A: Allocator + Copy>(
+// So it does as well if memory is refused for the name of a form.
+fn onward_of<'n, A: Allocator + Copy>(
+    alloc: A,
     machine: &Machine<A>,
-    onward: Onward<'_>,
-) -> Option<KeptPlace<'n, A>>
-    ensures leads { IfSome result (λ kept. LeadsTo machine.now.state onward.entry kept) }
-    ensures long { IfNone result (LeadsToLong machine.now.state onward.entry) }
+    source: Source<'_>,
+) -> Result<KeptPlace<'n, A>, End>
+    ensures leads { IfOk result (λ there. LeadsTo machine.now.state source.entry (kept_place there)) }
+    ensures ends { IfErr result (λ end. end ≡ end_of source.entry) }
+    ensures named { OnErr result (IsNamed source.entry) }
 {
-    match onward {
-        Onward::At(there) => KeptPlace::of(machine.store(), there),
-        // There is a call next, since it took the item out of the form.
-        Onward::OfForm(item) => {
-            let (_, arguments) = machine.next_call()?;
-            KeptPlace::of(machine.store(), Place::Form(arguments.get(1), item))
-        }
+    let kept = match source {
+        Source::Passed(there) => KeptPlace::of(alloc, there),
+        Source::OfForm(item) => match machine.next_call() {
+            Some((_, arguments)) => KeptPlace::of(alloc, Place::Form(arguments.get(1), item)),
+            // There is a call next, since it took the item out of the form.
+            None => Err(AllocError),
+        },
+        Source::Here(_) => return Err(End::Earlier),
+        Source::Read(n) => return Err(End::Read(n)),
+        Source::Made => return Err(End::Made),
+        Source::Memory => Err(AllocError),
+        // It is not found on a leg: something stands where each begins.
+        Source::Nothing => return Err(End::Nothing),
+    };
+    match kept {
+        Ok(there) => Ok(there),
+        Err(_) => Err(End::Memory),
     }
 }

@@ -1,5 +1,5 @@
 //! Following bytes back: one by a way that was worked out by hand, from call to call and in one trace, and those of an
-//! output with no request for memory but at a call of `ln`.
+//! output with no request for memory but at a call of `ln`. A trace also requests some for the names of forms.
 use std::alloc::{AllocError, Global};
 use std::process::Abort;
 use trac_faults::Refusing;
@@ -191,6 +191,11 @@ struct Told {
     count: usize,
 }
 
+const NONE: Told = Told {
+    steps: [0; 8],
+    count: 0,
+};
+
 impl<'a> Witness<Memory<'a>> for Told {
     fn passed(
         &mut self,
@@ -207,37 +212,27 @@ impl<'a> Witness<Memory<'a>> for Told {
     }
 }
 
-fn traced(session: &mut Session<Memory<'_>>, byte: usize, told: &mut Told) -> Traced {
-    trace(session, Place::Output(byte), u64::MAX, told)
+fn traced<'a>(
+    memory: Memory<'a>,
+    session: &mut Session<Memory<'a>>,
+    byte: usize,
+    told: &mut Told,
+) -> Traced {
+    trace(memory, session, Place::Output(byte), u64::MAX, told)
 }
 
 // A witness that has room for three calls refuses the fourth.
-fn trace_untold(rt: &impl Abort, session: &mut Session<Memory<'_>>) {
-    let mut told = Told {
-        steps: [0; 8],
-        count: 5,
-    };
-    let found = traced(session, 0, &mut told);
+fn trace_untold<'a>(rt: &impl Abort, memory: Memory<'a>, session: &mut Session<Memory<'a>>) {
+    let mut told = Told { count: 5, ..NONE };
+    let found = traced(memory, session, 0, &mut told);
     assert!(rt; found.steps == 27 && matches!(found.end, End::Untold));
     assert!(rt; told.steps == [0, 0, 0, 0, 0, 10, 11, 21]);
 }
 
-// The same way in one trace: the steps of the calls on it are the sums of those above. With no memory it
-// is found, and none is asked for.
-fn trace_without_memory<'a>(
-    rt: &impl Abort,
-    memory: Memory<'a>,
-    session: &mut Session<Memory<'a>>,
-) {
-    let mut told = Told {
-        steps: [0; 8],
-        count: 0,
-    };
-    let requests = memory.requests();
-    memory.refuse_all();
-    let found = traced(session, 0, &mut told);
-    assert!(rt; memory.requests() == requests);
-    memory.accept_all();
+// The same way in one trace: the steps of the calls on it are the sums of those above.
+fn trace_one<'a>(rt: &impl Abort, memory: Memory<'a>, session: &mut Session<Memory<'a>>) {
+    let mut told = NONE;
+    let found = traced(memory, session, 0, &mut told);
     assert!(rt; found.steps == 43 && matches!(found.end, End::Read(7)));
     assert!(rt; told.steps == [10, 11, 21, 27, 35, 0, 0, 0]);
 }
@@ -253,8 +248,29 @@ fn feed_form(session: &mut Session<Memory<'_>>, name: &[u8]) -> Result<(), Refus
     feed(session, b"))'")
 }
 
-// The byte that such a program prints is that of this number of the input, which is found with no
-// memory, and none is asked for.
+// The calls that had the byte from the form or from the block, the latest first.
+const OF_FORMS: &[&[u8]] = &[b"cl", b"fb", b"sb"];
+
+// With the memory for the name of the form refused at one of these, the trace ends before that call. The witness is told
+// of `ps` and of those after the call alone, and the session goes forward again to where it was.
+fn expect_refused<'a>(rt: &impl Abort, memory: Memory<'a>, session: &mut Session<Memory<'a>>) {
+    for (told_before, primitive) in OF_FORMS.iter().enumerate() {
+        let told_before = told_before.saturating_add(1);
+        let mut told = NONE;
+        memory.refuse_nth(told_before as u64);
+        let found = traced(memory, session, 0, &mut told);
+        assert!(rt; matches!(found.end, End::Memory) && told.count == told_before);
+        let Some((_kind, arguments)) = session.machine().next_call() else {
+            assert!(rt; false, "no call is next");
+            return;
+        };
+        assert!(rt; arguments.get(0) == *primitive);
+        assert!(rt; session.forward(found.steps).why.is_none());
+    }
+}
+
+// The byte that such a program prints is that of this number of the input: so it is found after each refusal, with a
+// request for each of the three names.
 fn expect_read<'a>(
     rt: &impl Abort,
     memory: Memory<'a>,
@@ -265,15 +281,12 @@ fn expect_read<'a>(
     feed_form(session, name).expect(rt, "it was refused");
     session.end();
     assert!(rt; go_on(session) == Some(Refusal::Ended));
-    let mut told = Told {
-        steps: [0; 8],
-        count: 0,
-    };
-    let requests = memory.requests();
-    memory.refuse_all();
-    let found = traced(session, 0, &mut told);
-    assert!(rt; memory.requests() == requests);
+    expect_refused(rt, memory, session);
     memory.accept_all();
+    let requests = memory.requests();
+    let mut told = NONE;
+    let found = traced(memory, session, 0, &mut told);
+    assert!(rt; memory.requests().saturating_sub(requests) == 3);
     let read = match found.end {
         End::Read(n) => n,
         _ => 0,
@@ -293,22 +306,18 @@ fn trace_listed<'a>(
     session: &mut Session<Memory<'a>>,
     byte: usize,
 ) -> (Told, Traced) {
-    let none = Told {
-        steps: [0; 8],
-        count: 0,
-    };
     assert!(rt; go_on(session) == Some(Refusal::Ended));
-    let mut told = none;
+    let mut told = NONE;
     let requests = memory.requests();
     memory.refuse_all();
-    let found = traced(session, byte, &mut told);
+    let found = traced(memory, session, byte, &mut told);
     memory.accept_all();
     assert!(rt; memory.requests().saturating_sub(requests) == 1 && lists_names(session));
     assert!(rt; found.steps == 13 && matches!(found.end, End::Memory));
     assert!(rt; told.steps == [10, 0, 0, 0, 0, 0, 0, 0]);
     assert!(rt; session.forward(13).why.is_none());
-    let mut again = none;
-    let found = traced(session, byte, &mut again);
+    let mut again = NONE;
+    let found = traced(memory, session, byte, &mut again);
     (again, found)
 }
 
@@ -341,9 +350,9 @@ fn through_a_form_and_a_block(rt: HostRuntime) {
     let mut session = new_session(&memory).expect(&rt, "it was refused");
     follow_one(&rt, &mut session);
     assert!(&rt; go_on(&mut session) == Some(Refusal::Ended));
-    trace_untold(&rt, &mut session);
+    trace_untold(&rt, &memory, &mut session);
     assert!(&rt; go_on(&mut session) == Some(Refusal::Ended));
-    trace_without_memory(&rt, &memory, &mut session);
+    trace_one(&rt, &memory, &mut session);
     let_go(session);
 }
 
@@ -357,10 +366,10 @@ fn a_list_of_names(rt: HostRuntime) {
 
 // The `x` comes right after `#(ds,`, the name and a comma.
 #[test]
-fn a_name_of_256_bytes(rt: HostRuntime) {
+fn a_short_name(rt: HostRuntime) {
     let memory = Refusing::new(rt.alloc());
     let mut session = new_session(&memory).expect(&rt, "it was refused");
-    expect_read(&rt, &memory, &mut session, &[b'N'; 256], 262);
+    expect_read(&rt, &memory, &mut session, b"N", 7);
     let_go(session);
 }
 

@@ -7,6 +7,7 @@ mod memory;
 mod near;
 mod origins;
 mod scout;
+mod stand;
 mod texts;
 mod track;
 mod ways;

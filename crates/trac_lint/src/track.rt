@@ -1,10 +1,11 @@
 //! The way of one byte back to the byte of the files that it comes from.
 
 use crate::memory::number_of;
+use crate::stand::Stand;
 use crate::texts::{read_number, text_from};
 use crate::ways::{Post, Since, Span, Ways};
 use std::alloc::{AllocError, Allocator};
-use trac_follow::{Nameless, Place, Source, follow, parts, with_name};
+use trac_follow::{Place, Source, follow};
 use trac_moves::{Walker, place_of};
 use trac_places::Sources;
 use trac_rules::doubt::Doubt;
@@ -27,7 +28,7 @@ pub(crate) enum Next {
 #[derive(Drop)]
 pub(crate) struct Track<A: Allocator + Copy> {
     alloc: A,
-    stand: Nameless,
+    stand: Stand,
     // the form in which it stands, or stood last, and how many items that has
     name: Vec<u8, A>,
     name_number: u64,
@@ -43,7 +44,7 @@ impl<A: Allocator + Copy> Track<A> {
     pub(crate) fn new(alloc: A, walker: &Walker<A>, place: Place<'_>) -> Self {
         Track {
             alloc,
-            stand: parts(place).0,
+            stand: Stand::of(place),
             name: Vec::new(alloc),
             name_number: 0,
             len: 0,
@@ -90,7 +91,7 @@ impl<A: Allocator + Copy> Track<A> {
     // Since which step the byte is known to stand where it is.
     fn since(&self, step: u64, ways: &mut Ways<A>) -> Result<Since, AllocError> {
         match self.stand {
-            Nameless::Form(_) => ways.since(
+            Stand::Form(_) => ways.since(
                 self.name_number,
                 Span {
                     from: step,
@@ -108,7 +109,7 @@ impl<A: Allocator + Copy> Track<A> {
     // Where it stands, at this step.
     fn post(&self, step: u64) -> Post {
         let name = match self.stand {
-            Nameless::Form(_) | Nameless::Held(_, _) => self.name_number,
+            Stand::Form(_) | Stand::Held(_, _) => self.name_number,
             _ => 0,
         };
         Post {
@@ -127,13 +128,13 @@ impl<A: Allocator + Copy> Track<A> {
         post: Post,
         most: u64,
     ) -> Result<Option<Next>, AllocError> {
-        match leg_of(walker, with_name(self.stand, self.name.as_slice()), most)? {
+        match leg_of(walker, self.stand.place(self.name.as_slice()), most)? {
             Leg::Here(stand) => return Ok(self.stay(walker, sources, stand)),
             Leg::On(stand) => self.stand = stand,
             Leg::OfForm(item) => {
                 self.name = walker.argument(self.alloc, 1)?;
                 self.name_number = number_of(self.name.as_slice());
-                self.stand = Nameless::Form(item);
+                self.stand = Stand::Form(item);
             }
             Leg::Read(n) => return self.found(post, walker.input_number(n)),
             Leg::Idle => return self.found(post, text_from(sources.tape, read_number(walker))),
@@ -151,7 +152,7 @@ impl<A: Allocator + Copy> Track<A> {
     }
 
     // It stands here, to where a walker has gone back.
-    fn stay(&mut self, walker: &Walker<A>, sources: &Sources<'_>, stand: Nameless) -> Option<Next> {
+    fn stay(&mut self, walker: &Walker<A>, sources: &Sources<'_>, stand: Stand) -> Option<Next> {
         let same = self.stand == stand && self.len == self.form_len(walker);
         self.stand = stand;
         if !same {
@@ -173,7 +174,7 @@ impl<A: Allocator + Copy> Track<A> {
     // How many items its form has; 0 if it is in none.
     fn form_len(&self, walker: &Walker<A>) -> usize {
         match self.stand {
-            Nameless::Form(_) => walker.form_len(self.name.as_slice()),
+            Stand::Form(_) => walker.form_len(self.name.as_slice()),
             _ => 0,
         }
     }
@@ -191,9 +192,9 @@ impl<A: Allocator + Copy> Track<A> {
 #[derive(Clone, Copy)]
 enum Leg {
     // It stands here before all steps that were gone over.
-    Here(Nameless),
+    Here(Stand),
     // It stood here, and the call that comes next passed it on.
-    On(Nameless),
+    On(Stand),
     // That call took it out of this item of the form that its argument 1 names.
     OfForm(usize),
     // The next step read it.
@@ -212,12 +213,12 @@ fn leg_of<A: Allocator + Copy>(
     most: u64,
 ) -> Result<Leg, AllocError> {
     match follow(&mut walker.window.session, place, most).source {
-        Source::Here(there) => Ok(Leg::Here(parts(there).0)),
-        Source::Passed(there) => Ok(Leg::On(parts(there).0)),
+        Source::Here(there) => Ok(Leg::Here(Stand::of(there))),
+        Source::Passed(there) => Ok(Leg::On(Stand::of(there))),
         Source::OfForm(item) => Ok(Leg::OfForm(item)),
         Source::Read(n) => Ok(Leg::Read(n)),
         Source::Made if walker.glance().performs => {
-            Ok(Leg::On(parts(place_of(walker, Doubt::NoPrimitive)).0))
+            Ok(Leg::On(Stand::of(place_of(walker, Doubt::NoPrimitive))))
         }
         Source::Made => Ok(Leg::Idle),
         Source::Nothing => Ok(Leg::Nothing),

@@ -1,8 +1,8 @@
 //! What is known of the places through which bytes were followed back, so that no way is gone twice.
 
+use crate::stand::Stand;
 use std::alloc::{AllocError, Allocator};
 use std::collections::BTreeMap;
-use trac_follow::Nameless;
 
 // So many places in forms, and so many others, are remembered; if there are more, all of them are forgotten.
 const KNOWN_LIMIT: usize = 262_144;
@@ -17,7 +17,7 @@ const FORM_LIMIT: usize = 65_536;
 #[derive(Clone, Copy, PartialEq, Eq, PartialOrd, Ord, Debug)]
 pub(crate) struct Post {
     pub(crate) step: u64,
-    pub(crate) stand: Nameless,
+    pub(crate) stand: Stand,
     pub(crate) name: u64,
 }
 
@@ -67,7 +67,7 @@ impl<A: Allocator + Copy> Ways<A> {
     /// Which byte of the files stands at a place, if that is known.
     pub(crate) fn number(&self, post: Post) -> Option<u64> {
         let known = match post.stand {
-            Nameless::Form(_) => self.forms.get(&post),
+            Stand::Form(_) => self.forms.get(&post),
             _ => self.others.get(&post),
         };
         known.copied()
@@ -76,7 +76,7 @@ impl<A: Allocator + Copy> Ways<A> {
     /// Keeps which byte of the files stands at a place. The error is that memory was refused, here and below.
     pub(crate) fn keep(&mut self, post: Post, number: u64) -> Result<(), AllocError> {
         match post.stand {
-            Nameless::Form(_) => keep_in(&mut self.forms, KNOWN_LIMIT, post, number),
+            Stand::Form(_) => keep_in(&mut self.forms, KNOWN_LIMIT, post, number),
             _ => keep_in(&mut self.others, KNOWN_LIMIT, post, number),
         }
     }

@@ -107,6 +107,6 @@ pub(crate) fn told_way<A: Allocator + Copy>(
         told: Vec::new(alloc),
         count: 0,
     };
-    let found = traced(walker, place, &mut way);
+    let found = traced(alloc, walker, place, &mut way);
     (way, found)
 }

@@ -24,7 +24,7 @@ pub fn doubts_into<A: Allocator + Copy>(
         let mut line = ScreenLine::new(alloc);
         doubt_into(&walker.sight(), doubt, &mut line);
         let mut place = ScreenLine::new(alloc);
-        place_into(walker, program, doubt, &mut place)?;
+        place_into(alloc, walker, program, doubt, &mut place)?;
         line.end_before(place, out)?;
     }
     match doubts.len().saturating_sub(LINE_COUNT) {
@@ -35,6 +35,7 @@ pub fn doubts_into<A: Allocator + Copy>(
 
 // Where the byte comes from that a doubt is about, after a sign; nothing if there is none.
 fn place_into<A: Allocator + Copy>(
+    alloc: A,
     walker: &mut Walker<A>,
     program: &[u8],
     doubt: Doubt,
@@ -42,10 +43,10 @@ fn place_into<A: Allocator + Copy>(
 ) -> Result<(), AllocError> {
     let end = walker.step();
     let place = place_of(walker, doubt);
-    let found = traced(walker, place, &mut Unsaid).end;
+    let found = traced(alloc, walker, place, &mut Unsaid).end;
     let source = walker.step();
     let origin = match found {
-        End::Unkept | End::Untold | End::Memory => return Err(AllocError),
+        End::Untold | End::Memory => return Err(AllocError),
         End::Nothing => None,
         found => Some(written_at(walker, program, found)),
     };

@@ -84,7 +84,7 @@ impl<A: Allocator + Copy> Telling<'_, A> {
     fn gap_into(&mut self, item: usize) -> Result<(), AllocError> {
         let name = self.walker.argument(self.alloc, 1)?;
         let place = Place::Form(name.as_slice(), item);
-        let end = traced(self.walker, place, &mut Unsaid).end;
+        let end = traced(self.alloc, self.walker, place, &mut Unsaid).end;
         is_told(end)?;
         self.tell_here(match end {
             End::Made => Treatment::MakesGap,
@@ -135,7 +135,7 @@ fn to_gap<A: Allocator + Copy>(
         places: Vec::new(alloc),
         latest: 0,
     };
-    is_told(traced(walker, Place::Active(place), &mut found).end)?;
+    is_told(traced(alloc, walker, Place::Active(place), &mut found).end)?;
     for (steps, item) in found.places.iter() {
         if walker.go_to(start.saturating_sub(*steps)).is_some() {
             return Err(AllocError);
@@ -160,7 +160,7 @@ fn gap_at<A: Allocator + Copy>(walker: &Walker<A>, item: usize) -> Option<u32> {
 // That a way was told to its end. The error is that it was not, for want of memory.
 fn is_told(end: End) -> Result<(), AllocError> {
     match end {
-        End::Unkept | End::Untold | End::Memory => Err(AllocError),
+        End::Untold | End::Memory => Err(AllocError),
         _ => Ok(()),
     }
 }

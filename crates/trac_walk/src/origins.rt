@@ -71,7 +71,7 @@ impl<A: Allocator + Copy> Telling<'_, A> {
         let origin = match end {
             End::Nothing => return self.stay(Stop::NoByte),
             End::Memory => return self.stay(Stop::Refused(Refusal::Memory)),
-            End::Unkept | End::Untold => return Err(AllocError),
+            End::Untold => return Err(AllocError),
             end => origin_of(self.walker, self.program, end),
         };
         for told in way.told.iter() {
@@ -95,7 +95,7 @@ impl<A: Allocator + Copy> Telling<'_, A> {
             Err(stop) => return self.stay(stop),
         };
         let end = self.walker.step();
-        let found = traced(self.walker, place, &mut Unsaid).end;
+        let found = traced(self.alloc, self.walker, place, &mut Unsaid).end;
         let read = number_read(self.walker, &found);
         let origin = origin_of(self.walker, self.program, found);
         let is_idle = is_idle(self.walker, &found);
@@ -106,7 +106,7 @@ impl<A: Allocator + Copy> Telling<'_, A> {
         match found {
             End::Nothing => return self.stay(Stop::NoName),
             End::Memory => return self.stay(Stop::Refused(Refusal::Memory)),
-            End::Unkept | End::Untold => return Err(AllocError),
+            End::Untold => return Err(AllocError),
             _ if is_idle => return self.stay(Stop::Idle),
             _ => {}
         }

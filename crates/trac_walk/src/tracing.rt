@@ -10,6 +10,7 @@ use trac_moves::Walker;
 /// Goes back to where the byte at a place comes from, or the item of a form, and tells a
 /// witness of each call on the way.
 pub(crate) fn traced<W: Witness<A>, A: Allocator + Copy>(
+    alloc: A,
     walker: &mut Walker<A>,
     place: Place<'_>,
     witness: &mut W,
@@ -21,5 +22,5 @@ pub(crate) fn traced<W: Witness<A>, A: Allocator + Copy>(
         result.steps result.end witness.old witness.new }
 {
     let most = walker.window.session.len() as u64;
-    trace(&mut walker.window.session, place, most, witness)
+    trace(alloc, &mut walker.window.session, place, most, witness)
 }

@@ -3,7 +3,7 @@ use Rattle.std.specs.Prelude.{◌≡◌, ◌≢◌, ℕ, ◌+◌, ◌-◌, ◌^�
 use Rattle.std.specs.List.{flat_map}
 use Rattle.trac_origins.specs.Places.{Place, InActive, InBase, InArgument, InForm, InHeld, InOutput}
 use Rattle.trac_follow.specs.declared.tracing.End.{End}
-use Rattle.trac_follow.specs.declared.tracing.End.TheVariants.{Nothing, Earlier, Read, Made, Unkept, Untold}
+use Rattle.trac_follow.specs.declared.tracing.End.TheVariants.{Nothing, Earlier, Read, Made, Untold}
 use Rattle.trac_follow.specs.Passing.{Passing}
 use Rattle.trac_streams.specs.Escapes.{feed}
 use Rattle.trac_web_requests.specs.declared.rows.Rows.{Rows}

@@ -9,7 +9,7 @@ use Rattle.trac_streams.specs.Escapes.{feed}
 use Rattle.trac_origins.specs.Places.{Place, InActive, InBase, InArgument, InForm, InHeld, InOutput}
 use Rattle.trac_follow.specs.declared.tracing.End as ends
 use Rattle.trac_follow.specs.declared.tracing.End.{End}
-use Rattle.trac_follow.specs.declared.tracing.End.TheVariants.{Nothing, Earlier, Read, Made, Unkept, Untold}
+use Rattle.trac_follow.specs.declared.tracing.End.TheVariants.{Nothing, Earlier, Read, Made, Untold}
 use Rattle.trac_follow.specs.declared.tracing.Traced.{Traced}
 use Rattle.trac_follow.specs.Tracing.{IsTraced, way_of}
 use Rattle.trac_debug.specs.Debugging.{ready}
@@ -57,7 +57,6 @@ abbrev pub end_field : End → ℕ → ℕ → ℕ → List ℕ
 end_field Nothing number line column = codes " nothing"
 end_field Earlier number line column = codes " earlier"
 end_field Made number line column = codes " made"
-end_field Unkept number line column = codes " unkept"
 end_field (Read n) number line column = read_field number line column
 end_field Untold number line column = []
 end_field ends.TheVariants.Memory number line column = []

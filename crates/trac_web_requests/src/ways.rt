@@ -139,7 +139,7 @@ fn rows_of<A: Allocator + Copy>(
 {
     let mut rows = Rows::new(alloc, step, window.released);
     let most = window.session.len() as u64;
-    let found = trace(&mut window.session, place, most, &mut rows);
+    let found = trace(alloc, &mut window.session, place, most, &mut rows);
     let read = read_at(&window.session, tape, found.end);
     let mut text = rows.into_text();
     number_into(step.saturating_sub(found.steps), &mut text)?;
@@ -167,7 +167,6 @@ fn end_into<A: Allocator>(end: End, read: ReadByte, out: &mut Vec<u8, A>) -> Res
         End::Nothing => out.extend_from_slice(b" nothing"),
         End::Earlier => out.extend_from_slice(b" earlier"),
         End::Made => out.extend_from_slice(b" made"),
-        End::Unkept => out.extend_from_slice(b" unkept"),
         End::Untold | End::Memory => Err(AllocError),
         End::Read(_) => read_into(read, out),
     }
