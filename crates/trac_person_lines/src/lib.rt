@@ -3,6 +3,7 @@
 #![tactic(auto)]
 
 mod calls;
+mod changing;
 mod doubting;
 mod form_list;
 mod given;
@@ -14,12 +15,13 @@ mod standing_line;
 mod way;
 
 pub use calls::{Before, call_into, outcome_into};
+pub use changing::change_into;
 pub use doubting::doubt_into;
 pub use form_list::{form_into, list_into};
 pub use given::{given_into, only_byte};
 pub use notes::{
-    Later, NO_PLACE, NO_PRIMITIVE, SEARCH_LIMIT, Stop, later_into, no_end_into, refused, stop_into,
-    window_into,
+    Later, NO_PLACE, NO_PRIMITIVE, SEARCH_LIMIT, Stop, later_into, no_end_into, recalled_into, refused,
+    stop_into, window_into,
 };
 pub use piece::piece_into;
 pub use screen::screen_into;

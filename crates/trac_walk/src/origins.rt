@@ -143,8 +143,11 @@ impl<A: Allocator + Copy> Telling<'_, A> {
     // Says why a byte cannot be looked for, and of a text that was not printed so far whether it is printed later.
     fn unfollowed_into(&mut self, spot: Spot<'_>, stop: Stop) -> Result<(), AllocError> {
         self.stop(stop)?;
-        if let (Spot::PrintedText(text), Stop::NotPrinted | Stop::NotPrintedSince) = (spot, stop) {
-            self.printed_later_into(text)?;
+        match (spot, stop) {
+            (Spot::PrintedText(text), Stop::NotPrinted | Stop::NotPrintedSince) => {
+                self.printed_later_into(text)?
+            }
+            _ => self.recalled_for(stop)?,
         }
         self.stand()
     }
