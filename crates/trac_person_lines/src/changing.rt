@@ -1,12 +1,13 @@
 //! A form before a change and after it.
 
+use crate::characters::filling;
 use crate::form_list::items_into;
 use crate::screen_line::{ScreenLine, WIDTH};
 use std::alloc::{AllocError, Allocator};
 use trac_forms::Form;
 
-// So many items are shown at most: what does not fit the screen is cut.
-const MOST: usize = WIDTH + 1;
+// So many columns are filled at most.
+const ROOM: usize = WIDTH;
 
 // If the change begins after so many items, those are left out but for the last of them.
 const FIRST_MOST: usize = 32;
@@ -43,7 +44,7 @@ fn side_into<A: Allocator + Copy>(
         Some(form) => {
             let cut: &[u8] = if from > 0 { b".." } else { b"" };
             line.say(cut);
-            items_into(alloc, form, from, MOST, &mut line)?;
+            items_into(alloc, form, from, filling(ROOM), &mut line)?;
         }
         None => line.say(b"no form of this name"),
     }

@@ -4,6 +4,7 @@
 
 mod calls;
 mod changing;
+mod characters;
 mod doubting;
 mod form_list;
 mod given;
@@ -23,7 +24,7 @@ pub use notes::{
     Later, NO_PLACE, NO_PRIMITIVE, SEARCH_LIMIT, Stop, later_into, no_end_into, recalled_into, refused,
     stop_into, window_into,
 };
-pub use piece::piece_into;
+pub use piece::{piece_around_into, piece_into};
 pub use screen::screen_into;
 pub use screen_line::ScreenLine;
 pub use standing_line::standing_into;

@@ -10,7 +10,7 @@ use trac_dialogue::Spot;
 use trac_follow::{End, Place, Witness};
 use trac_moves::Walker;
 use trac_person_lines::{
-    Origin, Stop, Treatment, left_out_into, origin_into, piece_into, step_line,
+    Origin, Stop, Treatment, left_out_into, origin_into, piece_around_into, piece_into, step_line,
 };
 use trac_rules::byte::LINE_FEED;
 use trac_session::{Machine, Refusal};
@@ -113,7 +113,10 @@ impl<A: Allocator + Copy> Telling<'_, A> {
         let mut line = step_line(self.alloc, end, &self.walker.sight());
         origin_into(origin, source, &mut line);
         line.end_into(self.out)?;
-        self.source_into(read)
+        match read {
+            Some(number) => piece_around_into(self.alloc, self.program, number, self.out),
+            None => Ok(()),
+        }
     }
 
     // Says why nothing stands where a byte is wanted: of an empty argument or form also what left it so.
