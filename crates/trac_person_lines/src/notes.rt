@@ -79,6 +79,9 @@ pub const NO_PLACE: &[u8] = b"no earlier place is kept\n";
 pub const NO_PRIMITIVE: &[u8] =
     b"no primitive has this name; a form is met by its call: u cl NAME, r cl NAME\n";
 
+/// What may have been meant if a text is not printed so far that is the name of a form.
+pub const FORM_NAMED: &[u8] = b"there is a form of this name: w set \"NAME\" looks for its last change\n";
+
 /// Puts a line at the end of a text that says why a move stopped, if one can go back to this step. The error is that
 /// memory was refused.
 pub fn stop_into<A: Allocator + Copy>(

@@ -11,7 +11,7 @@ use trac_dialogue::{
 };
 use trac_forms::Form;
 use trac_person_lines::{
-    NO_PLACE, NO_PRIMITIVE, Stop, change_into, form_into, given_into, list_into, no_end_into,
+    FORM_NAMED, NO_PLACE, NO_PRIMITIVE, Stop, change_into, form_into, given_into, list_into, no_end_into,
     only_byte, refused, screen_into, window_into,
 };
 use trac_moves::Walker;
@@ -207,6 +207,9 @@ impl<A: Allocator + Copy> Telling<'_, A> {
         if is_unmet(stop) && names_no_primitive(way) {
             self.say(NO_PRIMITIVE)?;
         }
+        if stop.is_some() && is_form_named(self.walker, way) {
+            self.say(FORM_NAMED)?;
+        }
         self.stand()?;
         Ok(stop)
     }
@@ -283,6 +286,14 @@ impl<A: Allocator + Copy> Telling<'_, A> {
             no_end_into(self.alloc, meta, self.out)?;
         }
         self.stand()
+    }
+}
+
+// Whether a move looks for a printed text that is the name of a form too.
+fn is_form_named<A: Allocator + Copy>(walker: &Walker<A>, way: Move<'_>) -> bool {
+    match way {
+        Move::PrintedText(text) => walker.sight().store.get(text).is_some(),
+        _ => false,
     }
 }
 
