@@ -36,6 +36,7 @@ y          to where the next call was written      l      says where that is
 g N        to step N
 i TEXT     a line of input               e          the input ends
 p          the state on one screen       p all      all of it
+where      the begun calls, and where each was written; or bt
 f          the forms                     f NAME     one form
 t [N]      the last N calls, or 10, with values or defaults; t N all: uncut
 h          this list; or help, ?         q          the end; or quit, exit
@@ -122,6 +123,8 @@ pub enum Order<'a> {
     Follow(Spot<'a>),
     /// To say where the name of the call that comes next was written.
     Locate,
+    /// To list the begun calls, and where each was written.
+    Where,
     /// To list the commands.
     Help,
     /// To end.
@@ -144,6 +147,7 @@ pub fn order_of<'a>(words: &'a [&'a [u8]], quoted: bool) -> Option<Order<'a>> {
         b"t" => calls_of(rest),
         b"y" => Some(Order::Follow(spot_of(rest, quoted)?)),
         b"l" => alone(rest, Order::Locate),
+        b"where" | b"bt" => alone(rest, Order::Where),
         b"m" => alone(rest, Order::Recall),
         b"e" => alone(rest, Order::EndInput),
         b"h" | b"help" | b"?" => alone(rest, Order::Help),
@@ -183,9 +187,10 @@ pub fn misunderstood(words: &[&[u8]]) -> &'static [u8] {
         b"f" | b"print" =>
             b"not understood; f takes NAME, or nothing; a NAME with blanks stands in quotes: f \"a b\"\n",
         b"up" | b"down" =>
-            b"not understood; O goes back to where the innermost begun call began, o on to its end\n",
+            b"not understood; where lists the begun calls; O goes back to where one began, o on to its end\n",
         b"n" | b"N" | b"o" | b"O" | b"d" | b"D" | b"l" | b"m" | b"e" => STANDS_ALONE,
-        b"h" | b"help" | b"?" | b"q" | b"quit" | b"exit" | b"continue" | b"run" => STANDS_ALONE,
+        b"h" | b"help" | b"?" | b"q" | b"quit" | b"exit" => STANDS_ALONE,
+        b"continue" | b"run" | b"where" | b"bt" => STANDS_ALONE,
         _ => NOT_UNDERSTOOD,
     }
 }

@@ -28,4 +28,6 @@ pub use piece::{piece_around_into, piece_into};
 pub use screen::screen_into;
 pub use screen_line::ScreenLine;
 pub use standing_line::standing_into;
-pub use way::{Origin, Treatment, left_out_into, origin_into, step_line, treatment_into};
+pub use way::{
+    Origin, Treatment, begun_line, left_out_into, origin_into, step_line, treatment_into,
+};

@@ -15,6 +15,16 @@ use trac_person_lines::{
 use trac_rules::byte::LINE_FEED;
 use trac_session::{Machine, Refusal};
 
+/// Where a byte was written.
+#[derive(Clone, Copy)]
+pub(crate) struct Written {
+    pub(crate) origin: Origin,
+    // the step at which its way ends
+    pub(crate) source: u64,
+    // which byte of all input it is, if it was read
+    read: Option<u64>,
+}
+
 /// A witness of a byte's way of which nothing is said.
 #[derive(Clone, Copy)]
 pub(crate) struct Unsaid;
@@ -94,28 +104,39 @@ impl<A: Allocator + Copy> Telling<'_, A> {
             Ok(place) => place,
             Err(stop) => return self.stay(stop),
         };
-        let end = self.walker.step();
-        let found = traced(self.walker, place, &mut Unsaid).end;
-        let read = number_read(self.walker, &found);
-        let origin = origin_of(self.walker, self.program, found);
-        let is_idle = is_idle(self.walker, &found);
-        let source = self.walker.step();
-        if let Some(refusal) = self.walker.forward(end.saturating_sub(source)) {
-            return self.stay(Stop::Refused(refusal));
-        }
-        match found {
-            End::Nothing => return self.stay(Stop::NoName),
-            End::Memory => return self.stay(Stop::Refused(Refusal::Memory)),
-            End::Unkept | End::Untold => return Err(AllocError),
-            _ if is_idle => return self.stay(Stop::Idle),
-            _ => {}
-        }
-        let mut line = step_line(self.alloc, end, &self.walker.sight());
-        origin_into(origin, source, &mut line);
+        let written = match self.written(place)? {
+            Ok(written) => written,
+            Err(stop) => return self.stay(stop),
+        };
+        let mut line = step_line(self.alloc, self.walker.step(), &self.walker.sight());
+        origin_into(written.origin, written.source, &mut line);
         line.end_into(self.out)?;
-        match read {
+        match written.read {
             Some(number) => piece_around_into(self.alloc, self.program, number, self.out),
             None => Ok(()),
+        }
+    }
+
+    /// Where the byte at a place was written, that begins the name of a call. For that it goes back, and forward again;
+    /// if a step is refused on the way there, for memory alone, it stands there.
+    pub(crate) fn written(&mut self, place: Place<'_>) -> Result<Result<Written, Stop>, AllocError> {
+        let end = self.walker.step();
+        let found = traced(self.walker, place, &mut Unsaid).end;
+        let written = Written {
+            origin: origin_of(self.walker, self.program, found),
+            source: self.walker.step(),
+            read: number_read(self.walker, &found),
+        };
+        let is_idle = is_idle(self.walker, &found);
+        if let Some(refusal) = self.walker.forward(end.saturating_sub(written.source)) {
+            return Ok(Err(Stop::Refused(refusal)));
+        }
+        match found {
+            End::Nothing => Ok(Err(Stop::NoName)),
+            End::Memory => Ok(Err(Stop::Refused(Refusal::Memory))),
+            End::Unkept | End::Untold => Err(AllocError),
+            _ if is_idle => Ok(Err(Stop::Idle)),
+            _ => Ok(Ok(written)),
         }
     }
 

@@ -140,6 +140,7 @@ impl<A: Allocator + Copy> Telling<'_, A> {
             Order::Recall => self.recall(memo, line)?,
             Order::Follow(spot) => self.follow(memo, line, spot)?,
             Order::Locate => self.written_into()?,
+            Order::Where => self.begun_calls_into()?,
             Order::Feed(text) => self.feed(text)?,
             Order::EndInput => {
                 self.walker.end_input();
