@@ -22,17 +22,18 @@ REFUSED = (
     (b"g takes a number of 12 digits at most", (b"g", b"g x")),
     (b"t takes a number from 1 on, of 12 digits at most, and all after it, or nothing",
      (b"t x", b"t 0", b"t all", b"t 0 all", b"t 1 x")),
-    (b'w takes NAME, #K or "TEXT"', (b"w", b"w a b", b"w #", b"w #x")),
+    (b'w takes NAME, set "NAME", #K or "TEXT"', (b"w", b"w a b", b"w #", b"w #x", b"w set a b")),
     (b'y takes "TEXT", #K, #, NAME K, . A K, . A, or nothing', (b"y x", b"y #x", b"y . 1 x", b"y a 1 2", b"y 1 2 3 4")),
     (b"i takes TEXT, or one word in quotes, or nothing", (b'i "a" b',)),
     (b"p takes all, or nothing", (b"p x", b"p all x")),
-    (b"f takes NAME, or nothing", (b"f a b",)),
+    (b'f takes NAME, or nothing; a NAME with blanks stands in quotes: f "a b"', (b"f a b", b"print a b")),
+    (b"where lists the begun calls; O goes back to where one began, o on to its end", (b"up", b"down", b"up 1")),
     (b"this command takes no words after it",
      (b"n 1", b"N 1", b"o 1", b"O 1", b"d 1", b"D 1", b"l 1", b"m 1", b"e 1", b"q 1", b"quit 1", b"h 1", b"help x",
-      b"? 1")),
+      b"? 1", b"where 1", b"bt 1")),
 )
 COMMANDS = ("s", "b", "s end", "b start", "n", "N", "o", "O", "u", "r", "d", "D", "m", "w", "y", "l", "g", "i", "e",
-            "p all", "f", "t", "h", "q")
+            "p all", "f", "t", "h", "q", "where")
 
 
 class Lines(Walker):

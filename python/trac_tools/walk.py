@@ -16,7 +16,7 @@ from trac_tools.tool import begin, program, tell, write
 # A prompt of the program, and what may become one.
 PROMPT, MAY_BE = re.compile(rb"([0-9]+)> "), re.compile(rb"[0-9]*>? ?")
 # What a line of the walk may begin with, and the primitives.
-COMMANDS = "s b n N o O u r d D m w y l g i e p f t h q help quit exit".split()
+COMMANDS = "s b n N o O u r d D m w y l g i e p f t h q where bt help quit exit".split()
 PRIMITIVES = (
     "ad bc bi br bs bu cc cl cm cn cr cs da dd ds dv eb eq fb gr hl in ln ml pf ps rc rs sb ss su tf tn"
 ).split()

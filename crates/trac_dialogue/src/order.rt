@@ -27,7 +27,7 @@ u CALL..   forward to a call             r CALL..   back to a call
            (CALL..: its first arguments, as u cl hanoi; none: any call)
 d          to the next doubtful step     D          back to the last one
 m          back to where a command of these or y began, and again further
-w NAME     back to the call that changed the form NAME last
+w NAME     back to the call that changed the form NAME last; or w set \"NAME\"
 w #K       back to the call that printed byte K of the output
 w \"TEXT\"   back to the call that printed the last TEXT
 y \"TEXT\"   to where the last TEXT comes from    y #[K]   byte K printed, or last
@@ -36,6 +36,7 @@ y          to where the next call was written      l      says where that is
 g N        to step N
 i TEXT     a line of input               e          the input ends
 p          the state on one screen       p all      all of it
+where      the begun calls, and where each was written; or bt
 f          the forms                     f NAME     one form
 t [N]      the last N calls, or 10, with values or defaults; t N all: uncut
 h          this list; or help, ?         q          the end; or quit, exit
@@ -122,6 +123,8 @@ pub enum Order<'a> {
     Follow(Spot<'a>),
     /// To say where the name of the call that comes next was written.
     Locate,
+    /// To list the begun calls, and where each was written.
+    Where,
     /// To list the commands.
     Help,
     /// To end.
@@ -132,16 +135,19 @@ pub enum Order<'a> {
 /// None if they are not understood. It takes no memory.
 pub fn order_of<'a>(words: &'a [&'a [u8]], quoted: bool) -> Option<Order<'a>> {
     let (command, rest) = words.split_first()?;
+    let command = meant(command);
     if let Some(way) = move_of(command, rest, quoted) {
         return Some(Order::Go(way));
     }
-    match *command {
+    match command {
         b"i" => Some(Order::Feed(text_in(rest)?)),
         b"p" => print_of(rest),
-        b"f" => forms_of(rest),
+        b"print" if rest.is_empty() => Some(Order::Print),
+        b"f" | b"print" => forms_of(rest),
         b"t" => calls_of(rest),
         b"y" => Some(Order::Follow(spot_of(rest, quoted)?)),
         b"l" => alone(rest, Order::Locate),
+        b"where" | b"bt" => alone(rest, Order::Where),
         b"m" => alone(rest, Order::Recall),
         b"e" => alone(rest, Order::EndInput),
         b"h" | b"help" | b"?" => alone(rest, Order::Help),
@@ -150,24 +156,41 @@ pub fn order_of<'a>(words: &'a [&'a [u8]], quoted: bool) -> Option<Order<'a>> {
     }
 }
 
+// The command that a word means which other debuggers know: the nearest one. Any other word means itself.
+fn meant(word: &[u8]) -> &[u8] {
+    match word {
+        b"step" => b"s",
+        b"next" => b"n",
+        b"finish" => b"o",
+        b"until" => b"u",
+        b"back" => b"b",
+        b"list" => b"l",
+        word => word,
+    }
+}
+
 /// What is said of words that ask for nothing, in a line: what their command takes, if it is one.
 pub fn misunderstood(words: &[&[u8]]) -> &'static [u8] {
     let Some((command, _)) = words.split_first() else {
         return NOT_UNDERSTOOD;
     };
-    match *command {
+    match meant(command) {
         b"s" => b"not understood; s takes a number of 12 digits at most, end, or nothing\n",
         b"b" => b"not understood; b takes a number of 12 digits at most, start, or nothing\n",
         b"g" => b"not understood; g takes a number of 12 digits at most\n",
         b"t" =>
             b"not understood; t takes a number from 1 on, of 12 digits at most, and all after it, or nothing\n",
-        b"w" => b"not understood; w takes NAME, #K or \"TEXT\"\n",
+        b"w" => b"not understood; w takes NAME, set \"NAME\", #K or \"TEXT\"\n",
         b"y" => b"not understood; y takes \"TEXT\", #K, #, NAME K, . A K, . A, or nothing\n",
         b"i" => b"not understood; i takes TEXT, or one word in quotes, or nothing\n",
         b"p" => b"not understood; p takes all, or nothing\n",
-        b"f" => b"not understood; f takes NAME, or nothing\n",
+        b"f" | b"print" =>
+            b"not understood; f takes NAME, or nothing; a NAME with blanks stands in quotes: f \"a b\"\n",
+        b"up" | b"down" =>
+            b"not understood; where lists the begun calls; O goes back to where one began, o on to its end\n",
         b"n" | b"N" | b"o" | b"O" | b"d" | b"D" | b"l" | b"m" | b"e" => STANDS_ALONE,
         b"h" | b"help" | b"?" | b"q" | b"quit" | b"exit" => STANDS_ALONE,
+        b"continue" | b"run" | b"where" | b"bt" => STANDS_ALONE,
         _ => NOT_UNDERSTOOD,
     }
 }
@@ -176,6 +199,7 @@ pub fn misunderstood(words: &[&[u8]]) -> &'static [u8] {
 fn move_of<'a>(command: &[u8], rest: &'a [&'a [u8]], quoted: bool) -> Option<Move<'a>> {
     match command {
         b"s" => forward_of(rest),
+        b"continue" | b"run" => alone(rest, Move::ToEnd),
         b"b" => back_of(rest),
         b"n" => alone(rest, Move::Over),
         b"N" => alone(rest, Move::OverBack),
@@ -209,6 +233,9 @@ fn back_of<'a>(rest: &[&[u8]]) -> Option<Move<'a>> {
 
 // What `w` looks for: the call that changed a form, or that printed a byte or a text.
 fn looked_for<'a>(rest: &[&'a [u8]], quoted: bool) -> Option<Move<'a>> {
+    if let [b"set", name] = rest {
+        return Some(Move::Changed(*name));
+    }
     let word = one_in(rest)?;
     if quoted {
         return Some(Move::PrintedText(word));

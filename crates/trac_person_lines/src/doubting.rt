@@ -1,5 +1,6 @@
 //! Doubts in words.
 
+use crate::characters::filling;
 use crate::screen_line::Part::{Number, Words};
 use crate::screen_line::{ScreenLine, front};
 use std::alloc::Allocator;
@@ -75,6 +76,6 @@ fn text_into<A: Allocator + Copy>(text: &[u8], line: &mut ScreenLine<A>) {
         return;
     }
     let columns = line.columns().saturating_add(TEXT_WIDTH);
-    line.show(front(text, TEXT_WIDTH + 1));
+    line.show(front(text, filling(TEXT_WIDTH)));
     line.cut(columns)
 }

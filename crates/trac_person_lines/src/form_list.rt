@@ -1,11 +1,10 @@
 //! The forms, listed and shown.
 
 use crate::screen_line::Part::{Number, Shown, Words};
-use crate::screen_line::put_line;
+use crate::screen_line::{ScreenLine, put_line};
 use std::alloc::{AllocError, Allocator};
 use trac_forms::{Form, Store};
 use trac_rules::item::Item;
-use trac_streams::{escaped_into, number_into};
 
 /// Puts a line for each form at the end of a text, by the bytes of the names: how many items the form has, and its
 /// name. It begins with a word, so that it is not taken for a line that says where the walker stands, nor for a prompt.
@@ -45,6 +44,7 @@ fn listed_into<A: Allocator + Copy>(
 /// Puts the form of a name at the end of a text, all of it, in one line: a gap of number k as `[k]`, and the pointer as
 /// `[^]`. The bytes are shown as `trac debug` shows them, so none of them is taken for these.
 pub fn form_into<A: Allocator + Copy>(
+    alloc: A,
     store: &Store<A>,
     name: &[u8],
     out: &mut Vec<u8, A>,
@@ -52,36 +52,45 @@ pub fn form_into<A: Allocator + Copy>(
     let Some(form) = store.get(name) else {
         return out.extend_from_slice(b"there is no form of this name\n");
     };
-    out.extend_from_slice(b"form    ")?;
-    items_into(form, out)?;
-    out.extend_from_slice(b"\n")
+    let mut line = ScreenLine::uncut(alloc);
+    line.say(b"form    ");
+    items_into(alloc, form, 0, usize::MAX, &mut line)?;
+    line.end_into(out)
 }
 
-// Puts the items of a form at the end of a text, with its pointer.
-fn items_into<A: Allocator + Copy>(form: &Form<A>, out: &mut Vec<u8, A>) -> Result<(), AllocError> {
+/// Puts so many items of a form at the end of a line, or all that there are from this one on, with its pointer.
+pub(crate) fn items_into<A: Allocator + Copy>(
+    alloc: A,
+    form: &Form<A>,
+    from: usize,
+    most: usize,
+    line: &mut ScreenLine<A>,
+) -> Result<(), AllocError> {
     let pointer = form.pointer();
-    for place in 0..form.len() {
+    let mut run = Vec::new(alloc);
+    for place in from..form.len().min(from.saturating_add(most)) {
         if place == pointer {
-            out.extend_from_slice(b"[^]")?;
+            end_run(&mut run, b"[^]", line);
         }
-        if let Some(item) = form.item(place) {
-            item_into(item, out)?;
+        match form.item(place) {
+            Some(Item::Byte(byte)) => run.push(byte)?,
+            Some(Item::Gap { ordinal, width: _ }) => {
+                end_run(&mut run, b"[", line);
+                line.put(&[Number(u64::from(ordinal)), Words(b"]")]);
+            }
+            None => {}
         }
     }
+    end_run(&mut run, b"", line);
     if pointer == form.len() {
-        out.extend_from_slice(b"[^]")?;
+        line.say(b"[^]");
     }
     Ok(())
 }
 
-// Puts an item of a form at the end of a text.
-fn item_into<A: Allocator>(item: Item, out: &mut Vec<u8, A>) -> Result<(), AllocError> {
-    match item {
-        Item::Byte(byte) => escaped_into(&[byte], out),
-        Item::Gap { ordinal, width: _ } => {
-            out.extend_from_slice(b"[")?;
-            number_into(u64::from(ordinal), out)?;
-            out.extend_from_slice(b"]")
-        }
-    }
+// Puts bytes of a form that stand together at the end of a line, and a mark after them.
+fn end_run<A: Allocator + Copy>(run: &mut Vec<u8, A>, mark: &[u8], line: &mut ScreenLine<A>) {
+    line.show(run.as_slice());
+    line.say(mark);
+    run.clear();
 }

@@ -3,6 +3,8 @@
 #![tactic(auto)]
 
 mod calls;
+mod changing;
+mod characters;
 mod doubting;
 mod form_list;
 mod given;
@@ -14,15 +16,18 @@ mod standing_line;
 mod way;
 
 pub use calls::{Before, call_into, outcome_into};
+pub use changing::change_into;
 pub use doubting::doubt_into;
 pub use form_list::{form_into, list_into};
 pub use given::{given_into, only_byte};
 pub use notes::{
-    Later, NO_PLACE, NO_PRIMITIVE, SEARCH_LIMIT, Stop, later_into, no_end_into, refused, stop_into,
-    window_into,
+    FORM_NAMED, Later, NO_PLACE, NO_PRIMITIVE, SEARCH_LIMIT, Stop, later_into, no_end_into, recalled_into, refused,
+    stop_into, window_into,
 };
-pub use piece::piece_into;
+pub use piece::{piece_around_into, piece_into};
 pub use screen::screen_into;
 pub use screen_line::ScreenLine;
 pub use standing_line::standing_into;
-pub use way::{Origin, Treatment, left_out_into, origin_into, step_line, treatment_into};
+pub use way::{
+    Origin, Treatment, begun_line, left_out_into, origin_into, step_line, treatment_into,
+};

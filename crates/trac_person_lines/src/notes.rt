@@ -79,6 +79,9 @@ pub const NO_PLACE: &[u8] = b"no earlier place is kept\n";
 pub const NO_PRIMITIVE: &[u8] =
     b"no primitive has this name; a form is met by its call: u cl NAME, r cl NAME\n";
 
+/// What may have been meant if a text is not printed so far that is the name of a form.
+pub const FORM_NAMED: &[u8] = b"there is a form of this name: w set \"NAME\" looks for its last change\n";
+
 /// Puts a line at the end of a text that says why a move stopped, if one can go back to this step. The error is that
 /// memory was refused.
 pub fn stop_into<A: Allocator + Copy>(
@@ -210,11 +213,27 @@ pub fn later_into<A: Allocator + Copy>(
     later: Later,
     out: &mut Vec<u8, A>,
 ) -> Result<(), AllocError> {
-    let (words, step): (&[u8], u64) = match later {
-        Later::By(step) => (b"it is printed first by step ", step),
-        Later::NotUpTo(step) => (b"nor is it printed up to step ", step),
-    };
-    put_line(alloc, &[Words(words), Number(step)], out)
+    let mut line = ScreenLine::new(alloc);
+    match later {
+        Later::By(step) => {
+            let words = Words(b"it is printed first by step ");
+            line.put(&[words, Number(step), Words(b": g "), Number(step), Words(b" goes there")])
+        }
+        Later::NotUpTo(step) => line.put(&[Words(b"nor is it printed up to step "), Number(step)]),
+    }
+    line.end_into(out)
+}
+
+/// Puts a line at the end of a text that says that `m` goes to this step, further on than here. The error is that
+/// memory was refused.
+pub fn recalled_into<A: Allocator + Copy>(
+    alloc: A,
+    step: u64,
+    out: &mut Vec<u8, A>,
+) -> Result<(), AllocError> {
+    let began = b", where the last command began";
+    let parts = [Words(b"m goes to step "), Number(step), Words(began)];
+    put_line(alloc, &parts, out)
 }
 
 /// Puts a line at the end of a text that says that this is the first step that is kept from now on, and why. The

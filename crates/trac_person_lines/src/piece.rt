@@ -1,10 +1,10 @@
 //! A piece of a line of the program, with a mark under one of its bytes.
 
+use crate::characters::{character_start, columns_in, filling, shown_into};
 use crate::screen::end_of_into;
 use crate::screen_line::{ScreenLine, WIDTH, front, tail};
 use std::alloc::{AllocError, Allocator};
 use trac_rules::byte::LINE_FEED;
-use trac_streams::escaped_into;
 
 // What a piece begins with: a word, so that it is not taken for a prompt.
 const LABEL: &[u8] = b"FILE    ";
@@ -16,8 +16,8 @@ const ROOM: usize = WIDTH - LABEL.len();
 const ROOM_BEFORE: usize = ROOM / 2;
 
 /// Puts two lines at the end of a text: the line of the program that has the byte of this number, the first being
-/// number 0, and `^` under that byte. A long line is cut around it. Of a byte after the program nothing is put there.
-/// The error is that memory was refused, here and below.
+/// number 0, and `^` under that byte, or under the character that has it. A long line is cut around it. Of a byte after
+/// the program nothing is put there. The error is that memory was refused, here and below.
 pub fn piece_into<A: Allocator + Copy>(
     alloc: A,
     program: &[u8],
@@ -27,7 +27,7 @@ pub fn piece_into<A: Allocator + Copy>(
     if number >= program.len() as u64 {
         return Ok(());
     }
-    let (before, from) = program.split_at(number as usize);
+    let (before, from) = program.split_at(character_start(program, number as usize).min(program.len()));
     let from = line_before_end(from);
     let mut line = ScreenLine::new(alloc);
     line.say(LABEL);
@@ -41,6 +41,42 @@ pub fn piece_into<A: Allocator + Copy>(
     mark.end_into(out)
 }
 
+/// The same between the lines of the program before and after that one, if there are any.
+pub fn piece_around_into<A: Allocator + Copy>(
+    alloc: A,
+    program: &[u8],
+    number: u64,
+    out: &mut Vec<u8, A>,
+) -> Result<(), AllocError> {
+    if number >= program.len() as u64 {
+        return Ok(());
+    }
+    let (before, from) = program.split_at(number as usize);
+    let len = before.len() - before.len().min(end_after_line(before).len());
+    if let [others @ .., b'\n'] = before.split_at(len).0 {
+        beside_into(alloc, end_after_line(others), out)?;
+    }
+    piece_into(alloc, program, number, out)?;
+    match from.split_at(from.len().min(line_before_end(from).len())).1 {
+        [b'\n'] | [] => Ok(()),
+        [_, others @ ..] => beside_into(alloc, line_before_end(others), out),
+    }
+}
+
+// A line of the program beside the one that is marked.
+fn beside_into<A: Allocator + Copy>(
+    alloc: A,
+    text: &[u8],
+    out: &mut Vec<u8, A>,
+) -> Result<(), AllocError> {
+    let mut line = ScreenLine::new(alloc);
+    if !text.is_empty() {
+        line.pad(LABEL.len());
+        line.show(text);
+    }
+    line.end_into(out)
+}
+
 // The first of two texts, cut if there is no room for both.
 fn before_into<A: Allocator + Copy>(
     alloc: A,
@@ -49,12 +85,13 @@ fn before_into<A: Allocator + Copy>(
     line: &mut ScreenLine<A>,
 ) -> Result<(), AllocError> {
     let mut shown = Vec::new(alloc);
-    escaped_into(front(from, ROOM + 1), &mut shown)?;
+    shown_into(front(from, filling(ROOM)), &mut shown)?;
     // the mark takes a column if nothing follows
-    let len = shown.len().max(1);
+    let len = columns_in(shown.as_slice()).max(1);
     shown.clear();
-    escaped_into(tail(before, ROOM + 1), &mut shown)?;
-    let room = if shown.len().saturating_add(len) > ROOM {
+    shown_into(tail(before, filling(ROOM)), &mut shown)?;
+    let columns = columns_in(shown.as_slice());
+    let room = if columns.saturating_add(len) > ROOM {
         ROOM_BEFORE.max((ROOM - 2).saturating_sub(len))
     } else {
         ROOM

@@ -1,6 +1,7 @@
 //! The state on one screen.
 ghost use Rattle.std.specs.Prelude.{◌≤◌, length};
 
+use crate::characters::{columns_in, filling, shown_into};
 use crate::screen_line::Part::{Number, Shown, Words};
 use crate::screen_line::{ScreenLine, put_line, shown_tail, tail};
 use crate::standing_line::begun_into;
@@ -9,7 +10,6 @@ use trac_gap::TwoEnds;
 use trac_rules::byte::LINE_FEED;
 use trac_sight::Reach;
 use trac_step::{Core, Machine, Mark};
-use trac_streams::escaped_into;
 use trac_text::front::beginning_of;
 
 // So many begun functions are shown at most: the outermost and the innermost of them.
@@ -26,7 +26,7 @@ const SCANNED_ROWS: usize = SCANNED / 2 + 1;
 // So many lines of the output are shown at most, of so many bytes together, and of each so many columns.
 const OUTPUT_ROWS: usize = 4;
 
-const OUTPUT_BYTES: usize = 320;
+const OUTPUT_BYTES: usize = 1280;
 
 const OUTPUT_WIDTH: usize = 70;
 
@@ -120,7 +120,7 @@ pub(crate) fn end_of_into<A: Allocator + Copy>(
     is_cut: bool,
     line: &mut ScreenLine<A>,
 ) {
-    if is_cut || shown.len() > columns {
+    if is_cut || columns_in(shown) > columns {
         line.say(b"..");
     }
     line.say(shown_tail(shown, columns));
@@ -134,7 +134,7 @@ fn scanned_end<E: TwoEnds<u8, A>, M: TwoEnds<Mark, A>, A: Allocator + Copy>(
     let mut shown = Vec::new(alloc);
     let depth = machine.depth();
     if depth <= SCANNED_ROWS {
-        escaped_into(tail(machine.base(), SCANNED + 1), &mut shown)?;
+        shown_into(tail(machine.base(), filling(SCANNED)), &mut shown)?;
     }
     for i in depth.saturating_sub(SCANNED_ROWS)..depth {
         frame_end_into(machine, i, &mut shown)?;
@@ -157,7 +157,7 @@ fn frame_end_into<E: TwoEnds<u8, A>, M: TwoEnds<Mark, A>, A: Allocator + Copy>(
         if number > 0 {
             shown.extend_from_slice(b",")?;
         }
-        escaped_into(tail(arguments.get(number), SCANNED + 1), shown)?;
+        shown_into(tail(arguments.get(number), filling(SCANNED)), shown)?;
     }
     Ok(())
 }
@@ -194,7 +194,7 @@ fn output_line_into<A: Allocator + Copy>(
     out: &mut Vec<u8, A>,
 ) -> Result<(), AllocError> {
     let mut shown = Vec::new(alloc);
-    escaped_into(text, &mut shown)?;
+    shown_into(text, &mut shown)?;
     let mut line = labelled(alloc, label);
     end_of_into(shown.as_slice(), OUTPUT_WIDTH, is_cut, &mut line);
     line.end_into(out)

@@ -1,9 +1,10 @@
 //! Lines that fit the screen.
 ghost use Rattle.std.specs.Prelude.{◌≤◌, length};
 
+use crate::characters::{column_start, columns_in, filling, shown_into};
 use std::alloc::{AllocError, Allocator};
 use trac_rules::byte::LINE_FEED;
-use trac_streams::{escaped_into, number_into};
+use trac_streams::number_into;
 
 /// How many columns a screen has.
 pub const WIDTH: usize = 80;
@@ -21,7 +22,7 @@ pub(crate) enum Part<'a> {
     Words(&'a [u8]),
     /// A number.
     Number(u64),
-    /// A text, its bytes shown as `trac debug` shows them.
+    /// A text: UTF-8 as itself, and its other bytes as `trac debug` shows them.
     Shown(&'a [u8]),
 }
 
@@ -30,6 +31,8 @@ pub(crate) enum Part<'a> {
 #[derive(Drop)]
 pub struct ScreenLine<A: Allocator + Copy> {
     bytes: Vec<u8, A>,
+    // how many columns these take
+    columns: usize,
     width: usize,
     // whether memory was refused for a part
     is_refused: bool,
@@ -40,6 +43,7 @@ impl<A: Allocator + Copy> ScreenLine<A> {
     pub fn new(alloc: A) -> Self {
         ScreenLine {
             bytes: Vec::new(alloc),
+            columns: 0,
             width: WIDTH,
             is_refused: false,
         }
@@ -47,13 +51,14 @@ impl<A: Allocator + Copy> ScreenLine<A> {
 
     /// Whether what comes next would not be seen.
     pub fn is_full(&self) -> bool {
-        self.bytes.len() > self.width
+        self.columns > self.width
     }
 
     /// An empty line that is never cut. It takes no memory.
     pub fn uncut(alloc: A) -> Self {
         ScreenLine {
             bytes: Vec::new(alloc),
+            columns: 0,
             width: usize::MAX,
             is_refused: false,
         }
@@ -61,22 +66,25 @@ impl<A: Allocator + Copy> ScreenLine<A> {
 
     /// How many columns it has so far.
     pub fn columns(&self) -> usize {
-        self.bytes.len()
+        self.columns
     }
 
-    /// Puts words at the end, which are printable.
+    /// Puts words at the end, which are printable, or a text that is shown already.
     pub fn say(&mut self, words: &[u8]) {
         if !self.is_full() {
             let put = self.bytes.extend_from_slice(words);
             self.note(put);
+            self.columns = self.columns.saturating_add(columns_in(words));
         }
     }
 
     /// Puts a number at the end.
     pub fn count(&mut self, number: u64) {
         if !self.is_full() {
+            let len = self.bytes.len();
             let put = number_into(number, &mut self.bytes);
             self.note(put);
+            self.add_columns(len);
         }
     }
 
@@ -100,12 +108,21 @@ impl<A: Allocator + Copy> ScreenLine<A> {
         ]);
     }
 
-    /// Puts a text at the end, its bytes shown as `trac debug` shows them.
+    /// Puts a text at the end: UTF-8 as itself, and its other bytes as `trac debug` shows them.
     pub fn show(&mut self, text: &[u8]) {
         if !self.is_full() {
-            let put = escaped_into(front(text, self.width.saturating_add(1)), &mut self.bytes);
+            let len = self.bytes.len();
+            let put = shown_into(front(text, filling(self.width)), &mut self.bytes);
             self.note(put);
+            self.add_columns(len);
         }
+    }
+
+    // Adds the columns of what was put after so many bytes.
+    fn add_columns(&mut self, len: usize) {
+        let bytes = self.bytes.as_slice();
+        let put = columns_in(bytes.split_at(len.min(bytes.len())).1);
+        self.columns = self.columns.saturating_add(put);
     }
 
     // Keeps it if memory was refused for a part.
@@ -116,7 +133,7 @@ impl<A: Allocator + Copy> ScreenLine<A> {
     /// Puts an argument of a call at the end. With a comma or a parenthesis it stands in parentheses, as it would be
     /// written, so that it is not taken for several. Of a long one what can be seen decides.
     pub fn show_argument(&mut self, text: &[u8]) {
-        let seen = front(text, self.width.saturating_add(1));
+        let seen = front(text, filling(self.width));
         if !seen.iter().any(|byte| matches!(*byte, b',' | b'(' | b')')) {
             self.show(seen);
         } else {
@@ -127,22 +144,23 @@ impl<A: Allocator + Copy> ScreenLine<A> {
     /// Puts blanks at the end, two or as many as lead to this column.
     pub fn pad(&mut self, column: usize) {
         self.say(b"  ");
-        for _ in self.bytes.len()..column {
+        for _ in self.columns..column {
             self.say(b" ");
         }
     }
 
     /// Cuts the line if it has more columns than these.
     pub fn cut(&mut self, columns: usize) {
-        if self.bytes.len() <= columns {
+        if self.columns <= columns {
             return;
         }
         // the line ends before a byte that is shown by four, and not within it
-        let most = columns.saturating_sub(CUT.len());
+        let most = column_start(self.bytes.as_slice(), columns.saturating_sub(CUT.len()));
         let place = shown_by_four(self.bytes.as_slice(), most).unwrap_or(most);
         self.bytes.truncate(place);
         let put = self.bytes.extend_from_slice(CUT);
         self.note(put);
+        self.columns = columns_in(self.bytes.as_slice());
     }
 
     /// Cuts the line to the screen, and puts it at the end of a text, with another line after it. If both are too long,
@@ -153,6 +171,7 @@ impl<A: Allocator + Copy> ScreenLine<A> {
         self.cut(left.max(FIRST_WIDTH.min(width)));
         let put = self.bytes.extend_from_slice(next.bytes.as_slice());
         self.note(put);
+        self.columns = self.columns.saturating_add(next.columns);
         self.is_refused |= next.is_refused;
         self.end_into(out)
     }
@@ -206,7 +225,8 @@ pub fn tail(text: &[u8], most: usize) -> &[u8] {
 
 /// The end of a text of shown bytes, of so many columns at most, where no byte is cut that is shown by four.
 pub fn shown_tail(shown: &[u8], most: usize) -> &[u8] {
-    let place = shown.len() - shown.len().min(most);
+    let columns = columns_in(shown);
+    let place = column_start(shown, columns - columns.min(most));
     let from = shown_by_four(shown, place).map_or(place, |start| start.saturating_add(4));
     shown.split_at(shown.len().min(from)).1
 }

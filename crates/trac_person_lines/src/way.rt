@@ -2,9 +2,11 @@
 
 use crate::screen_line::Part::{Number, Words};
 use crate::screen_line::ScreenLine;
-use crate::standing_line::next_into;
+use crate::standing_line::{begun_into, next_into};
 use std::alloc::{AllocError, Allocator};
+use trac_gap::TwoEnds;
 use trac_sight::Sight;
+use trac_step::{Core, Machine, Mark};
 
 // So many columns a step takes at most, so that what it did is seen.
 const STEP_WIDTH: usize = 48;
@@ -53,6 +55,34 @@ pub fn step_line<A: Allocator + Copy>(alloc: A, step: u64, sight: &Sight<'_, A>)
     line.cut(STEP_WIDTH);
     line.pad(TREATMENT_COLUMN);
     line
+}
+
+/// The beginning of a line: a call that is begun, and whether it is the innermost one; of a machine, and its number,
+/// the outermost being number 0.
+pub fn begun_line<A: Allocator + Copy>(
+    alloc: A,
+    machine: &Machine<A>,
+    number: usize,
+    is_innermost: bool,
+) -> ScreenLine<A> {
+    let mut line = ScreenLine::new(alloc);
+    let label: &[u8] = if is_innermost { b"here    " } else { b"begun   " };
+    line.say(label);
+    begun_in(machine, number, &mut line);
+    line.cut(STEP_WIDTH);
+    line.pad(TREATMENT_COLUMN);
+    line
+}
+
+// Puts the begun function of this number at the end of a line.
+fn begun_in<E: TwoEnds<u8, A>, M: TwoEnds<Mark, A>, A: Allocator + Copy>(
+    machine: &Core<E, M, A>,
+    number: usize,
+    line: &mut ScreenLine<A>,
+) {
+    if let Some((kind, arguments)) = machine.frame(number) {
+        begun_into(kind, &arguments, line);
+    }
 }
 
 /// Puts a line at the end of a text: the number of the next step, what the step does, and what it did with a byte. The

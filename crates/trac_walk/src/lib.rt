@@ -2,6 +2,7 @@
 //! from.
 #![tactic(auto)]
 
+mod begun_told;
 mod call_list;
 mod calls_told;
 mod carrying_out;

@@ -10,10 +10,20 @@ use trac_dialogue::Spot;
 use trac_follow::{End, Place, Witness};
 use trac_moves::Walker;
 use trac_person_lines::{
-    Origin, Stop, Treatment, left_out_into, origin_into, piece_into, step_line,
+    Origin, Stop, Treatment, left_out_into, origin_into, piece_around_into, piece_into, step_line,
 };
 use trac_rules::byte::LINE_FEED;
 use trac_session::{Machine, Refusal};
+
+/// Where a byte was written.
+#[derive(Clone, Copy)]
+pub(crate) struct Written {
+    pub(crate) origin: Origin,
+    // the step at which its way ends
+    pub(crate) source: u64,
+    // which byte of all input it is, if it was read
+    read: Option<u64>,
+}
 
 /// A witness of a byte's way of which nothing is said.
 #[derive(Clone, Copy)]
@@ -94,26 +104,40 @@ impl<A: Allocator + Copy> Telling<'_, A> {
             Ok(place) => place,
             Err(stop) => return self.stay(stop),
         };
+        let written = match self.written(place)? {
+            Ok(written) => written,
+            Err(stop) => return self.stay(stop),
+        };
+        let mut line = step_line(self.alloc, self.walker.step(), &self.walker.sight());
+        origin_into(written.origin, written.source, &mut line);
+        line.end_into(self.out)?;
+        match written.read {
+            Some(number) => piece_around_into(self.alloc, self.program, number, self.out),
+            None => Ok(()),
+        }
+    }
+
+    /// Where the byte at a place was written, that begins the name of a call. For that it goes back, and forward again;
+    /// if a step is refused on the way there, for memory alone, it stands there.
+    pub(crate) fn written(&mut self, place: Place<'_>) -> Result<Result<Written, Stop>, AllocError> {
         let end = self.walker.step();
         let found = traced(self.alloc, self.walker, place, &mut Unsaid).end;
-        let read = number_read(self.walker, &found);
-        let origin = origin_of(self.walker, self.program, found);
+        let written = Written {
+            origin: origin_of(self.walker, self.program, found),
+            source: self.walker.step(),
+            read: number_read(self.walker, &found),
+        };
         let is_idle = is_idle(self.walker, &found);
-        let source = self.walker.step();
-        if let Some(refusal) = self.walker.forward(end.saturating_sub(source)) {
-            return self.stay(Stop::Refused(refusal));
+        if let Some(refusal) = self.walker.forward(end.saturating_sub(written.source)) {
+            return Ok(Err(Stop::Refused(refusal)));
         }
         match found {
-            End::Nothing => return self.stay(Stop::NoName),
-            End::Memory => return self.stay(Stop::Refused(Refusal::Memory)),
-            End::Untold => return Err(AllocError),
-            _ if is_idle => return self.stay(Stop::Idle),
-            _ => {}
+            End::Nothing => Ok(Err(Stop::NoName)),
+            End::Memory => Ok(Err(Stop::Refused(Refusal::Memory))),
+            End::Untold => Err(AllocError),
+            _ if is_idle => Ok(Err(Stop::Idle)),
+            _ => Ok(Ok(written)),
         }
-        let mut line = step_line(self.alloc, end, &self.walker.sight());
-        origin_into(origin, source, &mut line);
-        line.end_into(self.out)?;
-        self.source_into(read)
     }
 
     // Says why nothing stands where a byte is wanted: of an empty argument or form also what left it so.
@@ -143,8 +167,11 @@ impl<A: Allocator + Copy> Telling<'_, A> {
     // Says why a byte cannot be looked for, and of a text that was not printed so far whether it is printed later.
     fn unfollowed_into(&mut self, spot: Spot<'_>, stop: Stop) -> Result<(), AllocError> {
         self.stop(stop)?;
-        if let (Spot::PrintedText(text), Stop::NotPrinted | Stop::NotPrintedSince) = (spot, stop) {
-            self.printed_later_into(text)?;
+        match (spot, stop) {
+            (Spot::PrintedText(text), Stop::NotPrinted | Stop::NotPrintedSince) => {
+                self.printed_later_into(text)?
+            }
+            _ => self.recalled_for(stop)?,
         }
         self.stand()
     }

@@ -30,6 +30,12 @@ impl<A: Allocator + Copy> Places<A> {
         Ok(self.steps.push(place)?)
     }
 
+    /// The latest place that is another step than this and not before the first one that is kept.
+    pub fn latest(&self, step: u64, first_step: u64) -> Option<u64> {
+        let at = latest_in(self.steps.as_slice(), step, first_step)?;
+        self.steps.as_slice().get(at).copied()
+    }
+
     /// Takes out the latest place that is another step than this and not before the first one that
     /// is kept, with all after it.
     pub fn take(&mut self, step: u64, first_step: u64) -> Option<u64>

@@ -9,10 +9,12 @@ use trac_dialogue::{
     HELP, Move, Order, Spot, UNQUOTED, has_words, is_second_quoted, misunderstood, order_of,
     texts_of, words_of,
 };
+use trac_forms::Form;
 use trac_person_lines::{
-    NO_PLACE, NO_PRIMITIVE, Stop, form_into, given_into, list_into, no_end_into, only_byte,
-    refused, screen_into, window_into,
+    FORM_NAMED, NO_PLACE, NO_PRIMITIVE, Stop, change_into, form_into, given_into, list_into, no_end_into,
+    only_byte, refused, screen_into, window_into,
 };
+use trac_moves::Walker;
 use trac_prims::primitive_named;
 use trac_rules::primitive::Primitive;
 use trac_sight::reads_text;
@@ -43,6 +45,11 @@ impl<A: Allocator + Copy> Memo<A> {
             follows_on: false,
             searched: 0,
         }
+    }
+
+    /// The step to which `m` goes, if it goes anywhere.
+    pub fn recalled(&self, walker: &Walker<A>) -> Option<u64> {
+        self.places.latest(walker.step(), walker.first_step())
     }
 
     // Keeps a line that asks for a move, for an empty line to repeat, and returns after how many steps that goes on,
@@ -128,10 +135,12 @@ impl<A: Allocator + Copy> Telling<'_, A> {
     ) -> Result<bool, AllocError> {
         match order {
             Order::Quit => return Ok(false),
+            Order::Go(Move::Changed(name)) => self.go_to_change(memo, line, name)?,
             Order::Go(way) => self.go(memo, line, way)?,
             Order::Recall => self.recall(memo, line)?,
             Order::Follow(spot) => self.follow(memo, line, spot)?,
             Order::Locate => self.written_into()?,
+            Order::Where => self.begun_calls_into()?,
             Order::Feed(text) => self.feed(text)?,
             Order::EndInput => {
                 self.walker.end_input();
@@ -148,14 +157,49 @@ impl<A: Allocator + Copy> Telling<'_, A> {
                 self.say(lines.as_slice())?
             }
             Order::Forms => list_into(self.alloc, self.walker.sight().store, self.out)?,
-            Order::Form(name) => form_into(self.walker.sight().store, name, self.out)?,
+            Order::Form(name) => form_into(self.alloc, self.walker.sight().store, name, self.out)?,
             Order::Help => self.say(HELP)?,
         }
         Ok(true)
     }
 
-    // Carries out the move that a line asks for, which is kept, and says where it has come to.
+    // Carries out the move that a line asks for, and says where it has come to, and which doubts there are if it looked
+    // for one.
     fn go(&mut self, memo: &mut Memo<A>, line: &[u8], way: Move<'_>) -> Result<(), AllocError> {
+        let stop = self.moved(memo, line, way)?;
+        match (way, stop) {
+            (Move::ToDoubt | Move::BackToDoubt, None) => {
+                doubts_into(self.alloc, self.walker, self.program, self.out)
+            }
+            _ => Ok(()),
+        }
+    }
+
+    // Goes back to the call that changed the form of this name last, and says what that was before and after.
+    fn go_to_change(
+        &mut self,
+        memo: &mut Memo<A>,
+        line: &[u8],
+        name: &[u8],
+    ) -> Result<(), AllocError> {
+        let after = form_of(self.walker, name)?;
+        match self.moved(memo, line, Move::Changed(name))? {
+            None => {
+                let before = self.walker.sight().store.get(name);
+                change_into(self.alloc, before, after.as_ref(), self.out)
+            }
+            Some(_) => Ok(()),
+        }
+    }
+
+    // Carries out a move, whose line is kept, and says where it has come to. Returns why it stopped before its goal, if
+    // it did.
+    fn moved(
+        &mut self,
+        memo: &mut Memo<A>,
+        line: &[u8],
+        way: Move<'_>,
+    ) -> Result<Option<Stop>, AllocError> {
         let searched = memo.keep_line(self.alloc, line)?;
         let start = self.walker.step();
         let stop = carry_out(self.walker, way, searched);
@@ -164,13 +208,11 @@ impl<A: Allocator + Copy> Telling<'_, A> {
         if is_unmet(stop) && names_no_primitive(way) {
             self.say(NO_PRIMITIVE)?;
         }
-        self.stand()?;
-        match (way, stop) {
-            (Move::ToDoubt | Move::BackToDoubt, None) => {
-                doubts_into(self.alloc, self.walker, self.program, self.out)
-            }
-            _ => Ok(()),
+        if stop.is_some() && is_form_named(self.walker, way) {
+            self.say(FORM_NAMED)?;
         }
+        self.stand()?;
+        Ok(stop)
     }
 
     // Goes back to where the last move began of those that are kept, and says where it has come to.
@@ -223,6 +265,7 @@ impl<A: Allocator + Copy> Telling<'_, A> {
     fn tell_stop(&mut self, stop: Option<Stop>, told: &mut bool) -> Result<(), AllocError> {
         if let Some(stop) = stop {
             self.stop(stop)?;
+            self.recalled_for(stop)?;
         }
         let first_step = self.walker.first_step();
         if *told || first_step == 0 {
@@ -245,6 +288,23 @@ impl<A: Allocator + Copy> Telling<'_, A> {
         }
         self.stand()
     }
+}
+
+// Whether a move looks for a printed text that is the name of a form too.
+fn is_form_named<A: Allocator + Copy>(walker: &Walker<A>, way: Move<'_>) -> bool {
+    match way {
+        Move::PrintedText(text) => walker.sight().store.get(text).is_some(),
+        _ => false,
+    }
+}
+
+// A copy of the form of this name, if there is one. The error is that memory was refused.
+fn form_of<A: Allocator + Copy>(
+    walker: &Walker<A>,
+    name: &[u8],
+) -> Result<Option<Form<A>>, AllocError> {
+    let copy = walker.sight().store.get(name).map(|form| form.copy());
+    copy.transpose().map_err(|_| AllocError)
 }
 
 // Whether a move stopped because what it looked for is not met.

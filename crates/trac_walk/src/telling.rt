@@ -2,7 +2,7 @@
 
 use std::alloc::{AllocError, Allocator};
 use trac_moves::Walker;
-use trac_person_lines::{Stop, Treatment, standing_into, stop_into, treatment_into};
+use trac_person_lines::{Stop, Treatment, recalled_into, standing_into, stop_into, treatment_into};
 
 /// The walker that a reply is about, and the text at whose end it is put.
 #[derive(Drop)]
@@ -11,6 +11,8 @@ pub(crate) struct Telling<'t, A: Allocator + Copy> {
     pub(crate) walker: &'t mut Walker<A>,
     /// The program.
     pub(crate) program: &'t [u8],
+    /// The step to which `m` goes, if it goes anywhere.
+    pub(crate) recalled: Option<u64>,
     pub(crate) out: &'t mut Vec<u8, A>,
 }
 
@@ -35,6 +37,16 @@ impl<A: Allocator + Copy> Telling<'_, A> {
     /// Says why a move stopped.
     pub(crate) fn stop(&mut self, stop: Stop) -> Result<(), AllocError> {
         stop_into(self.alloc, self.walker.first_step(), stop, self.out)
+    }
+
+    /// Says where `m` leads if a move stopped since something was not printed yet, and `m` goes further on than here.
+    pub(crate) fn recalled_for(&mut self, stop: Stop) -> Result<(), AllocError> {
+        match (stop, self.recalled) {
+            (Stop::NotPrinted, Some(step)) if step > self.walker.step() => {
+                recalled_into(self.alloc, step, self.out)
+            }
+            _ => Ok(()),
+        }
     }
 
     /// Says why no byte is followed, and where the walker stands.

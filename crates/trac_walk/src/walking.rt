@@ -46,10 +46,12 @@ impl<'p, A: Allocator + Copy> Replier<A> for Guide<'p, A> {
         line: &[u8],
         out: &mut Vec<u8, A>,
     ) -> Result<bool, AllocError> {
+        let recalled = self.memo.recalled(&self.walker);
         let mut telling = Telling {
             alloc,
             walker: &mut self.walker,
             program: self.program,
+            recalled,
             out,
         };
         telling.reply_into(&mut self.memo, line)
