@@ -2640,16 +2640,38 @@ class Run {
 // Dialogues: the debugger for scripts, and walks. Each line is answered when it has come.
 
 const LINE_LIMIT = 4096, LINE_FEED = 10;
+// So many bytes of a line show that it is too long, also if the last of them is a carriage return before its end.
+const LONGEST_LINE = LINE_LIMIT + 2;
 
 // A dialogue of lines. `ask` answers lines, the first of all; `hasQuit` says whether one of them ended it.
 class Dialogue {
   constructor() {
     this.input = new Taken();
     this.asked = 0;
+    // how much is kept of the line that comes
+    this.width = 0;
   }
 
+  // Takes what has come. Of a line that is too long, which may never end, no more is kept than shows that.
   take(bytes) {
+    let from = 0;
+    for (let at = 0; at < bytes.length;) {
+      const feed = bytes.indexOf(LINE_FEED, at), end = feed < 0 ? bytes.length : feed;
+      const most = at + LONGEST_LINE - this.width;
+      if (end > most) {
+        this.keep(Buffer.from(bytes.subarray(from, most)));
+        from = end;
+      }
+      this.width = feed < 0 ? Math.min(this.width + end - at, LONGEST_LINE) : 0;
+      at = end + 1;
+    }
+    this.keep(from === 0 ? bytes : Buffer.from(bytes.subarray(from)));
+  }
+
+  keep(bytes) {
+    if (bytes.length === 0) return;
     this.input.add(bytes);
+    if (this.input.length > INPUT_LIMIT) throw endOf(NO_MEMORY);
   }
 
   // Answers the whole lines that have come. A line that is too long is answered before its end, but not between

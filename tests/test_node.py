@@ -17,6 +17,7 @@ import select
 import shutil
 import signal
 import subprocess
+import sys
 import termios
 from collections.abc import Iterable, Sequence
 from typing import IO, Any
@@ -39,6 +40,10 @@ run debug help rum debgu walk version page x first.trac - -- -h -V -x -hV --help
 --steps=0 --step --input --input=nowhere --inputs 5 0 +5 65 nowhere -1 --=3 --- é \x1b[31m [x]
 """.split()
 SEED, LINES = 78, 300
+# Runs a command, and says on standard error how many KiB it held at most.
+PEAK = """import resource, subprocess, sys
+status = subprocess.run(sys.argv[1:]).returncode
+sys.exit(print(resource.getrusage(resource.RUSAGE_CHILDREN).ru_maxrss, file=sys.stderr) or status)"""
 
 
 def version() -> int:
@@ -262,6 +267,16 @@ class Streams(InNode):
             run, wanted = ran([NODE, FILE, "run"], given, 65536), ran([TRAC, "run"], given)
             self.status(what, run, wanted.status)
             self.holds(what + " are printed", run.output == wanted.output)
+
+    def test_long_line(self) -> None:
+        """A line of 200 MB is passed over, what comes after it is answered, and memory is taken for neither."""
+        given, file = b"s\n" + bytes(200_000_000) + b"\ns\n", EXAMPLES / "first.trac"
+        wanted = ran([WALK, file], given).output
+        for piece in 0, 1 << 20:
+            run = ran([sys.executable, "-c", PEAK, NODE, FILE, "walk", file], given, piece)
+            self.same("the lines before and after it", run.output, wanted)
+            self.status("a long line", run, 0)
+            self.holds("it takes {} KiB".format(run.error), int(run.error) < 200_000)
 
     def test_input_without_end(self) -> None:
         """A run ends as soon as it can, and a text that grows without end passes the limit."""

@@ -15,6 +15,7 @@ const LINK_FAULTS = {
   later: "This link was made by a later version of this page. Nothing is opened.",
   cut: "This link was cut off or changed on its way. Nothing is opened.",
   large: "This link holds more than 1 MiB. Nothing is opened.",
+  lines: "This link holds more than 10,000 lines of input. Nothing is opened.",
   packed: "This browser cannot unpack links. Nothing is opened.",
 };
 
@@ -83,6 +84,7 @@ function heldInLink(bytes) {
   const stepAndOne = held.number();
   const program = held.text(MOST_HELD);
   const lines = held.number();
+  if (lines >= 2 * (MOST_LINES + 1)) throw new WrongLink(LINK_FAULTS.lines);
   const inputs = [];
   let left = MOST_HELD;
   for (let count = Math.floor(lines / 2); count > 0; count--) {

@@ -47,6 +47,8 @@ class History:
             # (in the locale C a byte of a letter would be taken for a command)
             for setting in ("input-meta on", "output-meta on", "convert-meta off"):
                 readline.parse_and_bind("set " + setting)
+            # (in a search by Ctrl-R, GNU Readline 8.2 breaks off by Ctrl-X and a key that means nothing after it)
+            readline.parse_and_bind(r'"\C-x": redraw-current-line')
             readline.set_history_length(KEPT)
             with contextlib.suppress(OSError):
                 if os.path.isfile(self.place()):

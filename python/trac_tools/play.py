@@ -11,6 +11,7 @@ with a line end, so it cannot be fed in parts.)
 from __future__ import annotations
 
 import argparse
+import contextlib
 import os
 import re
 import select
@@ -51,6 +52,7 @@ COUNTS = re.compile("step +[0-9]+, back to [0-9]+; ([0-9]+) byte")
 LOADED = "nothing is left: the idle program is loaded"
 NOT_YET = "that was not printed up to here"
 FORGOTTEN = "steps before "
+REFUSED = "there is no memory for this"
 
 
 class Place:
@@ -75,7 +77,8 @@ class Walk:
         self.debugger = Debugger(self.command, self.memory, self.fed)
 
     def move(self, command: str) -> str | None:
-        """Carries out a command; returns what is said beside where the walk stands then; none where it is refused."""
+        """Carries out a command; returns what is said beside where the walk stands then; none where it is refused. (For
+        want of memory that is a fault: the program may go on.)"""
         self.debugger.give(command + "\np\n")
         lines = [self.debugger.line()]
         while not (counts := COUNTS.match(lines[-1])):
@@ -84,6 +87,8 @@ class Walk:
         assert meta
         self.read, self.meta = len(self.fed) - int(counts[1]), bytes_of(meta[1])
         stands = [(place, where) for place, line in enumerate(lines) for where in [STANDS.match(line)] if where]
+        if REFUSED in lines:
+            raise NoMemory
         if not stands:
             return None
         place, where = stands[0]
@@ -103,12 +108,13 @@ class Walk:
         return found[1].lower()
 
     def feed(self, text: bytes) -> bool:
-        """Feeds more input; whether it is taken. What is no line, or too long for a command, begins another walk, which
-        goes as far."""
+        """Feeds more input; whether it is taken. What is no line, is too long for a command, or for which this walk has
+        no memory left, begins another walk, which goes as far."""
         self.fed += text
         command = 'i "{}"'.format("".join(map(quoted, text[:-1])))
-        if text.endswith(b"\n") and len(command) <= COMMAND:
-            return self.move(command) is not None
+        with contextlib.suppress(NoMemory):
+            if text.endswith(b"\n") and len(command) <= COMMAND:
+                return self.move(command) is not None
         self.debugger.end()
         self.debugger = Debugger(self.command, self.memory, self.fed)
         return not self.move("g {}".format(self.at))
@@ -126,11 +132,15 @@ class Walk:
         return is_idle
 
     def has_printed(self, count: int) -> bool:
-        """Whether the program has printed more than so many bytes up to here."""
+        """Whether the program has printed more than so many bytes up to here. (Where there is no memory to look, nobody
+        waits for them.)"""
         at = self.at
-        said = self.said("w #{}".format(count + 1))
-        if self.at != at:
-            self.move("g {}".format(at))
+        try:
+            said = self.said("w #{}".format(count + 1))
+            if self.at != at:
+                self.move("g {}".format(at))
+        except NoMemory:
+            return False
         return NOT_YET not in said
 
 
@@ -173,7 +183,8 @@ class Look:
             self.place = Place("unknown")
         except (Fault, OSError, ValueError):
             self.place = Place("stops" if self.stopped else "unknown")
-        os.write(self.tells, b".")
+        finally:
+            os.write(self.tells, b".")
 
     def found(self) -> Place:
         """The place that was found."""
@@ -204,7 +215,7 @@ class Look:
                 call = "idle" if walk.is_idle() else walk.call()
                 return Place("ended" if call == "idle" and self.is_over() else "waits", walk.read, call, walk.meta)
             if said:
-                return Place("unknown" if "memory" in said else "stops")
+                return Place("stops")
 
     def unread(self, start: int) -> bytes | bytearray:
         """What is not read of the input from here on, if that is more than blanks."""

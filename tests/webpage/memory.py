@@ -1,4 +1,5 @@
-"""What a tab takes of memory for large programs: at most 1 GiB, at any moment. And what is said of them."""
+"""What a tab takes of memory for large programs: at most 1 GiB, at any moment; for files that are too long, nothing. And
+what is said of them."""
 from __future__ import annotations
 
 import contextlib
@@ -150,6 +151,34 @@ def check_opened(page: Deeds, room: str) -> None:
     check(tab.peak() <= MOST, "a file that is only opened takes {} MiB".format(tab.peak() // MIB))
 
 
+def drop(page: Deeds, path: str) -> None:
+    """Drops a file on the page, as from another window."""
+    data = {"items": [], "files": [path], "dragOperationsMask": 1}
+    for kind in ("dragEnter", "dragOver", "drop"):
+        page.call("Input.dispatchDragEvent", type=kind, x=400, y=300, data=data)
+
+
+def check_dropped(page: Deeds, room: str) -> None:
+    """Files that are dropped and are too long, also by far: that is told, and nothing of them is read."""
+    tab = Tab(page)
+    page.type("#(ps,kept)'")
+    for mebibytes in (33, 200):
+        path = os.path.join(room, "long-{}.trac".format(mebibytes))
+        with open(path, "wb") as out:
+            # (the file takes no room on the disk)
+            out.truncate(mebibytes * MIB)
+        tab.forget()
+        before = tab.peak()
+        drop(page, path)
+        said = "{} has {:,} bytes: a program may have at most {:,}. Nothing is opened.".format(
+            os.path.basename(path), mebibytes * MIB, MOST_BYTES)
+        page.until("document.getElementById('ending').textContent === '{}'".format(said), "it is said: " + said)
+        page.frames()
+        check(page.script("document.getElementById('source').value") == "#(ps,kept)'", "the program stays")
+        more = tab.peak() - before
+        check(more < 16 * MIB, "a file of {} MiB that is dropped takes {} MiB".format(mebibytes, more // MIB))
+
+
 @contextlib.contextmanager
 def a_room(_: Deeds) -> Iterator[str]:
     """A folder for files."""
@@ -158,4 +187,4 @@ def a_room(_: Deeds) -> Iterator[str]:
 
 
 # (Chromium tells what its processes take)
-TRIED = rows(check_opened, check_programs, check_refused, given=a_room, where=CHROMIUM, seconds=30)
+TRIED = rows(check_dropped, check_opened, check_programs, check_refused, given=a_room, where=CHROMIUM, seconds=30)

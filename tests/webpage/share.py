@@ -149,6 +149,8 @@ def check_wrong(page: Deeds, file: str) -> None:
     rows = [(text, "cut off or changed") for text in changed + cut + false]
     rows += [(text, "not one that this page made") for text in ("#help", "#1d*", "#29")] + [("#2d00", "a later version")]
     rows += [(text, "more than 1 MiB") for text in (link(body(bytes(1 << 20) + b"a")), "#1d" + signs(packed(bytes(1 << 25))))]
+    # (a page would be at work on so many lines for minutes)
+    rows.append((link(body(b"a", [(0, b"x'")] * 10001)), "more than 10,000 lines of input"))
     for text, words in rows:
         follow(page, link(body(b"before")))
         follow(page, text)
