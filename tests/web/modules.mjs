@@ -1,7 +1,7 @@
 // Modules of the page in Node: none of them shows anything here.
 globalThis.document ??= { getElementById: () => ({ textContent: 'null' }) }
 
-const { movedAnew } = await import('../../web/arriving.js')
+const { movedAnew } = await import('../../web/anew.js')
 const { measure } = await import('../../web/measure.js')
 const { endOfArgument, formsSet, isSlip, remedied } = await import('../../web/remedies.js')
 const { Story } = await import('../../web/story.js')
