@@ -11,8 +11,9 @@ import { IDLE_TEXTS } from "./stretch.js";
 
 // Where the processor keeps no more steps, or looks no farther: from there the same is looked for again.
 const ENDED = /not met since the first step that is kept, step (\d+)|m goes to step (\d+), where the search ended/;
-// The same of a call whose value ends here, or of where it began.
-const UNMET = /no value of a call since step|not met since the first step/;
+// So many states are looked at first, and each time so many times as many more.
+const FIRST_LOOK = 16;
+const MORE_LOOKS = 4;
 
 /**
  * A move of trac-walk, without a limit but time: back to a call, forward to one, to where the innermost begun call began, or back over
@@ -28,7 +29,7 @@ export async function movedAnew(engine, run, from, line, isWanted) {
   const first = await movedTo(engine, run, from, line, isWanted);
   let moved = first, at = from;
   if (line === "O") return soughtBegin(engine, run, from, first, isWanted);
-  if (line === "N" && UNMET.test(first.said)) return soughtOver(engine, run, from, first, isWanted);
+  if (line === "N" && !first.isAllKept) return soughtOver(engine, run, from, first, isWanted);
   while ("ru".includes(line)) {
     const next = endOfSearch(moved.said);
     // (at the start, or where nothing is gained, it ends)
@@ -95,8 +96,8 @@ export async function beginOf(engine, run, step) {
 }
 
 /**
- * Goes back over the call that gave what stands here, where it began before the first step that is kept. After its `)` as much was left to
- * scan as is here, and since then no less; of several, it is the earliest.
+ * Goes back over the call that gave what stands here, where it may have begun before the first step that is kept. After its `)` as much was
+ * left to scan as is here, and since then no less; of several, it is the earliest.
  * @param {Engine} engine
  * @param {Run} run
  * @param {number} from
@@ -114,7 +115,7 @@ async function soughtOver(engine, run, from, first, isWanted) {
   // (the idle program's own calls are not listed: of its `#(ps,#(rs))` the value of `rs` ends before the last sign)
   const performed = calls.length === 1 && active === ")" ? around + IDLE_TEXTS.length - 1
     : await earliestOf(engine, run, { around, depth: calls.length, rest: lengthOf(active) }, from);
-  if (performed === null) return { ...first, said: "the value of no call ends here" };
+  if (performed === null) return first.step < from ? first : { ...first, said: "the value of no call ends here" };
   return movedAnew(engine, run, performed, "O", isWanted);
 }
 
@@ -145,8 +146,8 @@ async function earliestOf(engine, run, { around, depth, rest }, before) {
     const calls = await callsOf(engine, run.tape, to, run.isClosed);
     // (they are set in by how many calls of the program's own are begun around them)
     const steps = calls.steps.filter((step, index) => calls.depths[index] === depth - 1 && step >= around);
-    while (steps.length) {
-      const some = steps.splice(-run.story.roomFor(1)).reverse();
+    for (let count = FIRST_LOOK; steps.length; count *= MORE_LOOKS) {
+      const some = steps.splice(-Math.min(count, run.story.roomFor(1))).reverse();
       const states = await run.story.at(some);
       for (const step of some) {
         const left = lengthOf(states.get(step)?.active ?? "") - 1;

@@ -10,8 +10,9 @@ const LOOKS = ["p all", "b", "p all", "s", "p all", "s", "p all"];
 const FORGOTTEN = /^steps before \d+ are forgotten/m;
 
 /**
- * What a move came to: what is said of it, the step where it arrives, and the states there, if they were wanted and came whole.
- * @typedef {{ said: string, step: number, window: import("./story.js").Window | null }} Arrived
+ * What a move came to: what is said of it, the step where it arrives, the states there, if they were wanted and came whole, and whether
+ * the processor kept all steps on the way.
+ * @typedef {{ said: string, step: number, window: import("./story.js").Window | null, isAllKept: boolean }} Arrived
  */
 
 /**
@@ -32,7 +33,7 @@ export async function movedTo(engine, { tape, isClosed }, from, line, isWanted) 
   const text = end < 0 ? replies.text : replies.text.slice(0, end);
   const told = text.trimEnd().split("\n").filter((one) => !FORGOTTEN.test(one));
   const said = told.slice(1 + ended.length, -1).join(" ");
-  return { said, step: stepSaid(text), window: end < 0 ? null : arrived(replies, stepSaid(text)) };
+  return { said, step: stepSaid(text), window: end < 0 ? null : arrived(replies, stepSaid(text)), isAllKept: !FORGOTTEN.test(text) };
 }
 
 // The states at a step and beside it, in a dialogue that shows each after the line of its step.
