@@ -190,7 +190,7 @@ export class View {
     try {
       for (let at = null; at !== this.lightWanted && page.run;) {
         at = this.lightWanted;
-        const place = await placeInProgram(page, at.step).catch(() => null);
+        const place = await placeInProgram(page, at.step, () => at === this.lightWanted).catch(() => null);
         if (at === this.lightWanted) this.lit(place);
       }
     } finally {
@@ -261,15 +261,19 @@ export class View {
 }
 
 // Where what comes next was written: a byte of all input, or nothing.
-/** @param {import("./page.js").Page} page */
-async function placeInProgram(page, step) {
+/**
+ * @param {import("./page.js").Page} page
+ * @param {number} step
+ * @param {() => boolean} isWanted
+ */
+async function placeInProgram(page, step, isWanted) {
   const state = page.run.story.kept(step);
   if (!state) return null;
   const places = [];
   if (state.active) places.push("active");
   if (state.parts.calls.length) places.push(`argument ${state.parts.calls.length - 1} 0`);
   for (const place of places) {
-    const rows = await followed(page, place, step, 0, page.ahead).catch(() => []);
+    const rows = await followed(page, place, step, 0, page.ahead, isWanted).catch(() => []);
     const last = rows[rows.length - 1];
     if (last?.deed === "reads") return last.byte;
   }
