@@ -136,25 +136,50 @@ export async function stoodAt(engine, run, early, step, spot) {
   const states = await run.story.at([early, step]);
   const [was, is] = [early, step].map((one) => /** @type {State} */ (states.get(one)));
   if (spot.kind === KINDS.output) return { step: early, spot };
-  if (spot.kind === KINDS.form) return { step: await sinceCut(run, early, step, spot.name), spot };
+  if (spot.kind === KINDS.form) return inForm(run, early, step, spot);
   if (spot.kind === KINDS.active) return stillToScan(was, early, activeLength(is) - spot.numbers[0]);
   return spot.kind === KINDS.argument ? gathered(engine, run, early, step, spot) : null;
 }
 
 /**
- * Since when a form is as it is at a step, but for its pointer; not before another one. (It is the same one all the time, so only `ss` has
- * changed it, after which it is never again as it was.)
+ * The same of a form: since when it is as it is at a step, but for its pointer; or where the byte was before that. (It is the same form all
+ * the time, so only `ss` has changed it, after which it is never again as it was.)
  * @param {Run} run
  * @param {number} early
  * @param {number} step
- * @param {Uint8Array} name
+ * @param {Spot} spot
  */
-async function sinceCut(run, early, step, name) {
+async function inForm(run, early, step, spot) {
   /** @param {State | undefined} state */
-  const textIn = (state) => state && formOf(state, name)?.text.replace(POINTER, "");
-  const now = textIn((await run.story.at([step])).get(step));
-  if (textIn((await run.story.at([early])).get(early)) === now) return early;
-  return (await firstWith(run, early, step, (state) => textIn(state) === now)).to;
+  const textIn = (state) => state && formOf(state, spot.name)?.text.replace(POINTER, "");
+  const states = await run.story.at([early, step]);
+  const now = textIn(states.get(step));
+  if (textIn(states.get(early)) === now) return { step: early, spot };
+  const { from, to } = await firstWith(run, early, step, (state) => textIn(state) === now);
+  if (to < step) return { step: to, spot };
+  const around = await run.story.at([from, to]);
+  const [before, after] = [from, to].map((one) => /** @type {State} */ (around.get(one)));
+  const item = itemBefore(before, after, spot);
+  return item === null ? null : { step: from, spot: { ...spot, numbers: [item] } };
+}
+
+/**
+ * The number of an item of a form before `ss` cut it: where there is a gap now, and was none, its text stood.
+ * @param {State} before
+ * @param {State} after
+ * @param {Spot} spot
+ */
+function itemBefore(before, after, spot) {
+  const texts = moveFrom(before, after).call?.texts ?? [];
+  const [old, now] = [before, after].map((state) => itemsOf(formOf(state, spot.name)?.text ?? "").items);
+  let at = 0;
+  for (const { gap } of now.slice(0, spot.numbers[0])) {
+    const text = gap !== undefined && old[at]?.byte !== undefined ? texts[1 + gap] ?? "" : null;
+    const length = text === null ? 1 : lengthOf(text);
+    if (text !== null && old.slice(at, at + length).map(({ byte }) => byte).join("") !== text) return null;
+    at += length;
+  }
+  return old[at]?.byte === now[spot.numbers[0]]?.byte ? at : null;
 }
 
 /**
