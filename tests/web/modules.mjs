@@ -107,7 +107,7 @@ async function keptAnew(engine, holds) {
             holds(`${JSON.stringify(spot)} at ${step}: ${other}, and not ${one}`, one === other)
         }
     }
-    holds(`ways that end in the program: ${ways.ends}`, ways.ends > 9)
+    holds(`ways that end in the program: ${ways.ends}`, ways.ends > 5)
 }
 
 // All that. `holds` counts a check.
