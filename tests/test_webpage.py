@@ -16,8 +16,8 @@ from webpage import (
 )
 from webpage.rows import Row, kinds_of, name_of
 
-GROUPS = (anew, answers, by_keys, course, editing, folding, given, keeping, lacking, looks, many, memory, minute, player,
-          programs, reading, share, staying, teaching, touching, trials, window, wording)
+GROUPS = (anew, answers, by_keys, course, editing, folding, given, keeping, lacking, looks, many, memory, minute,
+          player, programs, reading, share, staying, teaching, touching, trials, window, wording)
 PAGE = os.path.realpath(os.environ.get("TRAC_PAGE") or TOP / "release" / "trac.html")
 # Where rows stand, and what there is no row.
 FOLDER, SHARED = os.fspath(TESTS / "webpage"), {"pages.py", "lending.py", "rows.py", "seen.py", "names.py"}

@@ -93,7 +93,8 @@ async function keptAnew(engine, holds) {
     const run = await runOf(engine, TURNING), few = asked(engine, 16)
     for (let from = run.end; from > 0; from -= 31) {
         const [one, other] = [await movedAnew(asked(engine), run, from, 'N', false), await movedAnew(few, run, from, 'N', false)]
-        holds(`N from ${from}: to ${other.step} (${other.said}), and not ${one.step} (${one.said})`, one.step === other.step && one.said === other.said)
+        const [wanted, found] = [one, other].map(({ step, said }) => `to ${step}, ${said}`)
+        holds(`N from ${from}: ${found}, and not ${wanted}`, found === wanted)
     }
     const ways = { ends: 0, said: (rows) => rows.map(({ step, deed, byte }) => [step, deed, byte].join(' ')).join('; ') }
     for (const step of [run.end - 9, 200]) {

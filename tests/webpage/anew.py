@@ -1,5 +1,5 @@
-"""A run of more steps than the processor keeps: a move over a call and the way of a byte go on where the steps end that are
-kept."""
+"""A run of more steps than the processor keeps: a move over a call, and the way of a byte, go on where the steps end
+that are kept."""
 from webpage.pages import Deeds, check
 from webpage.rows import rows
 
@@ -10,17 +10,24 @@ PROGRAM = ("#(ds,toll,3)#(ds,name,(Ann))'\n"
            "#(cl,count,1,0)#(ps,[##(cl,toll)##(cl,name)])'\n")
 KEPT_STEPS = 1_048_576
 ACTIVE = "[...document.querySelectorAll('#active [data-byte]')].map((cell) => cell.textContent).join('')"
-# Clicks a sign of the output.
-CLICK = ("(() => {{ const text = document.querySelector('#output [data-byte]').firstChild; const at = text.data.indexOf('{0}'); "
-         "const range = document.createRange(); range.setStart(text, at); range.setEnd(text, at + 1); "
-         "const box = range.getBoundingClientRect(); return [box.x + box.width / 2, box.y + box.height / 2]; }})()")
+# Where a sign of the output is.
+PLACE = """(() => {{
+  const text = document.querySelector('#output [data-byte]').firstChild, at = text.data.indexOf('{0}');
+  const range = document.createRange();
+  range.setStart(text, at);
+  range.setEnd(text, at + 1);
+  const box = range.getBoundingClientRect();
+  return [box.x + box.width / 2, box.y + box.height / 2];
+}})()"""
+STEPS = "[...document.querySelectorAll('#way-list [data-go]')].map((link) => Number(link.dataset.go))"
 
 
 def place_of(text: str, before: str) -> str:
     """Line and column of what stands in the program after some signs."""
-    line, place = next((number, row.index(before) + len(before)) for number, row in enumerate(PROGRAM.split("\n"), 1) if before in row)
-    check(PROGRAM.split("\n")[line - 1][place:].startswith(text), "what stands there")
-    return "line {}, column {}".format(line, place + 1)
+    lines = PROGRAM.split("\n")
+    line, place = next((at, row.index(before) + len(before)) for at, row in enumerate(lines) if before in row)
+    check(lines[line][place:].startswith(text), "what stands there")
+    return "line {}, column {}".format(line + 1, place + 1)
 
 
 def begin(page: Deeds) -> None:
@@ -42,17 +49,20 @@ def check_over(page: Deeds) -> None:
         page.until("{}.startsWith('{}')".format(ACTIVE, front), "{} leads to {}".format(key, front))
     check(int(page.script("document.getElementById('slider').value")) < 200, "the call began early")
     page.press("N")
-    page.until("document.getElementById('note').textContent === 'the value of no call ends here'", "no value ends there")
+    said = "document.getElementById('note').textContent === 'the value of no call ends here'"
+    page.until(said, "no value ends there")
 
 
 def check_ways(page: Deeds) -> None:
-    """The signs of a form that was set long before are followed to where they were written."""
+    """The signs of forms that were set long before are followed to where they were written."""
     for sign, before in (("2", "60,(#(ds,toll,"), ("A", "name,(")):
         place = place_of(sign, before)
-        page.click_at(*page.script(CLICK.format(sign)))
-        page.until("document.getElementById('way-list').textContent.endsWith('reads it: {}')".format(place), "{} comes from {}".format(sign, place))
-        steps = page.script("[...document.querySelectorAll('#way-list [data-go]')].map((link) => Number(link.dataset.go))")
-        check(len(steps) >= 4 and steps == sorted(set(steps), reverse=True), "each call stands there once: {}".format(steps))
+        page.click_at(*page.script(PLACE.format(sign)))
+        ends = "document.getElementById('way-list').textContent.endsWith('reads it: {}')".format(place)
+        page.until(ends, "{} comes from {}".format(sign, place))
+        steps = page.script(STEPS)
+        is_once = len(steps) >= 4 and steps == sorted(set(steps), reverse=True)
+        check(is_once, "each call stands there once: {}".format(steps))
 
 
 TRIED = rows(check_over, check_ways, before=begin, seconds=10)
