@@ -29,7 +29,8 @@ export async function movedAnew(engine, run, from, line, isWanted) {
   const first = await movedTo(engine, run, from, line, isWanted);
   let moved = first, at = from;
   if (line === "O") return soughtBegin(engine, run, from, first, isWanted);
-  if (line === "N" && !first.isAllKept) return soughtOver(engine, run, from, first, isWanted);
+  // (of states that are large no more are fetched than are shown)
+  if (line === "N" && !first.isAllKept && run.story.isSmall) return soughtOver(engine, run, from, first, isWanted);
   while ("ru".includes(line)) {
     const next = endOfSearch(moved.said);
     // (at the start, or where nothing is gained, it ends)

@@ -73,6 +73,8 @@ export async function wayFrom(engine, run, step, spot, isWanted = () => true) {
  * @param {number} early
  */
 async function onFrom(engine, run, step, spot, rows, early) {
+  // (of states that are large no more are fetched than are shown)
+  if (!run.story.isSmall) return null;
   const [last, later] = [rows.at(-1), rows.at(-2)];
   if (!last) {
     const stood = await stoodAt(engine, run, early, step, spot);

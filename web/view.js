@@ -190,7 +190,7 @@ export class View {
     try {
       for (let at = null; at !== this.lightWanted && page.run;) {
         at = this.lightWanted;
-        const place = await placeInProgram(page, at.step, () => at === this.lightWanted).catch(() => null);
+        const place = await placeInProgram(page, at.step).catch(() => null);
         if (at === this.lightWanted) this.lit(place);
       }
     } finally {
@@ -260,20 +260,16 @@ export class View {
   }
 }
 
-// Where what comes next was written: a byte of all input, or nothing.
-/**
- * @param {import("./page.js").Page} page
- * @param {number} step
- * @param {() => boolean} isWanted
- */
-async function placeInProgram(page, step, isWanted) {
+// Where what comes next was written: a byte of all input, or nothing. (It is not followed on from before the steps that are kept.)
+/** @param {import("./page.js").Page} page */
+async function placeInProgram(page, step) {
   const state = page.run.story.kept(step);
   if (!state) return null;
   const places = [];
   if (state.active) places.push("active");
   if (state.parts.calls.length) places.push(`argument ${state.parts.calls.length - 1} 0`);
   for (const place of places) {
-    const rows = await followed(page, place, step, 0, page.ahead, isWanted).catch(() => []);
+    const rows = await followed(page, place, step, 0, page.ahead, () => false).catch(() => []);
     const last = rows[rows.length - 1];
     if (last?.deed === "reads") return last.byte;
   }
