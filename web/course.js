@@ -1,7 +1,7 @@
 // The course: a lesson or an exercise beside the editor. An exercise is checked by running the program of the editor.
 import { leftOut } from "./bytes.js";
 import { addCells } from "./cells.js";
-import { Stopped } from "./engine.js";
+import { Stopped, wordsOf } from "./engine.js";
 import { isOff, setOff } from "./focus.js";
 import { addMarkdown, titleOf } from "./markdown.js";
 import { inputAfter, judged } from "./judging.js";
@@ -131,7 +131,7 @@ export class Course {
       if (failed) said.replaceChildren(...this.failure(failed, program, runs));
       else said.replaceChildren(make("p", "right", "✓ It is solved."));
     } catch (fault) {
-      said.replaceChildren(fault instanceof Stopped ? "The check was stopped." : fault.message);
+      said.replaceChildren(fault instanceof Stopped ? "The check was stopped." : wordsOf(fault));
     }
     said.lastElementChild?.scrollIntoView({ block: "nearest" });
   }

@@ -1,6 +1,6 @@
 // The cursor: the step of the run that is shown, and moves from it to others.
 import { wordsSaid } from "./announce.js";
-import { movedAnew } from "./arriving.js";
+import { movedAnew } from "./anew.js";
 import { foldedSpan, tokenLength, tokenStart } from "./stretch.js";
 import { callsOf } from "./calls.js";
 import { lastChange } from "./changed.js";

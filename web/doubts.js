@@ -10,6 +10,8 @@ const MOST_DOUBTS = 30;
 // All rows of doubts have room in so many bytes: there are 1,000 at most.
 const ROOM_OF_DOUBTS = 1 << 18;
 
+const ENDS_NOTHING = ") ends no call";
+
 /**
  * What is doubted: at a step, or of the text of the program; the byte where it stands, and the one before which it ends; what is said
  * of it, and beside that.
@@ -29,7 +31,11 @@ function doubtsSaid(bytes, tape) {
     if (found) doubts.push({ step: Number(found[4]), byte: place(found[1], found[2]), words: found[3], notes: [] });
     // (a note goes on with the doubt before it)
     const note = /^:(\d+):(\d+): note: (?:(.+) here|this (.) (.+))$/.exec(row);
-    if (note && doubts.length) doubts.at(-1).notes.push(noteSaid(note, isWithinWords(tape, place(note[1], note[2]))));
+    const doubt = doubts.at(-1);
+    if (!note || !doubt) continue;
+    doubt.notes.push(noteSaid(note, isWithinWords(tape, place(note[1], note[2]))));
+    // (else it stands where its text begins)
+    if (note[4] && doubt.words === ENDS_NOTHING) doubt.byte = place(note[1], note[2]);
   }
   return doubts;
 }

@@ -63,7 +63,7 @@ class Turns {
   }
 }
 
-class Engine {
+export class Engine {
   // The bytes of the module, the text of the Worker, and how many bits numbers have.
   constructor(module, source, decimals, turns = new Turns()) {
     this.module = module;

@@ -32,10 +32,34 @@ export function plainRun(active) {
   return lengthOf(end < 0 ? active : active.slice(0, end));
 }
 
-// The step from a state to the next: its rule, what it took, moved and put, and the call that it performed.
+/**
+ * A step: its rule, what it took, moved and put, what it printed, and the call that it performed, with its value.
+ * @typedef {object} Move
+ * @property {string} rule
+ * @property {string} taken
+ * @property {string} put
+ * @property {string} moved
+ * @property {string} printed
+ * @property {import("./parts.js").Begun | null} call
+ * @property {string} grown what was put at the end of the scanned text
+ * @property {string} [value]
+ * @property {boolean} [scanned] whether the value is scanned
+ * @property {boolean} [isLast]
+ * @property {string} [form] the form that a call reads, if the call left it as it was
+ * @property {{ call: import("./parts.js").Begun, index: number }} [ended]
+ * @property {any[]} [words]
+ */
+
+/**
+ * The step from a state to the next.
+ * @param {import("./replies.js").State} before
+ * @param {import("./replies.js").State} after
+ * @returns {Move}
+ */
 export function moveFrom(before, after) {
   const rule = ruleOf(before);
   const active = before.active;
+  /** @type {Move} */
   const move = { rule, taken: "", put: "", moved: "", printed: "", call: null, grown: "" };
   if (rule === "i") move.put = after.active;
   if (rule === "(") {

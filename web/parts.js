@@ -11,7 +11,7 @@ function textsIn(line) {
 }
 
 // A begun call of a line. There may be very many, so texts are taken apart where they are asked for.
-class Begun {
+export class Begun {
   constructor(text, line) {
     this.text = text;
     this.line = line;

@@ -260,7 +260,7 @@ export class View {
   }
 }
 
-// Where what comes next was written: a byte of all input, or nothing.
+// Where what comes next was written: a byte of all input, or nothing. (It is not followed on from before the steps that are kept.)
 /** @param {import("./page.js").Page} page */
 async function placeInProgram(page, step) {
   const state = page.run.story.kept(step);
@@ -269,7 +269,7 @@ async function placeInProgram(page, step) {
   if (state.active) places.push("active");
   if (state.parts.calls.length) places.push(`argument ${state.parts.calls.length - 1} 0`);
   for (const place of places) {
-    const rows = await followed(page, place, step, 0, page.ahead).catch(() => []);
+    const rows = await followed(page, place, step, 0, page.ahead, () => false).catch(() => []);
     const last = rows[rows.length - 1];
     if (last?.deed === "reads") return last.byte;
   }

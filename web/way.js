@@ -74,8 +74,9 @@ export class Way {
   // One way of a byte. It is shown as soon as it is known, and its calls once they are. Returns from where to go on, if from
   // anywhere.
   async hop(from, turn) {
-    const found = shortened(await followed(this.page, from.place, from.step, from.number));
-    if (turn !== this.turn) return null;
+    const isWanted = () => turn === this.turn;
+    const found = shortened(await followed(this.page, from.place, from.step, from.number, this.page.engine, isWanted));
+    if (!isWanted()) return null;
     this.rows.push(...found);
     this.draw();
     const states = await this.page.run.story.at([from.step, ...found.map((row) => row.step).filter((step) => step >= 0)]);

@@ -101,7 +101,7 @@ async function reply(compiled, request) {
     const { status, bytes } = answer(instance, asked);
     page.postMessage({ number, status, bytes, memory: instance.exports.memory.buffer.byteLength }, [bytes.buffer]);
   } catch (fault) {
-    page.postMessage({ number, refused: fault.message, isShort: instance !== null && isShort(instance, asked) });
+    page.postMessage({ number, refused: fault instanceof Error ? fault.message : String(fault), isShort: instance !== null && isShort(instance, asked) });
     // (one that was cut off is not used again)
     if (!(fault instanceof Refusal)) instance = null;
   }

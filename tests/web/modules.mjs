@@ -1,16 +1,18 @@
 // Modules of the page in Node: none of them shows anything here.
 globalThis.document ??= { getElementById: () => ({ textContent: 'null' }) }
 
-const { movedAnew } = await import('../../web/arriving.js')
+const { movedAnew } = await import('../../web/anew.js')
+const { wayFrom } = await import('../../web/follow.js')
 const { measure } = await import('../../web/measure.js')
 const { endOfArgument, formsSet, isSlip, remedied } = await import('../../web/remedies.js')
 const { Story } = await import('../../web/story.js')
 
-// What the page asks its Worker, asked of the module.
-const asked = (engine) => ({
-    ask: async (call, tape, { commands, journal = 1048576, keep = 268435456, budget, most = Infinity }) => {
+// What the page asks its Worker, asked of the module; of the steps that a move or a way goes back over, it keeps so many.
+const asked = (engine, kept = 1048576) => ({
+    ask: async (call, tape, { commands, journal = 1048576, keep = 268435456, budget, most = Infinity, step, kind, numbers, name }) => {
         const { status, reply } = call === 'run' ? engine.run(tape, budget)
-            : call === 'walk' ? engine.walk(tape, commands, journal, keep) : engine.debug(tape, commands, journal)
+            : call === 'way' ? engine.way(tape, step, kind, numbers, name, kept)
+            : call === 'walk' ? engine.walk(tape, commands, Math.min(journal, kept), keep) : engine.debug(tape, commands, journal)
         return reply.length > most ? { status: 9, bytes: reply.subarray(0, most) } : { status, bytes: reply }
     },
 })
@@ -76,9 +78,43 @@ async function longMoves(engine, holds) {
     }
 }
 
+// A run of a program with all of its input, for a processor that keeps all steps.
+async function runOf(engine, text) {
+    const tape = Buffer.from(text)
+    const came = await measure(asked(engine), tape, true, 100_000)
+    return { ...came, tape, isClosed: true, story: new Story(asked(engine), tape, came.landmarks) }
+}
+
+// A form that calls itself, and then a form that was set before: its name, its gap and its text are read long before.
+const TURNING = "#(ds,name,(Ann))#(ds,L,(#(eq,N,0,,(#(cl,L,#(su,N,1))))))'#(ss,L,N)'#(ps,(x)##(cl,name))#(cl,L,9)#(ps,##(cl,name)!)'"
+
+// Moves over a call, and ways: if 16 steps are kept, they come to the same as if all are, which is what the processor is proved to say.
+async function keptAnew(engine, holds) {
+    const run = await runOf(engine, TURNING), few = asked(engine, 16)
+    for (let from = run.end; from > 0; from -= 31) {
+        const [one, other] = [await movedAnew(asked(engine), run, from, 'N', false), await movedAnew(few, run, from, 'N', false)]
+        const [wanted, found] = [one, other].map(({ step, said }) => `to ${step}, ${said}`)
+        holds(`N from ${from}: ${found}, and not ${wanted}`, found === wanted)
+    }
+    const ways = { ends: 0, said: (rows) => rows.map(({ step, deed, byte }) => [step, deed, byte].join(' ')).join('; ') }
+    for (const step of [run.end - 9, 200]) {
+        const { parts } = (await run.story.at([step])).get(step), name = new Uint8Array(0)
+        const spots = [...Array(Math.ceil(parts.active.length / 9))].map((_, at) => ({ kind: 1, numbers: [9 * at], name }))
+        parts.calls.forEach(({ texts }, depth) => texts.forEach((text, at) => text && spots.push({ kind: 3, numbers: [depth, at, 0], name })))
+        parts.forms.forEach((form) => spots.push({ kind: 4, numbers: [1], name: new Uint8Array(Buffer.from(form.name)) }))
+        for (const spot of spots) {
+            const [one, other] = [await wayFrom(asked(engine), run, step, spot), await wayFrom(few, run, step, spot)].map(ways.said)
+            if (/read/.test(one)) ways.ends++
+            holds(`${JSON.stringify(spot)} at ${step}: ${other}, and not ${one}`, one === other)
+        }
+    }
+    holds(`ways that end in the program: ${ways.ends}`, ways.ends > 5)
+}
+
 // All that. `holds` counts a check.
 export async function modules(engine, holds) {
     slips(holds)
     remedies(holds)
     await longMoves(engine, holds)
+    await keptAnew(engine, holds)
 }
