@@ -8,7 +8,10 @@ const MOST_BYTES: usize = 4;
 
 /// Puts a text at the end of another one: characters beyond ASCII as themselves, if they can be seen, and every other
 /// byte as `trac debug` shows it. The error is that memory was refused.
-pub(crate) fn shown_into<A: Allocator>(text: &[u8], out: &mut Vec<u8, A>) -> Result<(), AllocError> {
+pub(crate) fn shown_into<A: Allocator>(
+    text: &[u8],
+    out: &mut Vec<u8, A>,
+) -> Result<(), AllocError> {
     let mut rest = text;
     for _ in 0..text.len() {
         let len = character_len(rest).max(1);
@@ -34,10 +37,7 @@ fn character_len(text: &[u8]) -> usize {
         [0xe0, 0xa0..=0xbf, 0x80..=0xbf, ..] => 3,
         [0xe1..=0xef, second, third, ..] if is_next(*second) && is_next(*third) => long_len(text),
         [0xf0..=0xf4, second, third, fourth, ..]
-            if is_next(*second) && is_next(*third) && is_next(*fourth) =>
-        {
-            long_len(text)
-        }
+            if is_next(*second) && is_next(*third) && is_next(*fourth) => { long_len(text) }
         _ => 0,
     }
 }

@@ -21,8 +21,8 @@ pub use doubting::doubt_into;
 pub use form_list::{form_into, list_into};
 pub use given::{given_into, only_byte};
 pub use notes::{
-    FORM_NAMED, Later, NO_PLACE, NO_PRIMITIVE, SEARCH_LIMIT, Stop, later_into, no_end_into, recalled_into, refused,
-    stop_into, window_into,
+    FORM_NAMED, Later, NO_PLACE, NO_PRIMITIVE, SEARCH_LIMIT, Stop, later_into, no_end_into,
+    recalled_into, refused, stop_into, window_into,
 };
 pub use piece::{piece_around_into, piece_into};
 pub use screen::screen_into;

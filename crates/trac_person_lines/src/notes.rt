@@ -80,7 +80,8 @@ pub const NO_PRIMITIVE: &[u8] =
     b"no primitive has this name; a form is met by its call: u cl NAME, r cl NAME\n";
 
 /// What may have been meant if a text is not printed so far that is the name of a form.
-pub const FORM_NAMED: &[u8] = b"there is a form of this name: w set \"NAME\" looks for its last change\n";
+pub const FORM_NAMED: &[u8] =
+    b"there is a form of this name: w set \"NAME\" looks for its last change\n";
 
 /// Puts a line at the end of a text that says why a move stopped, if one can go back to this step. The error is that
 /// memory was refused.
@@ -217,7 +218,13 @@ pub fn later_into<A: Allocator + Copy>(
     match later {
         Later::By(step) => {
             let words = Words(b"it is printed first by step ");
-            line.put(&[words, Number(step), Words(b": g "), Number(step), Words(b" goes there")])
+            line.put(&[
+                words,
+                Number(step),
+                Words(b": g "),
+                Number(step),
+                Words(b" goes there"),
+            ])
         }
         Later::NotUpTo(step) => line.put(&[Words(b"nor is it printed up to step "), Number(step)]),
     }

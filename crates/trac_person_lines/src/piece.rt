@@ -27,7 +27,9 @@ pub fn piece_into<A: Allocator + Copy>(
     if number >= program.len() as u64 {
         return Ok(());
     }
-    let (before, from) = program.split_at(character_start(program, number as usize).min(program.len()));
+    let (before, from) = program.split_at(character_start(program, number as usize).min(
+        program.len(),
+    ));
     let from = line_before_end(from);
     let mut line = ScreenLine::new(alloc);
     line.say(LABEL);

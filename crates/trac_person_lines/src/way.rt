@@ -66,7 +66,11 @@ pub fn begun_line<A: Allocator + Copy>(
     is_innermost: bool,
 ) -> ScreenLine<A> {
     let mut line = ScreenLine::new(alloc);
-    let label: &[u8] = if is_innermost { b"here    " } else { b"begun   " };
+    let label: &[u8] = if is_innermost {
+        b"here    "
+    } else {
+        b"begun   "
+    };
     line.say(label);
     begun_in(machine, number, &mut line);
     line.cut(STEP_WIDTH);

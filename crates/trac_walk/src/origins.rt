@@ -119,7 +119,10 @@ impl<A: Allocator + Copy> Telling<'_, A> {
 
     /// Where the byte at a place was written, that begins the name of a call. For that it goes back, and forward again;
     /// if a step is refused on the way there, for memory alone, it stands there.
-    pub(crate) fn written(&mut self, place: Place<'_>) -> Result<Result<Written, Stop>, AllocError> {
+    pub(crate) fn written(
+        &mut self,
+        place: Place<'_>,
+    ) -> Result<Result<Written, Stop>, AllocError> {
         let end = self.walker.step();
         let found = traced(self.alloc, self.walker, place, &mut Unsaid).end;
         let written = Written {

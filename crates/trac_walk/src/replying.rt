@@ -10,11 +10,11 @@ use trac_dialogue::{
     texts_of, words_of,
 };
 use trac_forms::Form;
-use trac_person_lines::{
-    FORM_NAMED, NO_PLACE, NO_PRIMITIVE, Stop, change_into, form_into, given_into, list_into, no_end_into,
-    only_byte, refused, screen_into, window_into,
-};
 use trac_moves::Walker;
+use trac_person_lines::{
+    FORM_NAMED, NO_PLACE, NO_PRIMITIVE, Stop, change_into, form_into, given_into, list_into,
+    no_end_into, only_byte, refused, screen_into, window_into,
+};
 use trac_prims::primitive_named;
 use trac_rules::primitive::Primitive;
 use trac_sight::reads_text;
