@@ -98,7 +98,8 @@ pub const RUN_TIP: &str = "to run the program in FILE, put < before its name: tr
 /// The tips for words that stand where a subcommand should, and are none.
 pub const WALK_TIP: &str = "to walk through the program in FILE at a terminal: trac walk FILE";
 
-pub const PAGE_TIP: &str = "to make a page that runs the program in FILE: trac page FILE > run.html";
+pub const PAGE_TIP: &str =
+    "to make a page that runs the program in FILE: trac page FILE > run.html";
 
 pub const VERSION_TIP: &str = "the version is shown by: trac --version";
 
