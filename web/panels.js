@@ -3,7 +3,7 @@
 // changed a line; and whether what looks like gaps of a form may be bytes.
 import { addText, boundary, bytesOf, grouped, isOnce, leftOut, lengthOf, plainOf } from "./bytes.js";
 import { addCells, addTextCells, placed } from "./cells.js";
-import { addArgument } from "./words.js";
+import { addArgument, addTexts } from "./words.js";
 import { DECIMALS } from "./given.js";
 import { byId, labelled, make } from "./elements.js";
 
@@ -12,9 +12,8 @@ const ROWS = 200;
 // A call as it stands, each argument with its place. The one that is gathered is marked.
 export function addCall(parent, call, depth, step, most, isGathered) {
   parent.append(make("span", "kind", call.neutral ? "##(" : "#("));
-  call.texts.forEach((text, index) => {
-    if (index) parent.append(make("span", "comma", ","));
-    const isLast = isGathered && index === call.texts.length - 1;
+  addTexts(parent, call, (text, index, isEnd) => {
+    const isLast = isGathered && isEnd;
     addArgument(parent, text, () => {
       const span = addTextCells(parent, text, 0, (index ? "argument" : "argument name") + (isLast ? " gathered" : ""), most);
       return placed(span, `argument ${depth} ${index}`, step);

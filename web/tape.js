@@ -18,15 +18,20 @@ function scannedParts(parts, side) {
   if (from > 0) list[0] = { sign: `${grouped(from)} calls further out `, name: "left-out" };
   for (let depth = from; depth < parts.calls.length; depth++) {
     const call = parts.calls[depth];
+    // (a call takes its line apart each time that it is asked; of many arguments the last are enough too)
+    const { texts } = call;
+    let first = texts.length;
+    for (let filled = 0; first > 0 && filled <= side;) filled += texts[--first].length + 1;
     list.push({ sign: call.neutral ? "##(" : "#(", name: "begun" });
-    call.texts.forEach((text, index) => {
+    for (let index = first; index < texts.length; index++) {
+      const text = texts[index];
       if (index) list.push({ sign: ",", name: "begun comma" });
-      const isOpen = depth === parts.calls.length - 1 && index === call.texts.length - 1;
+      const isOpen = depth === parts.calls.length - 1 && index === texts.length - 1;
       const isQuoted = isProtected(text);
       if (isQuoted) list.push({ sign: QUOTES[0], name: "quote" });
       list.push({ text, place: `argument ${depth} ${index}` });
       if (isQuoted && !isOpen) list.push({ sign: QUOTES[1], name: "quote" });
-    });
+    }
   }
   return list;
 }

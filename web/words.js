@@ -160,12 +160,27 @@ export function addArgument(parent, text, add, isOpen = false) {
   if (isQuoted && !isOpen) parent.append(make("span", "quote", QUOTES[1]));
 }
 
+// So many texts of a call are shown: its name, and arguments.
+const MOST_TEXTS = 400;
+
+// Adds the texts of a call, with commas between them, each by `add`. Where there are many, those in the middle are left out.
+export function addTexts(parent, call, add) {
+  // (a call takes its line apart each time that it is asked)
+  const { texts } = call;
+  const more = Math.max(texts.length - MOST_TEXTS, 0), from = MOST_TEXTS / 2;
+  texts.forEach((text, index) => {
+    if (more && index >= from && index < from + more) return;
+    if (more && index === from + more) parent.append(make("span", "left-out", ` … ${grouped(more)} more arguments … `));
+    if (index) parent.append(make("span", "comma", ","));
+    add(text, index, index === texts.length - 1);
+  });
+}
+
 // Adds a call as it is written; of a long argument its middle is left out.
 export function addCallText(parent, call, most) {
   const code = make("span", "code");
   code.append(make("span", "kind", call.neutral ? "##(" : "#("));
-  call.texts.forEach((text, index) => {
-    if (index) code.append(make("span", "comma", ","));
+  addTexts(code, call, (text, index) => {
     addArgument(code, text, () => addShort(code, text, index ? "argument" : "argument name", most));
   });
   code.append(make("span", "kind", ")"));

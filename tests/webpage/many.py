@@ -1,4 +1,5 @@
-"""Much of what the page shows: 72,000 calls in the tree, and a step with 1,000 begun calls."""
+"""Much of what the page shows: 72,000 calls in the tree, a step with 1,000 begun calls, and one with 20,000
+arguments."""
 from webpage import names
 from webpage.pages import Deeds, check
 from webpage.rows import CHROMIUM, rows
@@ -51,4 +52,23 @@ def check_begun(page: Deeds) -> None:
     check(page.script("document.activeElement.id") == "begun", "the focus stays")
 
 
-TRIED = rows(check_calls, check_begun, where=CHROMIUM)
+def check_arguments(page: Deeds) -> None:
+    """A call with 20,000 arguments, as it is begun and as it is performed: 200 of each side are shown. (A page that
+    showed all was at work for many minutes.)"""
+    page.put("#(ps" + ",x" * 20000 + ")'")
+    page.run()
+    # (the text is read at step 8; then come `#(`, two letters, and a comma and a letter for each argument)
+    page.go(8 + 3 + 2 * 20000)
+    count = "document.querySelectorAll('{} [data-place^=\"argument 1 \"]').length"
+    shown = page.script(count.format("#begun"))
+    check(shown == 400, "so many are shown: {}".format(shown))
+    check("more arguments" in page.text("begun") and "19,601" in page.text("begun"), "and how many more there are")
+    last = count.format("#begun").replace("^=\"argument 1 ", "=\"argument 1 20000")
+    check(page.script(last) == 1, "the last one has its number")
+    check(page.script("document.getElementById('neutral').textContent").endswith(",x,x"), "the text before the mark")
+    page.press("s")
+    page.at(40012, "the call is performed")
+    check("19,601 more arguments" in page.text("last"), "how many more it had: " + page.text("last")[-200:])
+
+
+TRIED = rows(check_calls, check_begun, check_arguments, where=CHROMIUM)
