@@ -51,7 +51,7 @@ class Debugger:
         while b"\n" not in self.replies:
             self.replies += self.read()
         line, self.replies = self.replies.split(b"\n", 1)
-        return line.decode("ascii")
+        return line.decode("utf-8", "surrogateescape")
 
     def give(self, commands: str) -> None:
         """Writes commands, so few that they are taken at once."""
@@ -106,5 +106,5 @@ def passed_on(tape: bytes | bytearray) -> Iterator[tuple[Passed, Callable[[], No
 
 def bytes_of(text: str) -> bytes:
     """The bytes of a text as the debugger shows it."""
-    front, *rest = text.split("\\x")
-    return front.encode() + b"".join(bytes((int(part[:2], 16),)) + part[2:].encode() for part in rest)
+    front, *rest = text.encode("utf-8", "surrogateescape").split(b"\\x")
+    return front + b"".join(bytes((int(part[:2], 16),)) + part[2:] for part in rest)
