@@ -6,8 +6,8 @@ ghost use Rattle.trac_follow_step.specs.Places.{is_in_storage, place_of};
 use std::alloc::{AllocError, Allocator};
 use trac_follow_step::Place;
 
-/// A place in a state that borrows nothing from the machine: the name of its form is lent by the caller of the trace, or
-/// is a copy.
+/// A place in a state that borrows nothing from the machine: the name of its form is lent by the caller of the trace,
+/// or is a copy.
 #[derive(Drop)]
 pub(crate) enum KeptPlace<'n, A: Allocator> {
     /// The place where the trace begins; or a place in no form, which needs no name.

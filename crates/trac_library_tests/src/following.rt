@@ -251,8 +251,8 @@ fn feed_form(session: &mut Session<Memory<'_>>, name: &[u8]) -> Result<(), Refus
 // The calls that had the byte from the form or from the block, the latest first.
 const OF_FORMS: &[&[u8]] = &[b"cl", b"fb", b"sb"];
 
-// With the memory for the name of the form refused at one of these, the trace ends before that call. The witness is told
-// of `ps` and of those after the call alone, and the session goes forward again to where it was.
+// With the memory for the name of the form refused at one of these, the trace ends before that call. The witness is
+// told of `ps` and of those after the call alone, and the session goes forward again to where it was.
 fn expect_refused<'a>(rt: &impl Abort, memory: Memory<'a>, session: &mut Session<Memory<'a>>) {
     for (told_before, primitive) in OF_FORMS.iter().enumerate() {
         let told_before = told_before.saturating_add(1);
