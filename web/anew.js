@@ -6,8 +6,6 @@ import { ruleOf } from "./moves.js";
 import { IDLE_TEXTS } from "./stretch.js";
 
 /** @typedef {import("./arriving.js").Arrived} Arrived */
-/** @typedef {import("./engine.js").Engine} Engine */
-/** @typedef {import("./run.js").Run} Run */
 
 // Where the processor keeps no more steps, or looks no farther: from there the same is looked for again.
 const ENDED = /not met since the first step that is kept, step (\d+)|m goes to step (\d+), where the search ended/;
@@ -59,7 +57,7 @@ function isMet({ said }) {
  */
 async function stateAt(run, step) {
   const states = await run.story.at([step]);
-  return /** @type {import("./replies.js").State} */ (states.get(step));
+  return /** @type {State} */ (states.get(step));
 }
 
 /**

@@ -12,13 +12,13 @@ const FORGOTTEN = /^steps before \d+ are forgotten/m;
 /**
  * What a move came to: what is said of it, the step where it arrives, the states there, if they were wanted and came whole, and whether
  * the processor kept all steps on the way.
- * @typedef {{ said: string, step: number, window: import("./story.js").Window | null, isAllKept: boolean }} Arrived
+ * @typedef {{ said: string, step: number, window: States | null, isAllKept: boolean }} Arrived
  */
 
 /**
  * A move from a step.
- * @param {import("./engine.js").Engine} engine
- * @param {import("./run.js").Run} run
+ * @param {Engine} engine
+ * @param {Run} run
  * @param {number} from
  * @param {string} line
  * @param {boolean} isWanted
@@ -37,6 +37,7 @@ export async function movedTo(engine, { tape, isClosed }, from, line, isWanted) 
 }
 
 // The states at a step and beside it, in a dialogue that shows each after the line of its step.
+/** @param {Replies} replies @param {number} step */
 function arrived(replies, step) {
   // (what was read and printed before the first step that is kept is not said)
   if (FORGOTTEN.test(replies.text)) return null;

@@ -4,10 +4,6 @@ import { bytesOf, lengthOf } from "./bytes.js";
 import { beginOf } from "./anew.js";
 import { moveFrom } from "./moves.js";
 
-/** @typedef {import("./engine.js").Engine} Engine */
-/** @typedef {import("./replies.js").State} State */
-/** @typedef {import("./run.js").Run} Run */
-
 /**
  * A place of a state: its kind, as the module numbers them, its numbers, and the name of its form.
  * @typedef {{ kind: number, numbers: number[], name: Uint8Array }} Spot
@@ -57,7 +53,7 @@ export function sourceOf(before, after, spot) {
 
 /**
  * Which byte of the value of a call stands at a place after it.
- * @param {import("./moves.js").Move} move
+ * @param {Move} move
  * @param {State} after
  * @param {Spot} spot
  */
@@ -98,12 +94,12 @@ function itemsOf(text) {
  * Where each byte of a value was that is of a form: in the form, or in an argument for a gap. Nothing where the value is another than these
  * give: the form may have text that looks like a gap.
  * @param {State} before
- * @param {import("./moves.js").Move} move
+ * @param {Move} move
  * @param {(place: number, byte: number) => Spot} inArgument
  * @returns {Spot[] | null}
  */
 function placesOf(before, move, inArgument) {
-  const { texts } = /** @type {import("./parts.js").Begun} */ (move.call);
+  const { texts } = /** @type {Begun} */ (move.call);
   const name = bytesOf(texts[1] ?? "");
   const form = formOf(before, name);
   if (!form) return null;

@@ -4,12 +4,11 @@ import { KINDS, sourceOf, stoodAt } from "./earlier.js";
 import { NotUnderstood } from "./replies.js";
 
 /** @typedef {import("./earlier.js").Spot} Spot */
-/** @typedef {import("./run.js").Run} Run */
-/** @typedef {import("./engine.js").Engine} Engine */
 
 /**
- * A row of a way: a step, what was done with the byte there, and from where it was followed to that, or which byte of all input it is.
- * @typedef {{ step: number, deed: string, spot?: Spot, byte?: number, left?: number, state?: import("./replies.js").State }} Row
+ * A row of a way: a step, what was done with the byte there, and from where it was followed to that, or which byte of all
+ * input it is. Where many are left out, one stands for them.
+ * @typedef {{ step: number, deed: string, spot?: Spot, byte?: number, left?: number, state?: State }} Row
  */
 
 /** @type {Record<string, string>} */
@@ -22,7 +21,7 @@ const ROW = new RegExp("(\\d+) (prints|sets|gives|made|read|earlier|nothing)"
 /**
  * The way of a byte that stands at a place of the state after a step, without a limit but time: where the processor keeps no more steps, the
  * byte is followed on from there. (A byte of the output is followed from where it was there first, or soon after.)
- * @param {import("./page.js").Page} page
+ * @param {Page} page
  * @param {string} place
  * @param {number} at
  * @param {number} number
@@ -84,7 +83,7 @@ async function onFrom(engine, run, step, spot, rows, early) {
   const stood = last.step + 1 < step ? await stoodAt(engine, run, last.step + 1, step, spot) : { step, spot };
   if (stood?.step !== last.step + 1) return stood && { ...stood };
   const states = await run.story.at([last.step, last.step + 1]);
-  const [before, after] = [0, 1].map((more) => /** @type {import("./replies.js").State} */ (states.get(last.step + more)));
+  const [before, after] = [0, 1].map((more) => /** @type {State} */ (states.get(last.step + more)));
   const source = sourceOf(before, after, stood.spot);
   return source && { step: last.step, spot: source };
 }
@@ -102,7 +101,7 @@ async function spotOf(run, place, step, number) {
   const numbers = words.map(Number);
   let name = new Uint8Array(0);
   if (kind === "form" || kind === "held") {
-    const { forms, blocks } = /** @type {import("./replies.js").State} */ ((await run.story.at([step])).get(step)).parts;
+    const { forms, blocks } = /** @type {State} */ ((await run.story.at([step])).get(step)).parts;
     const [block, held] = numbers.splice(0);
     name = bytesOf((kind === "form" ? forms[block] : blocks[block].forms[held]).name);
     if (kind === "held") numbers.push(blocks[block].number);

@@ -4,7 +4,7 @@ import { keyOf, moreKeys } from "./walking.js";
 import { isOn, isShown, isWriting } from "./focus.js";
 import { byId, elementOf, focused } from "./elements.js";
 
-/** @param {import("./page.js").Page} page */
+/** @param {Page} page @param {KeyboardEvent} event @param {Map<string, Action>} keys */
 function onKey(page, event, keys) {
   if ((event.ctrlKey || event.metaKey) && event.key === "Enter") {
     event.preventDefault();
@@ -39,7 +39,7 @@ function onKey(page, event, keys) {
 }
 
 // Runs the program. The output has the focus then, if nothing else was given it meanwhile.
-/** @param {import("./page.js").Page} page */
+/** @param {Page} page */
 async function startByKeys(page) {
   const held = focused();
   await page.runs.start();
@@ -47,8 +47,9 @@ async function startByKeys(page) {
 }
 
 // Listens to the keys of all actions.
-/** @param {import("./page.js").Page} page */
+/** @param {Page} page */
 export function startKeys(page) {
+  /** @type {Map<string, Action>} */
   const keys = new Map();
   for (const action of [...page.actions, ...moreKeys(page)]) action.keys.forEach((key) => keys.set(key, action));
   document.addEventListener("keydown", (event) => onKey(page, event, keys));

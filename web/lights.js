@@ -3,9 +3,11 @@ import { make } from "./elements.js";
 
 // So many boxes of a kind stand there at most.
 const MOST_BOXES = 200;
+/** @type {Map<string, { ranges: Range[], boxes: Element[] }>} */
 const lit = new Map();
 
 // Lights these ranges in the way of a name, and no others in that way.
+/** @param {string} name @param {Range[]} ranges */
 export function setLight(name, ranges) {
   const before = lit.get(name);
   for (const box of before?.boxes ?? []) box.remove();
@@ -17,13 +19,16 @@ export function setLight(name, ranges) {
 }
 
 // Lights one more.
+/** @param {string} name @param {Range} range */
 export function addLight(name, range) {
   setLight(name, [...(lit.get(name)?.ranges ?? []), range]);
 }
 
 // Boxes where a range stands, within what it scrolls with.
+/** @param {string} name @param {Range} range */
 function boxesOf(name, range) {
-  const element = range.startContainer.nodeType === Node.TEXT_NODE ? range.startContainer.parentElement : range.startContainer;
+  const { startContainer: start } = range;
+  const element = start instanceof HTMLElement ? start : start.parentElement;
   const frame = element?.offsetParent;
   if (!frame) return [];
   const outer = frame.getBoundingClientRect();

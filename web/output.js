@@ -7,6 +7,7 @@ const SHOWN_OUTPUT = 8192;
 
 // Shows the output up to so many bytes, of which the last step has printed some. Of a long one a part is shown, which buttons
 // move.
+/** @param {View} view @param {Uint8Array} bytes @param {number} printed @param {number} fresh @param {number} step */
 export function showOutput(view, bytes, printed, fresh, step) {
   const last = Math.min(view.outputTo ?? printed, printed);
   const first = startOfSign(bytes, Math.max(last - SHOWN_OUTPUT, 0));
@@ -30,6 +31,7 @@ export function showOutput(view, bytes, printed, fresh, step) {
 }
 
 // A button that shows an earlier or later part, up to a byte.
+/** @param {string} word @param {number} to @param {View} view */
 function turnButton(word, to, view) {
   const button = make("button", "link", word);
   button.type = "button";
@@ -41,6 +43,7 @@ function turnButton(word, to, view) {
 }
 
 // The place of the first byte of a sign.
+/** @param {Uint8Array} bytes @param {number} at */
 export function startOfSign(bytes, at) {
   let place = at;
   while (place > 0 && at - place < 3 && (bytes[place] & 0xc0) === 0x80) place--;

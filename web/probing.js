@@ -16,20 +16,28 @@ const MOST_PROBED = 1 << 18;
 const SHOWN_SO_FAR = 4096;
 
 // Tells what a run has come to after some steps, as long as that is wanted and there are more.
+/**
+ * @param {Asked} engine
+ * @param {Begin} wanted
+ * @param {() => boolean} isWanted
+ * @param {(came: Came) => void} come
+ */
 export async function probe(engine, wanted, isWanted, come) {
   const { tape } = wanted;
   if (tape.length > MOST_PROBED) return;
+  /** @type {Asked} */
   const spare = { ask: (call, input, more, room) => engine.ask(call, input, { ...more, isSpare: true }, room) };
   for (let budget = FIRST_PROBE; isWanted() && budget < wanted.budget; budget *= MORE_PROBED) {
     const run = await measure(spare, tape, wanted.isClosed, budget, MOST_PROBED * MORE_PROBED);
     if (!isWanted() || run.stand !== "spent") return;
-    const isLarge = run.window.length > MOST_PROBED || run.output.length > MOST_PROBED;
+    const isLarge = (run.window?.length ?? 0) > MOST_PROBED || run.output.length > MOST_PROBED;
     come(run);
     if (isLarge) return;
   }
 }
 
 // Shows the end of what was printed so far. None of it can be followed yet.
+/** @param {View} view @param {Uint8Array} bytes */
 export function showSoFar(view, bytes) {
   view.outputKey = null;
   byId("welcome").hidden = true;
