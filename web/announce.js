@@ -1,4 +1,5 @@
-// What is said to those who do not see the page: at a step its sentence, while it plays nothing, and the last one at its end.
+// What is said to those who do not see the page: at a step its sentence, while it plays nothing, and the last one at
+// its end.
 import { grouped, signOf } from "./bytes.js";
 import { runsOf } from "./cells.js";
 import { byId } from "./elements.js";

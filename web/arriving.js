@@ -10,8 +10,8 @@ const LOOKS = ["p all", "b", "p all", "s", "p all", "s", "p all"];
 const FORGOTTEN = /^steps before \d+ are forgotten/m;
 
 /**
- * What a move came to: what is said of it, the step where it arrives, the states there, if they were wanted and came whole, and whether
- * the processor kept all steps on the way.
+ * What a move came to: what is said of it, the step where it arrives, the states there, if they were wanted and came
+ * whole, and whether the processor kept all steps on the way.
  * @typedef {{ said: string, step: number, window: States | null, isAllKept: boolean }} Arrived
  */
 

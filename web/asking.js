@@ -2,14 +2,16 @@
 import { Refused } from "./engine.js";
 import { NotUnderstood } from "./replies.js";
 
-// So many steps and bytes of records it keeps where only a place is asked, and so many bytes show a place, more or less.
+// So many steps and bytes of records it keeps where only a place is asked, and so many bytes show a place, more or
+// less.
 export const MEASURED = { journal: 65536, keep: 1 << 24 };
 export const SCREEN = 1200;
 
 // How far it comes, as trac-walk shows that. (Of a long line the end is cut.)
 export const REACHED = /^step +(\d+), back to \d+; (\d+) bytes? of input not read, (?:(\d+) b)?/gm;
 
-// What trac-walk is told first of a run whose input has ended: else it waits where that goes on. It says where it stands.
+// What trac-walk is told first of a run whose input has ended: else it waits where that goes on. It says where it
+// stands.
 /** @param {boolean} [isClosed] */
 export function endOfInput(isClosed) {
   return isClosed ? ["e"] : [];

@@ -1,11 +1,12 @@
 // Why a call gave what it gave: `eq` compares bytes, `gr` and the decimals take the numbers at the ends of their
-// arguments, and `cs`, `cc`, `cn` and `in` give their default where they read nothing, as docs/language.md says. Where the
-// value is another than these rules give, nothing is said.
+// arguments, and `cs`, `cc`, `cn` and `in` give their default where they read nothing, as docs/language.md says. Where
+// the value is another than these rules give, nothing is said.
 import { boundary, grouped, isOnce, lengthOf } from "./bytes.js";
 import { DECIMALS } from "./given.js";
 
 /**
- * The number at the end of a text: what stands before it, whether one is there, and whether it is negative; zero has no digits.
+ * The number at the end of a text: what stands before it, whether one is there, and whether it is negative; zero has no
+ * digits.
  * @typedef {{ prefix: string, isThere: boolean, isNegative: boolean, digits: string }} NumberSaid
  */
 
@@ -197,8 +198,8 @@ export function isReader(call) {
   return Object.hasOwn(READERS, call.texts[0].toLowerCase());
 }
 
-// Why such a call gave its default. `move.form` is the text of the form, if that stands as it did: it does where nothing was
-// read.
+// Why such a call gave its default. `move.form` is the text of the form, if that stands as it did: it does where
+// nothing was read.
 /** @param {Performed} move @param {string} name @returns {Word[] | null} */
 function reasonOfDefault(move, name) {
   const { call, form } = move;
@@ -218,8 +219,8 @@ function wordsOfSearch(call, form) {
     isAtEnd ? ", which stands at its end" : ""];
 }
 
-// Where the pointer stands, if nothing is to be read there. (`cn` reads back where its number is negative, and gives null where
-// that is 0 or does not fit.)
+// Where the pointer stands, if nothing is to be read there. (`cn` reads back where its number is negative, and gives
+// null where that is 0 or does not fit.)
 /** @param {Called} call @param {string} form @param {string} name @returns {Word[] | null} */
 function wordsOfPointer(call, form, name) {
   const number = numberAt(argumentAt(call, 2));

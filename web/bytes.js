@@ -1,4 +1,5 @@
-// Texts as the debugger prints them: bytes 32 to 126 but \ [ ] stand as themselves, every other byte as \x and two digits.
+// Texts as the debugger prints them: bytes 32 to 126 but \ [ ] stand as themselves, every other byte as \x and two
+// digits.
 import { labelled, make } from "./elements.js";
 
 /**

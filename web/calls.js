@@ -8,7 +8,8 @@ const MOST_LIST = 1 << 25;
 const CALL_LINE = /^(\d+) {2}((?: {2})*)(##?\(.*)$/;
 
 /**
- * The calls of a run: for each its step, how many are begun around it, its text, and the call that it was an argument of.
+ * The calls of a run: for each its step, how many are begun around it, its text, and the call that it was an argument
+ * of.
  * @typedef {object} Calls
  * @property {number[]} steps
  * @property {number[]} depths

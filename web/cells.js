@@ -6,7 +6,8 @@ import { around, make } from "./elements.js";
 const SHAPELESS = /[\p{C}\p{Zl}\p{Zp}]/u;
 
 /**
- * A run of signs, or a byte that is none: from which byte on, and how many bytes a unit of the script's text stands for.
+ * A run of signs, or a byte that is none: from which byte on, and how many bytes a unit of the script's text stands
+ * for.
  * @typedef {{ from: number, text: string, perUnit: number, byte?: undefined } | { from: number, byte: number, text?: undefined }} Signs
  */
 
@@ -74,7 +75,8 @@ export function addTextCells(parent, text, first = 0, name = "", most = Infinity
 }
 
 /**
- * An element that shows a text of a place, as "output" or "argument 3 1" of a state at a step, if its bytes can be followed.
+ * An element that shows a text of a place, as "output" or "argument 3 1" of a state at a step, if its bytes can be
+ * followed.
  * @template {HTMLElement} Kind
  * @param {Kind} element
  * @param {string} place

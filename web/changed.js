@@ -1,5 +1,5 @@
-// Which call changed a form last: its text, its gaps or its pointer. States before and after calls say it, so its name may have
-// any bytes.
+// Which call changed a form last: its text, its gaps or its pointer. States before and after calls say it, so its name
+// may have any bytes.
 import { formIn } from "./parts.js";
 import { windowOf } from "./story.js";
 import { callsOf, nameSaid } from "./calls.js";
@@ -17,8 +17,8 @@ export function isForming(name) {
   return CHANGES_ONE.has(name) || CHANGES_MANY.has(name);
 }
 
-// Whether a call, as it is listed, may change the form of this name. (What is listed may be cut, and an argument with a comma or
-// parenthesis stands in parentheses.)
+// Whether a call, as it is listed, may change the form of this name. (What is listed may be cut, and an argument with a
+// comma or parenthesis stands in parentheses.)
 /** @param {string} text @param {string} form */
 function mayChange(text, form) {
   const name = nameSaid(text);
@@ -45,7 +45,8 @@ async function changeIn(story, calls, step, name) {
   return null;
 }
 
-// The step of the call that changed a form last, before a step, or nothing. Calls before those that are listed are listed anew.
+// The step of the call that changed a form last, before a step, or nothing. Calls before those that are listed are
+// listed anew.
 /**
  * @param {Engine} engine
  * @param {Uint8Array} tape

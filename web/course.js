@@ -9,7 +9,8 @@ import { buttonOf, byId, make, textIn } from "./elements.js";
 import { startList } from "./lists.js";
 
 const SHOWN_BYTES = 4096;
-// What a lesson says of the exercises in a terminal: here `next` leads to them. And sentences of what only a terminal shows.
+// What a lesson says of the exercises in a terminal: here `next` leads to them. And sentences of what only a terminal
+// shows.
 const IN_TERMINAL = /\n## Exercises\n[^]*$/;
 const OF_SHELL = /(?<=^|[.:] )[^.:\n]*\bshell\b[^.]*\.\s?/gm;
 

@@ -60,8 +60,8 @@ export class Cursor {
   }
 
   /**
-   * Goes to a step, and shows it; where a token was passed on the way, with what that came to. Says what led there, or what is
-   * next, or nothing.
+   * Goes to a step, and shows it; where a token was passed on the way, with what that came to. Says what led there, or
+   * what is next, or nothing.
    * @param {number} wanted
    * @param {Passed | null} passed
    * @param {"last" | "next" | null} said
@@ -158,7 +158,8 @@ export class Cursor {
     await this.go(from, { from, to });
   }
 
-  // A move of trac-walk. What it says beside where it stands is shown. Of a move to a call, or to where one begins, that is said.
+  // A move of trac-walk. What it says beside where it stands is shown. Of a move to a call, or to where one begins,
+  // that is said.
   /** @param {string} line */
   async walk(line) {
     const { engine, shownRun: run, view } = this.page;

@@ -13,14 +13,14 @@ const ROOM_OF_DOUBTS = 1 << 18;
 const ENDS_NOTHING = ") ends no call";
 
 /**
- * What is doubted: at a step, or of the text of the program; the byte where it stands, and the one before which it ends; what is said
- * of it, and beside that.
+ * What is doubted: at a step, or of the text of the program; the byte where it stands, and the one before which it
+ * ends; what is said of it, and beside that.
  * @typedef {{ step: number | null, byte: number, end?: number, words: string, notes?: string[] }} Doubt
  */
 
 /**
- * The doubts of a run, by the steps, each once for each place: rows of the line and the column in all of the input, the words, and
- * the step.
+ * The doubts of a run, by the steps, each once for each place: rows of the line and the column in all of the input, the
+ * words, and the step.
  * @param {Uint8Array} bytes
  * @param {Uint8Array} tape
  * @returns {Doubt[]}
@@ -50,8 +50,8 @@ function isWithinWords(bytes, at) {
   return bytes[at] === 39 && /^[ \t]*[A-Za-z]/.test(String.fromCharCode(...bytes.subarray(at + 1, at + 20)));
 }
 
-// What a note adds to the words of a doubt: which parenthesis may be wrong, where a form of nearly the name is defined, or that an
-// apostrophe ended the text.
+// What a note adds to the words of a doubt: which parenthesis may be wrong, where a form of nearly the name is defined,
+// or that an apostrophe ended the text.
 /** @param {string[]} note @param {boolean} isApostrophe */
 function noteSaid(note, isApostrophe) {
   const [, line, column, missing, surplus, why] = note;
@@ -86,8 +86,8 @@ export function markDoubts({ tree, cursor: { step } }) {
   }
 }
 
-// Lists the first doubts, each as a link to its step, marks all of them in the program, and each under its call. Hints of the page have no
-// step.
+// Lists the first doubts, each as a link to its step, marks all of them in the program, and each under its call. Hints
+// of the page have no step.
 /** @param {Page} page @param {Doubt[]} told */
 export function showDoubts(page, told) {
   const { shownRun: run } = page;

@@ -1,5 +1,5 @@
-// What this browser keeps for the next time: the program in the editor with its name, and the looks. Where it keeps nothing, the page
-// goes on without.
+// What this browser keeps for the next time: the program in the editor with its name, and the looks. Where it keeps
+// nothing, the page goes on without.
 import { textOf } from "./bytes.js";
 
 export const DRAFT = "trac.draft", THEME = "trac.theme";

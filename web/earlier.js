@@ -1,5 +1,6 @@
-// Where a byte stood earlier: at a step before which the processor keeps none, so that it is followed on from there. A call that passed it
-// on had it from an argument or a form; scanning moved it. Where that is not certain, nothing is said.
+// Where a byte stood earlier: at a step before which the processor keeps none, so that it is followed on from there. A
+// call that passed it on had it from an argument or a form; scanning moved it. Where that is not certain, nothing is
+// said.
 import { bytesOf, lengthOf } from "./bytes.js";
 import { beginOf } from "./anew.js";
 import { moveFrom } from "./moves.js";
@@ -76,7 +77,8 @@ function formOf(state, name) {
 }
 
 /**
- * The items of a form as they are shown: bytes, as they stand there, and gaps by their numbers; and how many stand before its pointer.
+ * The items of a form as they are shown: bytes, as they stand there, and gaps by their numbers; and how many stand
+ * before its pointer.
  * @param {string} text
  */
 function itemsOf(text) {
@@ -91,8 +93,8 @@ function itemsOf(text) {
 }
 
 /**
- * Where each byte of a value was that is of a form: in the form, or in an argument for a gap. Nothing where the value is another than these
- * give: the form may have text that looks like a gap.
+ * Where each byte of a value was that is of a form: in the form, or in an argument for a gap. Nothing where the value
+ * is another than these give: the form may have text that looks like a gap.
  * @param {State} before
  * @param {Move} move
  * @param {(place: number, byte: number) => Spot} inArgument
@@ -138,8 +140,8 @@ export async function stoodAt(engine, run, early, step, spot) {
 }
 
 /**
- * The same of a form: since when it is as it is at a step, but for its pointer; or where the byte was before that. (It is the same form all
- * the time, so only `ss` has changed it, after which it is never again as it was.)
+ * The same of a form: since when it is as it is at a step, but for its pointer; or where the byte was before that. (It
+ * is the same form all the time, so only `ss` has changed it, after which it is never again as it was.)
  * @param {Run} run
  * @param {number} early
  * @param {number} step
@@ -179,8 +181,8 @@ function itemBefore(before, after, spot) {
 }
 
 /**
- * The first step of which something holds, and the one before: it does not hold of the first of these, and from where it holds it does up to
- * the last.
+ * The first step of which something holds, and the one before: it does not hold of the first of these, and from where
+ * it holds it does up to the last.
  * @param {Run} run
  * @param {number} from
  * @param {number} to
@@ -210,8 +212,8 @@ function stillToScan(state, step, rest) {
 }
 
 /**
- * Where a byte of an argument was at an earlier step: there already, or in what was not scanned yet. Of that none but those in front are ever
- * taken.
+ * Where a byte of an argument was at an earlier step: there already, or in what was not scanned yet. Of that none but
+ * those in front are ever taken.
  * @param {Engine} engine
  * @param {Run} run
  * @param {number} early

@@ -1,5 +1,5 @@
-// The program: a box of text over the same text, on which places are lit. Bytes are the truth: what the box cannot give back
-// as it was is shown for reading only.
+// The program: a box of text over the same text, on which places are lit. Bytes are the truth: what the box cannot give
+// back as it was is shown for reading only.
 import { grouped, textOf } from "./bytes.js";
 import { fixedOf, unitOfFixed } from "./fixed.js";
 import { setLight } from "./lights.js";
@@ -149,7 +149,8 @@ export class Editor {
     this.box.focus({ preventScroll: true });
   }
 
-  // Ctrl+Z, where nothing was typed since a program was opened, brings back the one before. All else is undone by the browser.
+  // Ctrl+Z, where nothing was typed since a program was opened, brings back the one before. All else is undone by the
+  // browser.
   /** @param {KeyboardEvent} event */
   key(event) {
     const key = event.key.toLowerCase();
@@ -244,7 +245,8 @@ export class Editor {
     });
   }
 
-  // Lights stretches of the program, each from a byte to before another, in a way that has a name. If it is wanted, they come in view.
+  // Lights stretches of the program, each from a byte to before another, in a way that has a name. If it is wanted,
+  // they come in view.
   /** @param {string} name @param {Stretch[]} stretches */
   light(name, stretches, isShown = true) {
     this.lit.set(name, stretches);

@@ -2,8 +2,8 @@
 import { grouped, plainOf } from "./bytes.js";
 
 /**
- * How a run ended: its words, whether it is a good end, what the step after it would be, and what can be done: words of a button and what
- * that does.
+ * How a run ended: its words, whether it is a good end, what the step after it would be, and what can be done: words of
+ * a button and what that does.
  * @typedef {{ words: string, isGood: boolean, next: string, mend?: { words: string, does: () => void } }} Ending
  */
 

@@ -22,7 +22,8 @@ const ALONE = 512 << 20;
 const LONG_TAPE = 1 << 20;
 
 /**
- * What a request may take beside the input, as its call needs it; how long the answer may be; and whether it has spare memory alone.
+ * What a request may take beside the input, as its call needs it; how long the answer may be; and whether it has spare
+ * memory alone.
  * @typedef {object} Words
  * @property {string} [commands]
  * @property {number} [budget]
@@ -42,7 +43,8 @@ const LONG_TAPE = 1 << 20;
  */
 
 /**
- * What a Worker says: that it is ready, or why it is not; an answer, with how much memory the module has then; or why there is none.
+ * What a Worker says: that it is ready, or why it is not; an answer, with how much memory the module has then; or why
+ * there is none.
  * @typedef {{ isReady: true } | { fault: string } | Answer & { number: number, memory: number }
  *   | { number: number, refused: string, isShort: boolean }} Said
  */
@@ -82,8 +84,8 @@ class Turns {
     this.next();
   }
 
-  // Begins the next one, of the first engine that has one. An engine that does nothing, or only what has spare memory, keeps none
-  // meanwhile.
+  // Begins the next one, of the first engine that has one. An engine that does nothing, or only what has spare memory,
+  // keeps none meanwhile.
   next() {
     if (this.atWork || this.requests.length === 0) return;
     const ranks = this.requests.map(({ engine }) => this.engines.indexOf(engine));
@@ -194,8 +196,8 @@ export class Engine {
     else request.resolve(answer);
   }
 
-  // Asks for a call of the module over bytes: its name, the input, what else it takes, and the room that is tried first for the
-  // answer. What has spare memory (`isSpare`) is never done alone: it is refused.
+  // Asks for a call of the module over bytes: its name, the input, what else it takes, and the room that is tried first
+  // for the answer. What has spare memory (`isSpare`) is never done alone: it is refused.
   /** @param {string} call @param {Uint8Array} tape @param {Words} [more] @returns {Promise<Answer>} */
   ask(call, tape, more = {}, room = 1 << 20) {
     const number = ++this.last;

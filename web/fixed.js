@@ -1,4 +1,5 @@
-// Bytes of a program that are for reading only: the box cannot give them back as they were, so signs stand in their place.
+// Bytes of a program that are for reading only: the box cannot give them back as they were, so signs stand in their
+// place.
 import { runsOf } from "./cells.js";
 import { startOfSign } from "./output.js";
 

@@ -6,8 +6,8 @@ import { NotUnderstood } from "./replies.js";
 /** @typedef {import("./earlier.js").Spot} Spot */
 
 /**
- * A row of a way: a step, what was done with the byte there, and from where it was followed to that, or which byte of all
- * input it is. Where many are left out, one stands for them.
+ * A row of a way: a step, what was done with the byte there, and from where it was followed to that, or which byte of
+ * all input it is. Where many are left out, one stands for them.
  * @typedef {{ step: number, deed: string, spot?: Spot, byte?: number, left?: number, state?: State }} Row
  */
 
@@ -19,8 +19,9 @@ const ROW = new RegExp("(\\d+) (prints|sets|gives|made|read|earlier|nothing)"
   + "((?: (?:output|active|base|argument|form|held))?(?: \\d+)*)( |\n)", "y");
 
 /**
- * The way of a byte that stands at a place of the state after a step, without a limit but time: where the processor keeps no more steps, the
- * byte is followed on from there. (A byte of the output is followed from where it was there first, or soon after.)
+ * The way of a byte that stands at a place of the state after a step, without a limit but time: where the processor
+ * keeps no more steps, the byte is followed on from there. (A byte of the output is followed from where it was there
+ * first, or soon after.)
  * @param {Page} page
  * @param {string} place
  * @param {number} at
@@ -62,8 +63,8 @@ export async function wayFrom(engine, run, step, spot, isWanted = () => true) {
 }
 
 /**
- * From where a byte is followed on: from before the last call but one that passed it on; if only one did, from before that; or, if none did,
- * from the first step that is kept.
+ * From where a byte is followed on: from before the last call but one that passed it on; if only one did, from before
+ * that; or, if none did, from the first step that is kept.
  * @param {Engine} engine
  * @param {Run} run
  * @param {number} step

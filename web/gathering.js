@@ -55,8 +55,8 @@ async function gatherMore(page, run, calls) {
   listAround(page);
 }
 
-// Of a run with more calls than are listed, it lists those around the cursor once that stands outside the list: so many steps after it
-// at most. For that the run is done anew.
+// Of a run with more calls than are listed, it lists those around the cursor once that stands outside the list: so many
+// steps after it at most. For that the run is done anew.
 const STEPS_AFTER = 50000;
 let isListing = false;
 

@@ -1,5 +1,5 @@
-// What the text of a program shows by itself: places where it hardly says what was meant, each with what to do. The page finds them; a run
-// need not come there.
+// What the text of a program shows by itself: places where it hardly says what was meant, each with what to do. The
+// page finds them; a run need not come there.
 
 /**
  * What a hint is for: a sign, and where in that it is meant; its words; and what in a program makes it needless.

@@ -12,8 +12,8 @@ export function insertText(box, text) {
   box.dispatchEvent(new Event("input"));
 }
 
-// Changes the lines that have something of what is chosen, each by itself. They are chosen then, if there are several; else the
-// caret stays at its sign.
+// Changes the lines that have something of what is chosen, each by itself. They are chosen then, if there are several;
+// else the caret stays at its sign.
 /** @param {HTMLTextAreaElement} box @param {(line: string) => string} change */
 function changeLines(box, change) {
   const { value, selectionStart, selectionEnd } = box;

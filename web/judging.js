@@ -68,7 +68,8 @@ export function inputAfter(program, given) {
 }
 
 /**
- * A run that fails: its number, what it prints, why that is not right, and where it begins to differ, if that can be said.
+ * A run that fails: its number, what it prints, why that is not right, and where it begins to differ, if that can be
+ * said.
  * @typedef {{ at: number, printed: Uint8Array, why: string, where: string | null }} Failure
  */
 

@@ -1,4 +1,5 @@
-// Ranges that are lit, each kind under a name: by the browser's highlights, or where it has none by boxes under the signs.
+// Ranges that are lit, each kind under a name: by the browser's highlights, or where it has none by boxes under the
+// signs.
 import { make } from "./elements.js";
 
 // So many boxes of a kind stand there at most.

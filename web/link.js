@@ -1,4 +1,5 @@
-// A link's part after #: a program, its input and a step. Its first sign says its form, the second how the rest is packed.
+// A link's part after #: a program, its input and a step. Its first sign says its form, the second how the rest is
+// packed.
 import { bytesOfSigns, joined } from "./bytes.js";
 
 const LINK_FORM = "1";
@@ -11,7 +12,8 @@ const MOST_PACKED = 2 * MOST_HELD + 32 * MOST_LINES;
 export class WrongLink extends Error {}
 
 /**
- * What a link holds: a program, its input, whether that has ended, and the step, or nothing where the program was not run.
+ * What a link holds: a program, its input, whether that has ended, and the step, or nothing where the program was not
+ * run.
  * @typedef {{ program: Uint8Array, inputs: Line[], isClosed: boolean, step: number | null }} Linked
  * @typedef {CompressionStream | DecompressionStream} Packing
  */
@@ -77,8 +79,8 @@ class Held {
   }
 }
 
-// What a link holds, as bytes: a sum of the rest; the step and 1, or 0 where the program was not run; the program; how many
-// lines of input, and whether it has ended; and each line after its step.
+// What a link holds, as bytes: a sum of the rest; the step and 1, or 0 where the program was not run; the program; how
+// many lines of input, and whether it has ended; and each line after its step.
 /** @param {Linked} held */
 function bytesOfLink({ program, inputs, isClosed, step }) {
   const parts = [numberBytes(step === null ? 0 : step + 1), numberBytes(program.length), program,
@@ -157,7 +159,8 @@ export async function linkOf(held) {
   return packed && packed.length < bytes.length ? `${LINK_FORM}d${signsOf(packed)}` : `${LINK_FORM}s${signsOf(bytes)}`;
 }
 
-// What a link holds: an address with it, or its part after #. Blanks and line ends that a letter put into it do not matter.
+// What a link holds: an address with it, or its part after #. Blanks and line ends that a letter put into it do not
+// matter.
 /** @param {string} address */
 export async function openedLink(address) {
   const text = address.replace(/\s/g, "").replace(/^.*#/, "");

@@ -1,5 +1,5 @@
-// Which calls of a run are listed, as a tree: within a call stand those that made its arguments. What is folded is not listed, or all
-// that is not asked for.
+// Which calls of a run are listed, as a tree: within a call stand those that made its arguments. What is folded is not
+// listed, or all that is not asked for.
 import { levelsOf, NO_CALLS } from "./calls.js";
 
 // Whether a call is asked for, both in small letters: by how it begins, if that is what the words are; else by words

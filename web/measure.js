@@ -33,8 +33,8 @@ const MOST_OUTPUT = 1 << 26;
 /** @typedef {Ended | { end: number, why: string | null, window: null }} Tried */
 
 /**
- * What a run comes to: how many steps it takes, why no more, the last states, what was printed, if it is not too much, and landmarks
- * on the way: how much was read and printed until then.
+ * What a run comes to: how many steps it takes, why no more, the last states, what was printed, if it is not too much,
+ * and landmarks on the way: how much was read and printed until then.
  * @param {Asked} engine
  * @param {Uint8Array} tape
  * @param {boolean} isClosed
@@ -110,8 +110,8 @@ async function landmarksOf(engine, tape, isClosed, most, stride) {
 }
 
 /**
- * The end of a run with its last states, if the way there over these landmarks comes to it; else how far that comes, and
- * why no farther.
+ * The end of a run with its last states, if the way there over these landmarks comes to it; else how far that comes,
+ * and why no farther.
  * @param {Asked} engine
  * @param {Uint8Array} tape
  * @param {Landmark[]} marks

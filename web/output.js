@@ -5,8 +5,8 @@ import { byId, make } from "./elements.js";
 
 const SHOWN_OUTPUT = 8192;
 
-// Shows the output up to so many bytes, of which the last step has printed some. Of a long one a part is shown, which buttons
-// move.
+// Shows the output up to so many bytes, of which the last step has printed some. Of a long one a part is shown, which
+// buttons move.
 /** @param {View} view @param {Uint8Array} bytes @param {number} printed @param {number} fresh @param {number} step */
 export function showOutput(view, bytes, printed, fresh, step) {
   const last = Math.min(view.outputTo ?? printed, printed);

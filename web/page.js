@@ -70,8 +70,8 @@ export class Page {
     for (const engine of [this.engine, this.ahead, this.background]) if (engine.waiting.size) engine.stop();
   }
 
-  // Opens a program: its bytes stand in the editor, and what was run before is gone from the page. What stood in the editor can be
-  // brought back. That of a link is not kept for the next time.
+  // Opens a program: its bytes stand in the editor, and what was run before is gone from the page. What stood in the
+  // editor can be brought back. That of a link is not kept for the next time.
   /** @param {string} name @param {Uint8Array} bytes */
   open(name, bytes, isKept = true) {
     this.editor.open(name, bytes);

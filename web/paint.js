@@ -1,5 +1,5 @@
-// The text of the editor with its colours, line by line, under the box where it is typed: calls, primitives, protected text, numbers,
-// and what ends a text.
+// The text of the editor with its colours, line by line, under the box where it is typed: calls, primitives, protected
+// text, numbers, and what ends a text.
 import { PRIMITIVES } from "./words.js";
 import { make } from "./elements.js";
 
@@ -12,8 +12,8 @@ export const LONG = 65536;
  * @typedef {{ key: string, element: HTMLElement }} PaintedLine
  */
 
-// The parts of a program, each with what it is of: the signs of calls, names of primitives, protected text, numbers, ends of texts,
-// parentheses that match none. It is said by the bytes alone: what `cm` chooses is not known.
+// The parts of a program, each with what it is of: the signs of calls, names of primitives, protected text, numbers,
+// ends of texts, parentheses that match none. It is said by the bytes alone: what `cm` chooses is not known.
 /** @param {string} text @returns {Generator<Part>} */
 function* partsOfProgram(text) {
   /** @type {string[]} */

@@ -1,6 +1,6 @@
-// What a state has beside its text: begun calls, forms, blocks and settings. What `shown` says of them: the number of the
-// step, if bytes can be followed; the most boxes, and the most signs of an argument and of a form; whether the last step
-// changed a line; and whether what looks like gaps of a form may be bytes.
+// What a state has beside its text: begun calls, forms, blocks and settings. What `shown` says of them: the number of
+// the step, if bytes can be followed; the most boxes, and the most signs of an argument and of a form; whether the last
+// step changed a line; and whether what looks like gaps of a form may be bytes.
 import { addText, boundary, bytesOf, grouped, isOnce, leftOut, lengthOf, plainOf } from "./bytes.js";
 import { addCells, addTextCells, placed } from "./cells.js";
 import { addArgument, addTexts } from "./words.js";
@@ -77,8 +77,8 @@ export function showBegun(calls, shown) {
   byId("begun").replaceChildren(outside);
 }
 
-// A form's text with gaps as pills and the pointer as a bar. Items are counted, gaps too. Where the text may have such signs
-// itself, it stands as the debugger prints it, and its items have no numbers.
+// A form's text with gaps as pills and the pointer as a bar. Items are counted, gaps too. Where the text may have such
+// signs itself, it stands as the debugger prints it, and its items have no numbers.
 /** @param {Element} parent @param {Form} form @param {Shown} shown */
 function addForm(parent, { name, text }, shown) {
   const front = boundary(text, Math.min(text.length, shown.mostOfForm));
@@ -109,8 +109,8 @@ function gapOf(number, item) {
   return gap;
 }
 
-// Whether bytes of a form may look like gaps or the pointer: more look like the pointer than there is, or such bytes were
-// given to ds.
+// Whether bytes of a form may look like gaps or the pointer: more look like the pointer than there is, or such bytes
+// were given to ds.
 /** @param {string} text @param {boolean} hasMarks */
 export function isDoubtfulForm(text, hasMarks) {
   return !isOnce(text, "<^>") || (hasMarks && /<\d+>/.test(text));

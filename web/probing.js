@@ -1,12 +1,13 @@
-// How far a run has come that takes long: it is run beside that, for more and more steps. Each time the state and all output are known.
+// How far a run has come that takes long: it is run beside that, for more and more steps. Each time the state and all
+// output are known.
 import { grouped } from "./bytes.js";
 import { addCells } from "./cells.js";
 import { measure } from "./measure.js";
 import { startOfSign } from "./output.js";
 import { byId } from "./elements.js";
 
-// It begins so many milliseconds after the run, with so many steps, each time so many times as many. It has only memory that the run
-// leaves: it ends once it, or the run, is to be done alone.
+// It begins so many milliseconds after the run, with so many steps, each time so many times as many. It has only memory
+// that the run leaves: it ends once it, or the run, is to be done alone.
 export const WATCHED = 150;
 const FIRST_PROBE = 128;
 const MORE_PROBED = 2;

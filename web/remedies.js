@@ -22,7 +22,8 @@ export function isSlip(one, other) {
   return rest.slice(1) === left.slice(1) || (rest[0] === left[1] && rest[1] === left[0] && rest.slice(2) === left.slice(2));
 }
 
-// The primitives that a name is one slip from: of names of two signs half are near, so those that begin as it does, if some do.
+// The primitives that a name is one slip from: of names of two signs half are near, so those that begin as it does, if
+// some do.
 /** @param {string} name */
 function primitivesLike(name) {
   const small = name.toLowerCase();
@@ -38,7 +39,8 @@ function formsLike(name, forms) {
   return [...forms].filter((form) => isSlip(name, form) || (form !== name && form.toLowerCase() === small));
 }
 
-// The names of the forms that a run sets, as far as they are listed or there at its end, and have no sign that a list leaves unclear.
+// The names of the forms that a run sets, as far as they are listed or there at its end, and have no sign that a list
+// leaves unclear.
 /** @param {Run} run @param {Calls} calls */
 export function formsSet(run, calls) {
   const names = new Set();

@@ -26,8 +26,8 @@
  */
 
 /**
- * What the processor says that a run comes to: where it ends and why, what it has read and printed there, the meta character, and
- * whether it reads a byte there.
+ * What the processor says that a run comes to: where it ends and why, what it has read and printed there, the meta
+ * character, and whether it reads a byte there.
  * @typedef {object} Came
  * @property {number} end
  * @property {string | null} why
@@ -80,8 +80,8 @@ export class Run {
     return this.tape.subarray(from).some((byte) => byte > 32);
   }
 
-  // Whether input may be given at a step until which so much is read: where it can come at the end of the run, or else came after this
-  // step, or ended. `isOffered` says that more of a program that is done is to be typed.
+  // Whether input may be given at a step until which so much is read: where it can come at the end of the run, or else
+  // came after this step, or ended. `isOffered` says that more of a program that is done is to be typed.
   /** @param {number} step @param {number} read @param {boolean} isOffered */
   takesInput(step, read, isOffered) {
     const isOpen = this.stand === "waits" || (this.stand === "done" && (isOffered || this.hasText(this.read)));

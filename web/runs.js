@@ -45,7 +45,8 @@ export class Runs {
   }
 
   /**
-   * Runs a program with its input, and goes to the end. Until then the run before is there, and is asked over its own input.
+   * Runs a program with its input, and goes to the end. Until then the run before is there, and is asked over its own
+   * input.
    * @param {Wanted} asked
    */
   async perform(asked) {
@@ -83,8 +84,8 @@ export class Runs {
     return new Run(wanted, came, story);
   }
 
-  // Looks how far a run has come that takes long, and shows what it has printed until then. So if it is stopped, that much of it is
-  // there.
+  // Looks how far a run has come that takes long, and shows what it has printed until then. So if it is stopped, that
+  // much of it is there.
   /** @param {Begin} wanted */
   async watch(wanted) {
     await new Promise((then) => setTimeout(then, WATCHED));
@@ -191,8 +192,8 @@ export class Runs {
     if (focused() === byId("output")) byId("ending").querySelector("button")?.focus();
   }
 
-  // The lines of input that stay where other input is given at the cursor: at the end all, else those that the program has begun to
-  // read. It is asked first if others came; nothing if these are to stay.
+  // The lines of input that stay where other input is given at the cursor: at the end all, else those that the program
+  // has begun to read. It is asked first if others came; nothing if these are to stay.
   /** @param {string} wish */
   async linesBefore(wish) {
     const { shownRun: run, cursor: { step, read } } = this.page;
@@ -203,7 +204,8 @@ export class Runs {
     return isWanted && run === this.page.run ? stay : null;
   }
 
-  // Takes a line of input at the step where the cursor is. It gets the ' that ends it, where it has none and is to be read up to that.
+  // Takes a line of input at the step where the cursor is. It gets the ' that ends it, where it has none and is to be
+  // read up to that.
   /** @param {string} line */
   async feed(line) {
     const { shownRun: run, cursor: { step } } = this.page;

@@ -9,8 +9,8 @@ import { byId, make } from "./elements.js";
 /** @typedef {import("./stretch.js").Last} Last */
 /** @typedef {import("./stretch.js").Next} Next */
 
-// The sentences of what led here and of what comes next: of the state before, here, and after. Only the next step is numbered: it has the
-// number that stands in the box, and in the lists.
+// The sentences of what led here and of what comes next: of the state before, here, and after. Only the next step is
+// numbered: it has the number that stands in the box, and in the lists.
 /**
  * @param {number} step
  * @param {Last | null} last

@@ -1,5 +1,5 @@
-// The states of a run. To go to one is to run the program anew up to it: so there is no limit to going back. Those around the
-// cursor are kept.
+// The states of a run. To go to one is to run the program anew up to it: so there is no limit to going back. Those
+// around the cursor are kept.
 import { NotUnderstood, Replies, State } from "./replies.js";
 import { MEASURED, REACHED, SCREEN, walked } from "./asking.js";
 
@@ -26,8 +26,8 @@ const WIDE_STEPS = 1000;
  */
 
 export class Story {
-  // The input, and landmarks of the run: at these steps what was printed is dropped on the way to a state. One processor is asked
-  // for what is wanted now, the other, if there is one, for what may be wanted soon.
+  // The input, and landmarks of the run: at these steps what was printed is dropped on the way to a state. One
+  // processor is asked for what is wanted now, the other, if there is one, for what may be wanted soon.
   /** @param {Asked} engine @param {Uint8Array} tape @param {Landmark[]} landmarks @param {Asked} [ahead] */
   constructor(engine, tape, landmarks, ahead = engine) {
     this.engine = engine;
@@ -53,7 +53,8 @@ export class Story {
     const commands = stops.map((mark, index) => `s ${mark.step - (index ? stops[index - 1].step : 0)}\nc\n`);
     const last = stops[stops.length - 1] ?? { step: 0, position: 0, printed: 0 };
     commands.push(`s ${step - last.step}\np\nc\n`);
-    // (what is printed up to the next landmark bounds what is printed up to the step, twice, and once in what was dropped before)
+    // (what is printed up to the next landmark bounds what is printed up to the step, twice, and once in what was
+    // dropped before)
     const next = this.landmarks[stops.length];
     return { commands, last, room: last.printed + 2 * ((next ?? last).printed - last.printed) };
   }
@@ -155,7 +156,8 @@ export class Story {
     if (!this.windowOf(from, to)) this.keep(await this.large(from, to));
   }
 
-  // The states of some steps that are large, each by itself. What was kept goes first: no more is to be there than is shown.
+  // The states of some steps that are large, each by itself. What was kept goes first: no more is to be there than is
+  // shown.
   /** @param {number} from @param {number} to */
   async large(from, to) {
     this.letGo();

@@ -8,7 +8,8 @@ import { moveFrom, plainRun, ruleOf } from "./moves.js";
 export const IDLE_TEXTS = ["#(ps,#(rs))", "ps,#(rs))", "s,#(rs))", ",#(rs))", "#(rs))", "rs))", "s))", "))"];
 
 /**
- * Steps by which the idle program reads on: from where it is loaded to where they end; and whether they are the first of a run.
+ * Steps by which the idle program reads on: from where it is loaded to where they end; and whether they are the first
+ * of a run.
  * @typedef {{ from: number, to: number, isFirst: boolean }} Idle
  */
 

@@ -1,5 +1,5 @@
-// The text in reading order: what is scanned, a mark, what is not scanned yet. What `shown` says of it: the number of the
-// step, if bytes can be followed; and how many signs stand on each side.
+// The text in reading order: what is scanned, a mark, what is not scanned yet. What `shown` says of it: the number of
+// the step, if bytes can be followed; and how many signs stand on each side.
 import { addShort, boundary, grouped, lengthOf } from "./bytes.js";
 import { addTextCells, placed } from "./cells.js";
 import { addCallText, isProtected, QUOTES } from "./words.js";
@@ -93,8 +93,8 @@ function standsFor(line, { rule }) {
   return ["a", "n", ","].includes(rule) ? [...line.querySelectorAll(".begun")].pop() : undefined;
 }
 
-// Shows the scanned text up to the mark. What was moved or put there stands after what was deleted, but for the parenthesis
-// after protected text.
+// Shows the scanned text up to the mark. What was moved or put there stands after what was deleted, but for the
+// parenthesis after protected text.
 /** @param {Parts} parts @param {Move | undefined} move @param {Sides} shown */
 export function showScanned(parts, move, shown) {
   const line = make("div", "line");
@@ -110,8 +110,8 @@ export function showScanned(parts, move, shown) {
   byId("neutral").replaceChildren(line);
 }
 
-// Where the active text is cut, up to so many signs, and what its parts are: what the last step put there, and what the next
-// one takes.
+// Where the active text is cut, up to so many signs, and what its parts are: what the last step put there, and what the
+// next one takes.
 /** @param {string} active @param {Move | undefined} last @param {Move | undefined} next @param {Sides} shown */
 function activeParts(active, last, next, { side }) {
   const put = last ? last.put.length : 0, taken = next ? next.taken.length : 0;

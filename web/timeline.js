@@ -246,7 +246,8 @@ export class Timeline {
     }
   }
 
-  // Draws how many calls are begun, as soon as it is known: a stair, each tread from one step to the next. Returns the most.
+  // Draws how many calls are begun, as soon as it is known: a stair, each tread from one step to the next. Returns the
+  // most.
   /** @param {Picture} picture */
   drawDepth({ pen, scale, width, height, colour }) {
     const { stride, depths } = this.calls.begun ?? { stride: 1, depths: [] };

@@ -1,4 +1,5 @@
-// What is drawn over the slider: where something is printed, where the idle program reads on, and how many calls are begun.
+// What is drawn over the slider: where something is printed, where the idle program reads on, and how many calls are
+// begun.
 import { Replies } from "./replies.js";
 import { IDLE_TEXTS } from "./stretch.js";
 import { nameSaid } from "./calls.js";
@@ -65,7 +66,8 @@ export async function idlesOf(engine, tape, calls, { end, stand }) {
 // At so many steps it is looked how many calls are begun.
 const MOST_DEPTHS = 1500;
 
-// How many calls are begun at steps that are equally far apart, the first one and the last one too, as trac-walk shows it.
+// How many calls are begun at steps that are equally far apart, the first one and the last one too, as trac-walk shows
+// it.
 /** @param {Engine} engine @param {Uint8Array} tape @param {Run} run @param {boolean} isClosed */
 export async function depthsOf(engine, tape, { end }, isClosed) {
   const stride = Math.max(Math.ceil(end / MOST_DEPTHS), 1);

@@ -1,5 +1,5 @@
-// What the page shows: a run with its output and its end, and of the step where the cursor is the sentences, the text, and what stands
-// beside it.
+// What the page shows: a run with its output and its end, and of the step where the cursor is the sentences, the text,
+// and what stands beside it.
 import { grouped, leftOut, lengthOf, lineAndColumn, showFramed } from "./bytes.js";
 import { addCells } from "./cells.js";
 import { isDoubtfulForm, showBegun, showBlocks, showForms, showRest } from "./panels.js";
@@ -88,8 +88,8 @@ export class View {
     for (const name of ["lit", "doubtful"]) page.editor.light(name, []);
   }
 
-  // Says how the run ended, after other words, if there are any; and where the cursor is, if that is not the end. What can be done about
-  // it stands beside it.
+  // Says how the run ended, after other words, if there are any; and where the cursor is, if that is not the end. What
+  // can be done about it stands beside it.
   showEnding(lead = "") {
     const ending = byId("ending");
     const { words, isGood, mend } = endingOf(this.page);
@@ -192,8 +192,8 @@ export class View {
     tabs.count("begun", grouped(parts.calls.length));
   }
 
-  // Lights the place in the program where what comes next was written. While that is looked for, only the last step is kept in
-  // mind.
+  // Lights the place in the program where what comes next was written. While that is looked for, only the last step is
+  // kept in mind.
   /** @param {number} step */
   async light(step) {
     const { page } = this;
@@ -278,7 +278,8 @@ export class View {
   }
 }
 
-// Where what comes next was written: a byte of all input, or nothing. (It is not followed on from before the steps that are kept.)
+// Where what comes next was written: a byte of all input, or nothing. (It is not followed on from before the steps that
+// are kept.)
 /** @param {Page} page @param {number} step */
 async function placeInProgram(page, step) {
   const state = page.shownRun.story.kept(step);

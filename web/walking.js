@@ -5,8 +5,8 @@ import { buttonOf, byId, make } from "./elements.js";
 /** @typedef {"byte" | "token" | "call"} Unit */
 
 /**
- * What can be done: what it is for, its keys, and what it does; of a button its id, the bar where it stands, and its sign. `way` says that
- * it does nothing at the start, or at the end.
+ * What can be done: what it is for, its keys, and what it does; of a button its id, the bar where it stands, and its
+ * sign. `way` says that it does nothing at the start, or at the end.
  * @typedef {object} Action
  * @property {string} words
  * @property {string[]} keys

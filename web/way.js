@@ -46,8 +46,8 @@ export class Way {
     this.page.editor.light("read", []);
   }
 
-  // Follows a byte of a text that is shown. From an argument of a call on the way, it goes on from there. Where a call made the
-  // byte of an argument that was followed, the same argument of the next such call is followed too.
+  // Follows a byte of a text that is shown. From an argument of a call on the way, it goes on from there. Where a call
+  // made the byte of an argument that was followed, the same argument of the next such call is followed too.
   /** @param {HTMLElement} holder @param {number} number */
   async follow(holder, number) {
     const turn = ++this.turn;
@@ -82,8 +82,8 @@ export class Way {
     return call ? callText(call) : this.page.tree.textAt(row.step) ?? "the idle program";
   }
 
-  // One way of a byte. It is shown as soon as it is known, and its calls once they are. Returns from where to go on, if from
-  // anywhere.
+  // One way of a byte. It is shown as soon as it is known, and its calls once they are. Returns from where to go on, if
+  // from anywhere.
   /** @param {Spot} from @param {number} turn @returns {Promise<Spot | null>} */
   async hop(from, turn) {
     const isWanted = () => turn === this.turn;

@@ -1,4 +1,5 @@
-// The first minute: a program to run, what to do with it, and some others to try. And the list of all programs that come with the page.
+// The first minute: a program to run, what to do with it, and some others to try. And the list of all programs that
+// come with the page.
 import { bytesOfSigns, textOf } from "./bytes.js";
 import { buttonOf, byId, make, textIn } from "./elements.js";
 import { startList } from "./lists.js";
@@ -8,7 +9,8 @@ const FIRST = "wrong-factorial.trac";
 const TRIES = ["hello.trac", "guess.trac", "hanoi.trac"];
 
 /**
- * A program that comes with the page: where it is listed, its file, what it is called and what it shows, and its bytes in base64.
+ * A program that comes with the page: where it is listed, its file, what it is called and what it shows, and its bytes
+ * in base64.
  * @typedef {{ group: string, name: string, title: string, line: string, text: string }} Program
  */
 
@@ -46,8 +48,8 @@ export class Library {
   }
 }
 
-// Shows what a newcomer meets: the program that was typed last, or a first one, and what to do. Whoever opens the page of
-// a program meets that.
+// Shows what a newcomer meets: the program that was typed last, or a first one, and what to do. Whoever opens the page
+// of a program meets that.
 /** @param {Page} page @param {boolean} isGiven */
 export function welcome(page, isGiven) {
   const { library } = page;

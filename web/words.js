@@ -185,7 +185,8 @@ export function addArgument(parent, text, add, isOpen = false) {
 // So many texts of a call are shown: its name, and arguments.
 const MOST_TEXTS = 400;
 
-// Adds the texts of a call, with commas between them, each by `add`. Where there are many, those in the middle are left out.
+// Adds the texts of a call, with commas between them, each by `add`. Where there are many, those in the middle are left
+// out.
 /** @param {Element} parent @param {Called} call @param {(text: string, index: number, isEnd: boolean) => void} add */
 export function addTexts(parent, call, add) {
   // (a call takes its line apart each time that it is asked)

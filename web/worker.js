@@ -1,6 +1,6 @@
-// The Worker of the page. It is given the module once, and the input where that is another than before. All requests are done by one
-// instance of the module, which forgets what it had of one before the next: so its memory is as large as the largest needs, and no
-// memory of others is left behind.
+// The Worker of the page. It is given the module once, and the input where that is another than before. All requests
+// are done by one instance of the module, which forgets what it had of one before the next: so its memory is as large
+// as the largest needs, and no memory of others is left behind.
 
 // A reply may be so long, in bytes, and the memory of the module so large.
 const MOST = 1 << 27, MEMORY = 1 << 29;
@@ -115,8 +115,8 @@ const CALLS = {
     ["trac_web_doubts", [...instance.put(tape), BigInt(budget), BigInt(decimals)], 1],
 };
 
-// Answers a request: a reply that is too long for its room is asked for again with twice the room or more. If so much is not
-// wanted, its front is enough.
+// Answers a request: a reply that is too long for its room is asked for again with twice the room or more. If so much
+// is not wanted, its front is enough.
 /** @param {Instance} instance @param {Request} request */
 function answer(instance, request) {
   const most = request.most ?? MOST;

@@ -1,5 +1,5 @@
-// Compares the module with the built programs: bytes that runs print, replies of the debugger, states, dialogues, ways of bytes, and
-// doubts.
+// Compares the module with the built programs: bytes that runs print, replies of the debugger, states, dialogues, ways
+// of bytes, and doubts.
 //
 //     node compare.mjs PAGE TRAC TRAC_WALK PROGRAMS WALKS     PAGE is trac.html, or a module; PROGRAMS and WALKS are folders
 //
@@ -245,7 +245,8 @@ function searchStatus(status, said) {
     return said === '' && status < 2 ? ENDED : undefined
 }
 
-// The doubts of all programs that are here: the lines of trac-lint, for the program and what it reads in one file, without its name.
+// The doubts of all programs that are here: the lines of trac-lint, for the program and what it reads in one file,
+// without its name.
 function doubts() {
     const top = path.join(programs, '..', '..', '..')
     for (const folder of ['tests/data/lint', 'tests/data/lint/mistakes', 'tests/data/lint/parentheses', 'tests/data/programs', 'programs/examples']) {

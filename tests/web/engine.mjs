@@ -35,7 +35,8 @@ class Request {
         return Number(new DataView(this.exports.memory.buffer).getBigUint64(Number(place), true))
     }
 
-    // Calls an export. Arguments are texts (Uint8Array) and numbers; after them it has a buffer of this size, and `more` numbers beside its length.
+    // Calls an export. Arguments are texts (Uint8Array) and numbers; after them it has a buffer of this size, and
+    // `more` numbers beside its length.
     call(name, args, size, more = 0) {
         const words = args.flatMap((it) => (it instanceof Uint8Array ? this.text(it) : [BigInt(it)]))
         const output = this.room(size), counts = [...Array(1 + more)].map(() => this.room(8))

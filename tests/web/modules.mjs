@@ -7,7 +7,8 @@ const { measure } = await import('../../web/measure.js')
 const { endOfArgument, formsSet, isSlip, remedied } = await import('../../web/remedies.js')
 const { Story } = await import('../../web/story.js')
 
-// What the page asks its Worker, asked of the module; of the steps that a move or a way goes back over, it keeps so many.
+// What the page asks its Worker, asked of the module; of the steps that a move or a way goes back over, it keeps so
+// many.
 const asked = (engine, kept = 1048576) => ({
     ask: async (call, tape, { commands, journal = 1048576, keep = 268435456, budget, most = Infinity, step, kind, numbers, name }) => {
         const { status, reply } = call === 'run' ? engine.run(tape, budget)
@@ -88,7 +89,8 @@ async function runOf(engine, text) {
 // A form that calls itself, and then a form that was set before: its name, its gap and its text are read long before.
 const TURNING = "#(ds,name,(Ann))#(ds,L,(#(eq,N,0,,(#(cl,L,#(su,N,1))))))'#(ss,L,N)'#(ps,(x)##(cl,name))#(cl,L,9)#(ps,##(cl,name)!)'"
 
-// Moves over a call, and ways: if 16 steps are kept, they come to the same as if all are, which is what the processor is proved to say.
+// Moves over a call, and ways: if 16 steps are kept, they come to the same as if all are, which is what the processor
+// is proved to say.
 async function keptAnew(engine, holds) {
     const run = await runOf(engine, TURNING), few = asked(engine, 16)
     for (let from = run.end; from > 0; from -= 31) {

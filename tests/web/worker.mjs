@@ -1,5 +1,5 @@
-// The Worker of the page, run in Node over the same module: each try of a request begins with no block, and a reply that is too long
-// for its room is asked for again, with twice the room or more.
+// The Worker of the page, run in Node over the same module: each try of a request begins with no block, and a reply
+// that is too long for its room is asked for again, with twice the room or more.
 import fs from 'node:fs'
 import vm from 'node:vm'
 

@@ -13,7 +13,8 @@ SLOW = ("#(ds,A,0123456789abcdef)'#(ds,D,(#(ds,A,##(cl,A)##(cl,A))))'" + "#(cl,D
 # What has the focus: its id, or what it is called and where it stands.
 FOCUS = ("(() => { const it = document.activeElement; const within = it.closest('[id]'); return it === document.body ? '' : it.id || "
          "`${within.id}: ${it.getAttribute('aria-label') ?? it.textContent}`; })()")
-# Every stop of the Tab key that can be seen, in the order of the page; controls that stand side by side are one where the browser says so.
+# Every stop of the Tab key that can be seen, in the order of the page; controls that stand side by side are one where
+# the browser says so.
 STOPS = ("[...document.querySelectorAll('button, select, input, textarea, [tabindex]')].filter((it) => it.checkVisibility() && it.tabIndex >= 0 "
          "&& !it.disabled && it.type !== 'file').map((it) => it.id || `${it.closest('[id]').id}: ${it.getAttribute('aria-label') ?? it.textContent}`)")
 STEP = "document.getElementById('slider').value"

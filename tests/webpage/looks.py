@@ -4,8 +4,8 @@ import os
 from webpage.pages import KEPT, Deeds, check
 from webpage.rows import CHROMIUM, rows
 
-# Colours that a person sees: of text on what is behind it, of controls' borders, and of the ring around what has the focus. The worst
-# pairs whose contrast is less than it should be.
+# Colours that a person sees: of text on what is behind it, of controls' borders, and of the ring around what has the
+# focus. The worst pairs whose contrast is less than it should be.
 CONTRAST = """(() => {
   const parse = (text) => {
     const numbers = text.match(/[\\d.]+/g).map(Number);
@@ -96,7 +96,8 @@ OVER = """(() => {
   return end.bottom > innerHeight + 1 ? [...over, `the end stands at ${end.bottom}`] : over;
 })()"""
 
-# States, each beside what looks the same but for them. Where the system chooses colours, lines, shapes or words tell them apart.
+# States, each beside what looks the same but for them. Where the system chooses colours, lines, shapes or words tell
+# them apart.
 STATES = [
     ("#neutral .moved", "#neutral [data-place]"), ("#active .put", "#active .line > :last-child"), (".gone", "#neutral [data-place]"),
     (".coming", "#active .line > :last-child"), ("#mark", "#neutral"), (".row[aria-current]", ".row:not([aria-current])"),

@@ -90,8 +90,9 @@ def walk(page: Deeds) -> None:
     settle(page)
 
 
-# Of 16 MiB with line ends, which take four signs each where a state is told: 8 steps up to the reading, 6 for `#(`, `ps`, `,`, all that is
-# protected and `)`, one for the idle program's `)`, one that loads it anew, and its 7 before it reads again.
+# Of 16 MiB with line ends, which take four signs each where a state is told: 8 steps up to the reading, 6 for `#(`,
+# `ps`, `,`, all that is protected and `)`, one for the idle program's `)`, one that loads it anew, and its 7 before it
+# reads again.
 LINES = b"#(ps,(" + b"abcdefg \n" * 1_864_000 + b"))'"
 # Of 31 MB: the first of these texts takes 20 steps, each other one 21, and after 15 of these it has printed.
 SHORT = b"#(ps,a)#(pr)'\n" * 2_214_000
@@ -103,7 +104,8 @@ PROGRAMS = (
     ("short.trac", SHORT, "After 2,000,000 steps: it was stopped there, and could go on", "of 95,238"),
     ("plain.trac", b"a" * 16_700_000 + b"'", "After 2,000,000 steps: it was stopped there, and could go on", "nothing printed yet"),
 )
-# A form of 2 MiB that is printed 33 times; one of 4 MiB under more and more names; and a text that is longer than any may be.
+# A form of 2 MiB that is printed 33 times; one of 4 MiB under more and more names; and a text that is longer than any
+# may be.
 DOUBLED = "#(ds,A,0123456789abcdef)'#(ds,D,(#(ds,A,##(cl,A)##(cl,A))))'{}'"
 REFUSED = (
     ("printing.trac", DOUBLED.format("#(cl,D)" * 17) + "#(ps,##(cl,A))'" * 33, "This is too long to be shown: more than 64 MiB are printed."),

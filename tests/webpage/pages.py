@@ -24,8 +24,8 @@ IS_GATHERED = ("document.querySelector('#tree .quote') !== null && document.quer
 # All is told of where its 0 comes from: two calls, with their arguments.
 IS_FOLLOWED = "[...document.querySelectorAll('#way-list .way-row')].filter((row) => row.querySelector('[tabindex]')).length === 2"
 
-# Keeps from the page what the mouse does beside an element, which may have moved meanwhile, and after the first click on it. (Where
-# the element is too thin to be hit, what is around it is the goal.)
+# Keeps from the page what the mouse does beside an element, which may have moved meanwhile, and after the first click
+# on it. (Where the element is too thin to be hit, what is around it is the goal.)
 AIM = """((find, goal = find) => {
   const kinds = ['pointerdown', 'mousedown', 'pointerup', 'mouseup', 'click'];
   let isHit = false;

@@ -155,7 +155,8 @@ def check_tokens(page: Deeds) -> None:
     page.press("Home")
     page.at(0)
     says(page, "last", explained)
-    # (the idle program; `#(` `ps` `,` `abc` `)` and its own `)`; the idle program; the line end, `##(` `zz` `)` and `)`)
+    # (the idle program; `#(` `ps` `,` `abc` `)` and its own `)`; the idle program; the line end, `##(` `zz` `)` and
+    # `)`)
     steps = (8, 9, 11, 12, 15, 16, 17, 26, 27, 28, 30, 31, 32, 40)
     for step in steps:
         page.press("ArrowRight")
