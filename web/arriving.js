@@ -33,7 +33,8 @@ export async function movedTo(engine, { tape, isClosed }, from, line, isWanted) 
   const text = end < 0 ? replies.text : replies.text.slice(0, end);
   const told = text.trimEnd().split("\n").filter((one) => !FORGOTTEN.test(one));
   const said = told.slice(1 + ended.length, -1).join(" ");
-  return { said, step: stepSaid(text), window: end < 0 ? null : arrived(replies, stepSaid(text)), isAllKept: !FORGOTTEN.test(text) };
+  const step = stepSaid(text);
+  return { said, step, window: end < 0 ? null : arrived(replies, step), isAllKept: !FORGOTTEN.test(text) };
 }
 
 // The states at a step and beside it, in a dialogue that shows each after the line of its step.

@@ -231,5 +231,6 @@ function wordsOfPointer(call, form, name) {
   if (!(isBack ? form.startsWith("<^>") : form.endsWith("<^>"))) {
     return [`only gaps stand ${isBack ? "before" : "after"} the pointer of `, of];
   }
-  return ["the pointer of ", of, ` stands at its ${isBack ? "start" : "end"}${name === "cs" ? ": no segment is left" : ""}`];
+  const more = name === "cs" ? ": no segment is left" : "";
+  return ["the pointer of ", of, ` stands at its ${isBack ? "start" : "end"}${more}`];
 }

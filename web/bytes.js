@@ -135,7 +135,9 @@ export function grouped(count) {
 export function plainOf(text, most) {
   const front = text.length > most ? boundary(text, most) : text.length;
   let plain = "";
-  for (const piece of piecesOf(text.slice(0, front))) plain += "plain" in piece ? piece.plain : `‹${signOf(piece.byte)}›`;
+  for (const piece of piecesOf(text.slice(0, front))) {
+    plain += "plain" in piece ? piece.plain : `‹${signOf(piece.byte)}›`;
+  }
   return front < text.length ? plain + "…" : plain;
 }
 

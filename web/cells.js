@@ -8,7 +8,8 @@ const SHAPELESS = /[\p{C}\p{Zl}\p{Zp}]/u;
 /**
  * A run of signs, or a byte that is none: from which byte on, and how many bytes a unit of the script's text stands
  * for.
- * @typedef {{ from: number, text: string, perUnit: number, byte?: undefined } | { from: number, byte: number, text?: undefined }} Signs
+ * @typedef {{ from: number, text: string, perUnit: number, byte?: undefined }
+ *   | { from: number, byte: number, text?: undefined }} Signs
  */
 
 // Splits bytes into runs of signs that have equally many bytes, and single other bytes.

@@ -23,7 +23,8 @@ export function isForming(name) {
 function mayChange(text, form) {
   const name = nameSaid(text);
   const rest = text.slice(text.indexOf("(") + name.length + 2);
-  return CHANGES_MANY.has(name) || (CHANGES_ONE.has(name) && (rest.startsWith(form) || rest.startsWith("(" + form) || rest.includes("..")));
+  const mayBeIt = rest.startsWith(form) || rest.startsWith("(" + form) || rest.includes("..");
+  return CHANGES_MANY.has(name) || (CHANGES_ONE.has(name) && mayBeIt);
 }
 
 // The last of these calls, before a step, that changed a form, or nothing.

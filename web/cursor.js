@@ -260,11 +260,13 @@ export class Cursor {
   }
 }
 
+const NO_EARLIER = /^not met since the first step that is kept, step 0$/;
+
 // What trac-walk says beside where it stands after a command, without its own commands.
 /** @param {string} text @param {string} line */
 function noteOf(text, line) {
   const met = line === "u" ? text.replace(/^not met; /, "there is no call after this step: ")
-    : line === "r" ? text.replace(/^not met since the first step that is kept, step 0$/, "there is no call before this step") : text;
+    : line === "r" ? text.replace(NO_EARLIER, "there is no call before this step") : text;
   return met.replace(/: i TEXT feeds a line, e ends the input/g, "")
     .replace(/ ?\bm goes to step (\d+), where the search ended/g, " (step $1)");
 }

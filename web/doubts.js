@@ -106,7 +106,8 @@ export function showDoubts(page, told) {
   const inProgram = page.isStale ? [] : doubts.filter(isInProgram);
   page.editor.light("doubtful", inProgram.map(({ byte, end = byte + 1 }) => [byte, end]), false);
   page.tabs.count("doubts", grouped(doubts.length), doubts.length > 0);
-  byId("doubts-hint").textContent = doubts.length ? "What was probably not meant." : "Nothing is done that was probably not meant.";
+  const hint = doubts.length ? "What was probably not meant." : "Nothing is done that was probably not meant.";
+  byId("doubts-hint").textContent = hint;
   byId("doubts").replaceChildren(...doubts.slice(0, MOST_DOUBTS).map((doubt) => {
     const { step, byte, words } = doubt;
     const row = make("p", "way-row");
@@ -115,5 +116,6 @@ export function showDoubts(page, told) {
     if (isInProgram(doubt)) row.append(placeOf(page, byte));
     return row;
   }));
-  if (doubts.length > MOST_DOUBTS) byId("doubts").append(make("p", "note", `and ${grouped(doubts.length - MOST_DOUBTS)} more`));
+  const more = doubts.length - MOST_DOUBTS;
+  if (more > 0) byId("doubts").append(make("p", "note", `and ${grouped(more)} more`));
 }

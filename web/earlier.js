@@ -37,16 +37,24 @@ export function sourceOf(before, after, spot) {
   if (!move.call) return null;
   const { texts } = move.call;
   /** @type {(place: number, byte: number) => Spot} */
-  const inArgument = (place, byte) => ({ kind: KINDS.argument, numbers: [before.parts.calls.length - 1, place, byte], name: NO_NAME });
+  const inArgument = (place, byte) => {
+    const numbers = [before.parts.calls.length - 1, place, byte];
+    return { kind: KINDS.argument, numbers, name: NO_NAME };
+  };
   const name = texts[0].toLowerCase();
-  if (spot.kind === KINDS.output) return name === "ps" && move.printed === texts[1] ? inArgument(1, spot.numbers[0] - before.parts.printed) : null;
+  if (spot.kind === KINDS.output) {
+    const isIt = name === "ps" && move.printed === texts[1];
+    return isIt ? inArgument(1, spot.numbers[0] - before.parts.printed) : null;
+  }
   if (spot.kind === KINDS.form) {
     const form = formOf(after, spot.name);
     return name === "ds" && form && form.text === POINTER + texts[2] ? inArgument(2, spot.numbers[0]) : null;
   }
   const byte = byteOfValue(move, after, spot);
   if (byte === null) return null;
-  if (OF_FORMS.has(name) && (name === "cl" || move.form === undefined)) return placesOf(before, move, inArgument)?.[byte] ?? null;
+  if (OF_FORMS.has(name) && (name === "cl" || move.form === undefined)) {
+    return placesOf(before, move, inArgument)?.[byte] ?? null;
+  }
   const places = texts.map((text, place) => (place > 0 && text === move.value ? place : 0)).filter((place) => place);
   const branch = name === "eq" ? places.filter((place) => place === (texts[1] === texts[2] ? 3 : 4)) : places;
   return branch.length === 1 ? inArgument(branch[0], byte) : null;
@@ -62,7 +70,8 @@ function byteOfValue(move, after, { kind, numbers }) {
   const length = lengthOf(move.value);
   const { base, calls } = after.parts;
   const [function_, argument, at] = numbers;
-  const start = kind === KINDS.active ? 0 : kind === KINDS.base ? lengthOf(base) - length : lengthOf(calls[function_].texts[argument]) - length;
+  const text = kind === KINDS.base ? base : calls[function_]?.texts[argument] ?? "";
+  const start = kind === KINDS.active ? 0 : lengthOf(text) - length;
   const byte = (kind === KINDS.argument ? at : numbers[0]) - start;
   return byte >= 0 && byte < length ? byte : null;
 }

@@ -36,7 +36,8 @@ export class Editor {
     this.fixed = null;
     this.eol = "\n";
     this.name = "program.trac";
-    /** @type {{ value: string, eol: string, bytes: Uint8Array } | null} the bytes of the text in the box, once they are asked for */
+    // the bytes of the text in the box, once they are asked for
+    /** @type {{ value: string, eol: string, bytes: Uint8Array } | null} */
     this.kept = null;
     /** @type {Map<string, Stretch[]>} which bytes are lit, in which way */
     this.lit = new Map();
@@ -135,7 +136,8 @@ export class Editor {
   /** @param {Held[]} list */
   keep(list) {
     list.push({ name: this.name, bytes: this.bytes() });
-    while (list.length > MOST_BEFORE || list.reduce((sum, { bytes }) => sum + bytes.length, 0) > MOST_BEFORE_BYTES) list.shift();
+    const length = () => list.reduce((sum, { bytes }) => sum + bytes.length, 0);
+    while (list.length > MOST_BEFORE || length() > MOST_BEFORE_BYTES) list.shift();
   }
 
   // Brings back what stood there before another program was opened, or after.

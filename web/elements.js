@@ -6,8 +6,8 @@
  *   source: HTMLTextAreaElement, "share-text": HTMLTextAreaElement, input: HTMLInputElement, place: HTMLInputElement,
  *   slider: HTMLInputElement, filter: HTMLInputElement, file: HTMLInputElement, paste: HTMLInputElement,
  *   "single-keys": HTMLInputElement, library: HTMLSelectElement, course: HTMLSelectElement, speed: HTMLSelectElement,
- *   depth: HTMLCanvasElement, question: HTMLDialogElement, "share-box": HTMLDialogElement, "open-box": HTMLDialogElement,
- *   dark: HTMLStyleElement,
+ *   depth: HTMLCanvasElement, question: HTMLDialogElement, "share-box": HTMLDialogElement,
+ *   "open-box": HTMLDialogElement, dark: HTMLStyleElement,
  * }} Special
  */
 

@@ -13,7 +13,10 @@ const STANDS = {
   waits: { words: "the program waits for input", next: "the program reads on once there is input" },
   halts: { words: "the program halts", isGood: true, next: "nothing: the program has halted" },
   ended: { words: "the input has ended", isGood: true, next: "nothing: the input has ended" },
-  refused: { words: "a limit is passed: a form may grow with each call, or a text lack its '", next: "no step: a limit is passed" },
+  refused: {
+    words: "a limit is passed: a form may grow with each call, or a text lack its '",
+    next: "no step: a limit is passed",
+  },
   Memory: { words: "memory was refused: a form may grow with each call", next: "no step: memory was refused" },
   spent: { words: "it was stopped there, and could go on", next: "more, if it goes on" },
   stopped: { words: "it was stopped there, and could go on", next: "more, if it goes on" },
@@ -36,7 +39,9 @@ export function endingOf(page) {
   /** @type {Ending} */
   const ending = { words: isGood ? `Done after ${count}: ${words}.` : `After ${count}: ${words}.`, isGood, next };
   if (kind === "spent" || kind === "stopped") ending.mend = { words: "go on", does: () => page.runs.goOn() };
-  if (kind === "done" && !page.runs.wantsInput) ending.mend = { words: "type more of it", does: () => page.runs.typeMore() };
+  if (kind === "done" && !page.runs.wantsInput) {
+    ending.mend = { words: "type more of it", does: () => page.runs.typeMore() };
+  }
   return ending;
 }
 

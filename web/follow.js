@@ -12,7 +12,9 @@ import { NotUnderstood } from "./replies.js";
  */
 
 /** @type {Record<string, string>} */
-const DEEDS = { prints: "prints", sets: "sets", gives: "gives", nothing: "nothing", made: "makes", read: "reads", earlier: "there" };
+const DEEDS = {
+  prints: "prints", sets: "sets", gives: "gives", nothing: "nothing", made: "makes", read: "reads", earlier: "there",
+};
 
 // A row: its step, what was done, and where; where that is a form, its name follows.
 const ROW = new RegExp("(\\d+) (prints|sets|gives|made|read|earlier|nothing)"
@@ -31,8 +33,8 @@ const ROW = new RegExp("(\\d+) (prints|sets|gives|made|read|earlier|nothing)"
  */
 export async function followed(page, place, at, number, engine = page.engine, isWanted = () => true) {
   const run = /** @type {Run} */ (page.run);
-  const mark = place === "output" ? run.landmarks.find(({ step, printed }) => step <= at && printed > number) : undefined;
-  const step = mark?.step ?? at;
+  const marks = place === "output" ? run.landmarks : [];
+  const step = marks.find((mark) => mark.step <= at && mark.printed > number)?.step ?? at;
   return wayFrom(engine, run, step, await spotOf(run, place, step, number), isWanted);
 }
 

@@ -47,7 +47,8 @@ async function gatherMore(page, run, calls) {
   if (run !== page.run) return;
   doubts.push(...hintsOf(run.program));
   showDoubts(page, doubts);
-  if (doubts.length) page.announcer.say("note", `${doubts.length === 1 ? "1 doubt is" : `${grouped(doubts.length)} doubts are`} listed`);
+  const count = doubts.length === 1 ? "1 doubt is" : `${grouped(doubts.length)} doubts are`;
+  if (doubts.length) page.announcer.say("note", `${count} listed`);
   calls.prints = await printsOf(background, tape, calls, run);
   calls.idles = await idlesOf(background, tape, calls, run);
   if (run === page.run) timeline.show(calls, run.end);

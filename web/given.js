@@ -4,7 +4,8 @@ import { textIn } from "./elements.js";
 /**
  * A program and what it reads, each packed; the step, if it is not the end; how many steps the run may take, if that is
  * said; and how many bits numbers have.
- * @typedef {{ name: string, program: string, input: string, step: number | null, budget: number | null, decimals: number }} Given
+ * @typedef {{ name: string, program: string, input: string, step: number | null, budget: number | null,
+ *   decimals: number }} Given
  */
 
 /** @returns {Given | null} */

@@ -12,20 +12,9 @@ function onKey(page, event, keys) {
     return;
   }
   if (event.ctrlKey || event.altKey || event.metaKey || event.isComposing) return;
-  if (event.key === "Escape" && !event.defaultPrevented && !byId("stop").hidden && !elementOf(event).closest("dialog")) {
-    page.runs.stop();
-    return;
-  }
-  if (event.key === "Escape" && !event.defaultPrevented && !byId("help").hidden && !elementOf(event).closest("dialog")) {
-    page.view.help(false);
-    return;
-  }
+  if (event.key === "Escape" && !elementOf(event).closest("dialog") && leaves(page, event)) return;
   if (event.key === "Enter" && elementOf(event).id === "filter") {
     page.cursor.visitFound();
-    return;
-  }
-  if (event.key === "Escape" && isWriting(elementOf(event)) && !elementOf(event).closest("dialog")) {
-    elementOf(event).blur();
     return;
   }
   if (isWriting(elementOf(event)) || !page.run) return;
@@ -36,6 +25,16 @@ function onKey(page, event, keys) {
   if (!action || !isOn(event.key)) return;
   event.preventDefault();
   page.cursor.act(action);
+}
+
+// Ends what goes on, or closes the help, or leaves what is written in, by Escape. Whether it did.
+/** @param {Page} page @param {KeyboardEvent} event */
+function leaves(page, event) {
+  if (!event.defaultPrevented && !byId("stop").hidden) page.runs.stop();
+  else if (!event.defaultPrevented && !byId("help").hidden) page.view.help(false);
+  else if (isWriting(elementOf(event))) elementOf(event).blur();
+  else return false;
+  return true;
 }
 
 // Runs the program. The output has the focus then, if nothing else was given it meanwhile.

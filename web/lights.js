@@ -15,7 +15,8 @@ export function setLight(name, ranges) {
   lit.delete(name);
   if (window.Highlight) CSS.highlights.delete(name);
   if (ranges.length === 0) return;
-  lit.set(name, { ranges, boxes: window.Highlight ? [] : ranges.flatMap((range) => boxesOf(name, range)).slice(0, MOST_BOXES) });
+  const boxes = window.Highlight ? [] : ranges.flatMap((range) => boxesOf(name, range)).slice(0, MOST_BOXES);
+  lit.set(name, { ranges, boxes });
   if (window.Highlight) CSS.highlights.set(name, new Highlight(...ranges));
 }
 
@@ -46,5 +47,6 @@ function boxesOf(name, range) {
 
 // Lines may break elsewhere now: boxes are made anew.
 export function startLights() {
-  if (!window.Highlight) addEventListener("resize", () => [...lit].forEach(([name, { ranges }]) => setLight(name, ranges)));
+  if (window.Highlight) return;
+  addEventListener("resize", () => [...lit].forEach(([name, { ranges }]) => setLight(name, ranges)));
 }

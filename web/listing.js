@@ -46,7 +46,8 @@ export class Listing {
   ask(word) {
     this.isFlat = word !== "";
     const { texts } = this.calls;
-    this.shown = this.isFlat ? [...texts.keys()].filter((index) => isAsked(texts[index].toLowerCase(), word)) : this.unfolded();
+    const found = () => [...texts.keys()].filter((index) => isAsked(texts[index].toLowerCase(), word));
+    this.shown = this.isFlat ? found() : this.unfolded();
     this.places = new Map(this.shown.map((index, place) => [index, place]));
   }
 

@@ -22,7 +22,10 @@ const NO_BYTE = "this sign is no byte any more: it was deleted, and shows where 
 function startFollowing(page) {
   document.addEventListener("click", (event) => {
     const who = around(elementOf(event), "[data-who]");
-    if (who) return void page.cursor.act({ words: "", keys: [], does: () => page.cursor.whoChanged(who.dataset.who ?? null) });
+    const form = who?.dataset.who;
+    if (form !== undefined) {
+      return void page.cursor.act({ words: "", keys: [], does: () => page.cursor.whoChanged(form) });
+    }
     if (!page.run || elementOf(event).closest("button, .link") || !getSelection()?.isCollapsed) return undefined;
     const found = byteNear(event.clientX, event.clientY);
     if (found) page.cursor.follow(found.holder, found.number);
@@ -58,7 +61,9 @@ function startLooks(page) {
     keepText(THEME, theme);
     named();
   });
-  for (const looks of ["(prefers-color-scheme: dark)", "(forced-colors: active)"]) matchMedia(looks).addEventListener("change", named);
+  for (const looks of ["(prefers-color-scheme: dark)", "(forced-colors: active)"]) {
+    matchMedia(looks).addEventListener("change", named);
+  }
   byId("help-button").addEventListener("click", () => page.view.help());
   byId("help-close").addEventListener("click", () => page.view.help(false));
   named();

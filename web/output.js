@@ -25,8 +25,9 @@ export function showOutput(view, bytes, printed, fresh, step) {
     parent.append(mark);
   }
   if (last < printed) parent.append(turnButton("later", Math.min(last + SHOWN_OUTPUT, printed), view));
-  byId("output-note").textContent = printed === 0 ? "nothing printed yet"
-    : first > 0 || last < printed ? `bytes ${grouped(first + 1)} to ${grouped(last)} of ${grouped(printed)}` : view.hint;
+  const part = `bytes ${grouped(first + 1)} to ${grouped(last)} of ${grouped(printed)}`;
+  const isWhole = first === 0 && last === printed;
+  byId("output-note").textContent = printed === 0 ? "nothing printed yet" : isWhole ? view.hint : part;
   parent.scrollTop = parent.scrollHeight;
 }
 

@@ -18,7 +18,8 @@ import { Runs } from "./runs.js";
 export class Page {
   /** @param {import("./engine.js").Engine} engine */
   constructor(engine) {
-    /** @type {Engine} one processor answers at once, another tells what is beside that, and one gathers what may come later */
+    // one processor answers at once, another tells what is beside that, and one gathers what may come later
+    /** @type {Engine} */
     this.engine = engine;
     /** @type {Engine} */
     this.ahead = engine.twin();

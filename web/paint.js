@@ -107,7 +107,8 @@ export class Paint {
     while (front < most && old[front].key === keys[front]) front++;
     while (back < most - front && old[old.length - 1 - back].key === keys[keys.length - 1 - back]) back++;
     for (const { element } of old.slice(front, old.length - back)) element.remove();
-    const fresh = lines.slice(front, lines.length - back).map((line, at) => ({ key: keys[front + at], element: lineOf(line) }));
+    const changed = lines.slice(front, lines.length - back);
+    const fresh = changed.map((line, at) => ({ key: keys[front + at], element: lineOf(line) }));
     const after = old[old.length - back]?.element ?? null;
     for (const { element } of fresh) this.place.insertBefore(element, after);
     this.lines = [...old.slice(0, front), ...fresh, ...old.slice(old.length - back)];

@@ -36,7 +36,8 @@ export function addCall(parent, call, depth, step, most, isGathered) {
   addTexts(parent, call, (text, index, isEnd) => {
     const isLast = isGathered && isEnd;
     addArgument(parent, text, () => {
-      const span = addTextCells(parent, text, 0, (index ? "argument" : "argument name") + (isLast ? " gathered" : ""), most);
+      const name = (index ? "argument" : "argument name") + (isLast ? " gathered" : "");
+      const span = addTextCells(parent, text, 0, name, most);
       return placed(span, `argument ${depth} ${index}`, step);
     }, isLast);
   });
@@ -50,7 +51,8 @@ function boxOf(call, number, shown) {
   box.setAttribute("role", "group");
   const name = plainOf(call.texts[0], 30) || "no name yet";
   const gathered = call.texts.length === 1 ? "its name" : `argument ${call.texts.length - 1}`;
-  box.setAttribute("aria-label", `call ${number + 1}, ${call.neutral ? "neutral" : "active"}: ${name}, ${gathered} is gathered`);
+  const kind = call.neutral ? "neutral" : "active";
+  box.setAttribute("aria-label", `call ${number + 1}, ${kind}: ${name}, ${gathered} is gathered`);
   const head = make("p", "head");
   addCall(head, call, number, shown.step, shown.mostOfCall, true);
   box.append(head);
@@ -63,7 +65,8 @@ export function showBegun(calls, shown) {
   const depth = calls.length;
   const from = Math.max(depth - shown.boxes, 0);
   const outside = make("div");
-  byId("begun-count").textContent = depth === 0 ? "none" : depth === 1 ? "1" : `${grouped(depth)}, each within the one before`;
+  const many = `${grouped(depth)}, each within the one before`;
+  byId("begun-count").textContent = depth === 0 ? "none" : depth === 1 ? "1" : many;
   if (from > 0) {
     const names = calls.slice(0, Math.min(from, 3)).map((call) => plainOf(call.texts[0], 12)).join(", ");
     outside.append(make("p", "left-out", `${grouped(from)} further out (${names} …)`));
@@ -163,7 +166,7 @@ export function showBlocks(blocks, shown) {
   const rows = [];
   for (const [place, block] of blocks.slice(0, ROWS).entries()) {
     rows.push(noteRow(`block ${block.number}${block.isErased ? ", erased" : ""}`, shown.isChanged(block.line)));
-    for (const [index, form] of block.forms.slice(0, ROWS).entries()) rows.push(formRow(form, `held ${place} ${index}`, shown));
+    block.forms.slice(0, ROWS).forEach((form, index) => rows.push(formRow(form, `held ${place} ${index}`, shown)));
   }
   if (blocks.length > ROWS) rows.push(noteRow(`and ${grouped(blocks.length - ROWS)} more`));
   byId("blocks").replaceChildren(...rows);

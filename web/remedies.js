@@ -19,7 +19,8 @@ export function isSlip(one, other) {
   while (at < short.length && short[at] === long[at]) at++;
   const [rest, left] = [short.slice(at), long.slice(at)];
   if (rest.length < left.length) return rest === left.slice(1);
-  return rest.slice(1) === left.slice(1) || (rest[0] === left[1] && rest[1] === left[0] && rest.slice(2) === left.slice(2));
+  const isSwapped = rest[0] === left[1] && rest[1] === left[0] && rest.slice(2) === left.slice(2);
+  return isSwapped || rest.slice(1) === left.slice(1);
 }
 
 // The primitives that a name is one slip from: of names of two signs half are near, so those that begin as it does, if
@@ -74,7 +75,8 @@ export function endOfArgument(program, from) {
   for (; end < most; end++) {
     const sign = program[end];
     if (sign === OPENS) depth++;
-    else if (sign === APOSTROPHE || (sign === CLOSES && depth-- === 0) || (sign === COMMA && depth === 0 && !isProtected)) break;
+    else if (sign === CLOSES && depth-- === 0) break;
+    else if (sign === APOSTROPHE || (sign === COMMA && depth === 0 && !isProtected)) break;
   }
   while (end > from + 1 && program[end - 1] <= 32) end--;
   return Math.max(end, from + 1);

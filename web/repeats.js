@@ -23,7 +23,8 @@ function repeatsOf({ steps, texts }) {
     const kind = kindOfCall(texts[index]);
     kinds.set(kind, { kind, count: (kinds.get(kind)?.count ?? 0) + 1, step: steps[index] });
   }
-  return [...kinds.values()].filter(({ count }) => count >= FEWEST).sort((one, other) => other.count - one.count).slice(0, MOST_TOLD);
+  const often = [...kinds.values()].filter(({ count }) => count >= FEWEST);
+  return often.sort((one, other) => other.count - one.count).slice(0, MOST_TOLD);
 }
 
 // Says it under the end of a run that was stopped; each is a link to where it was made last.

@@ -34,7 +34,9 @@ export class Replies {
   // Whether these signs stand there.
   /** @param {string} words */
   has(words, at = this.at) {
-    for (let index = 0; index < words.length; index++) if (this.bytes[at + index] !== words.charCodeAt(index)) return false;
+    for (let index = 0; index < words.length; index++) {
+      if (this.bytes[at + index] !== words.charCodeAt(index)) return false;
+    }
     return true;
   }
 

@@ -60,8 +60,9 @@ async function share(page) {
   const held = heldByPage(page);
   const link = await linkOf(held);
   const lines = held.inputs.length;
-  const parts = ["the program", ...(lines ? [lines === 1 ? "a line of input" : `${grouped(lines)} lines of input`] : []),
-    ...(held.step === null ? [] : [`step ${grouped(held.step)}`])];
+  const parts = ["the program"];
+  if (lines) parts.push(lines === 1 ? "a line of input" : `${grouped(lines)} lines of input`);
+  if (held.step !== null) parts.push(`step ${grouped(held.step)}`);
   const holds = `${parts.slice(0, -1).join(", ")}${parts.length > 1 ? " and " : ""}${parts[parts.length - 1]}`;
   const text = link === null ? "" : `${isServed() ? location.href.replace(/#.*$/, "") : ""}#${link}`;
   const lacks = DECIMALS === WIDE ? "" : ` It does not say that numbers have ${DECIMALS} bits here.`;

@@ -231,7 +231,7 @@ export class Story {
   /** @param {States} window */
   keep(window) {
     /** @param {States} one */
-    const isWithin = ({ from, states }) => from >= window.from && from + states.length <= window.from + window.states.length;
+    const isWithin = (one) => one.from >= window.from && endOf(one) <= endOf(window);
     this.windows = [...this.windows.filter((one) => !isWithin(one)), window];
     this.size = Math.max(Math.ceil(window.length / window.states.length), 100);
     /** @param {States} one */
@@ -262,7 +262,8 @@ export class Story {
       const way = this.way(missing[0]);
       const commands = [...way.commands, "p\n"];
       missing.slice(1).forEach((step, index) => commands.push(`s ${step - missing[index]}\np\n`));
-      const { bytes } = await this.engine.ask("debug", this.tape, { commands: commands.join("") }, way.room + (1 << 22));
+      const words = { commands: commands.join("") };
+      const { bytes } = await this.engine.ask("debug", this.tape, words, way.room + (1 << 22));
       const replies = new Replies(bytes);
       const before = Story.passed(replies, way);
       missing.forEach((step, index) => {
@@ -272,6 +273,12 @@ export class Story {
     }
     return found;
   }
+}
+
+// The step after the last of these states.
+/** @param {States} window */
+function endOf({ from, states }) {
+  return from + states.length;
 }
 
 // A window of states.

@@ -217,7 +217,8 @@ export class Tree extends Listing {
     const page = Math.max(Math.floor(this.box.clientHeight / this.rowHeight) - 1, 1);
     /** @type {Record<string, number | undefined>} */
     const places = {
-      ArrowDown: place + 1, ArrowUp: place - 1, PageDown: place + page, PageUp: place - page, Home: 0, End: this.shown.length,
+      ArrowDown: place + 1, ArrowUp: place - 1, PageDown: place + page, PageUp: place - page,
+      Home: 0, End: this.shown.length,
     };
     const to = places[event.key];
     if (to !== undefined) this.choose(Math.min(Math.max(to, 0), this.shown.length - 1));
@@ -258,7 +259,8 @@ export class Tree extends Listing {
       this.typed = "";
     }, TYPING);
     // (more of the name may be that of the same call; the same sign again is for the next one)
-    const to = this.named(this.typed, place + (this.typed.length > 1 ? 0 : 1)) ?? this.named(sign.toLowerCase(), place + 1);
+    const more = this.named(this.typed, place + (this.typed.length > 1 ? 0 : 1));
+    const to = more ?? this.named(sign.toLowerCase(), place + 1);
     if (to !== undefined) this.choose(to);
   }
 

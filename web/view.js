@@ -185,7 +185,8 @@ export class View {
     showBegun(parts.calls, shown);
     showForms(parts.forms, shown);
     showBlocks(parts.blocks, shown);
-    const isOther = (/** @type {import("./panels.js").Setting} */ name) => name !== "numbers" && before?.[name] !== parts[name];
+    /** @param {import("./panels.js").Setting} name */
+    const isOther = (name) => name !== "numbers" && before?.[name] !== parts[name];
     showRest(parts, this.page.shownRun.tape.length, (name) => before !== undefined && isOther(name));
     const { tabs } = this.page;
     tabs.count("forms", grouped(parts.forms.length));
@@ -260,7 +261,8 @@ export class View {
       byId("stop").hidden = !isBusy;
       if (isBusy) this.showWords("It runs.");
     });
-    if (isBusy) this.saying = setTimeout(() => this.page.announcer.say("ending", "It runs. Escape stops it."), SAID_LATE);
+    const say = () => this.page.announcer.say("ending", "It runs. Escape stops it.");
+    if (isBusy) this.saying = setTimeout(say, SAID_LATE);
   }
 
   /** @param {string} words */

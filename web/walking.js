@@ -30,23 +30,39 @@ export function actionsOf(page) {
   /** @param {string} line */
   const walk = (line) => () => page.cursor.walk(line);
   return [
-    { id: "start", bar: "buttons", sign: "|◀", words: "to the start", keys: ["Home"], way: -1, does: () => page.cursor.go(0) },
-    { id: "back", bar: "buttons", sign: "◀ back", words: "back, as far as the switch says", keys: [], way: -1, does: () => page.cursor.unitBack() },
-    { id: "play", bar: "buttons", sign: "play", words: "play, pause", keys: [" "], does: () => page.cursor.play() },
-    { id: "forward", bar: "buttons", sign: "step ▶", words: "forward, as far as the switch says", keys: [], way: 1, does: () => page.cursor.unitForward() },
-    { id: "end", bar: "buttons", sign: "▶|", words: "to the end", keys: ["End"], way: 1, does: () => page.cursor.go(Infinity) },
+    button("start", "|◀", { words: "to the start", keys: ["Home"], way: -1, does: () => page.cursor.go(0) }),
+    button("back", "◀ back", {
+      words: "back, as far as the switch says", keys: [], way: -1, does: () => page.cursor.unitBack(),
+    }),
+    button("play", "play", { words: "play, pause", keys: [" "], does: () => page.cursor.play() }),
+    button("forward", "step ▶", {
+      words: "forward, as far as the switch says", keys: [], way: 1, does: () => page.cursor.unitForward(),
+    }),
+    button("end", "▶|", { words: "to the end", keys: ["End"], way: 1, does: () => page.cursor.go(Infinity) }),
     { words: "a step back", keys: ["b"], way: -1, does: () => page.cursor.stepBack() },
     { words: "a step forward", keys: ["s"], way: 1, does: () => page.cursor.stepForward() },
     { words: "a token back", keys: ["ArrowLeft"], way: -1, does: () => page.cursor.tokenBack() },
     { words: "a token forward", keys: ["ArrowRight"], way: 1, does: () => page.cursor.token() },
     { words: "back to the call before", keys: ["r", "Shift+ArrowLeft"], way: -1, does: walk("r") },
     { words: "forward to the next call", keys: ["u", "Shift+ArrowRight"], way: 1, does: walk("u") },
-    { id: "over-back", bar: "more-buttons", sign: "◀ over", words: "back over the call that gave what stands here", keys: ["N"], way: -1, does: walk("N") },
-    { id: "over", bar: "more-buttons", sign: "over ▶", words: "over this call, until its value is scanned too", keys: ["n"], way: 1, does: walk("n") },
-    { id: "begin", bar: "more-buttons", sign: "◀ in", words: "back to where the innermost begun call began", keys: ["O"], way: -1, does: walk("O") },
-    { id: "out", bar: "more-buttons", sign: "out ▶", words: "out of the innermost begun call", keys: ["o"], way: 1, does: walk("o") },
+    moreButton("over-back", "◀ over", {
+      words: "back over the call that gave what stands here", keys: ["N"], way: -1, does: walk("N"),
+    }),
+    moreButton("over", "over ▶", {
+      words: "over this call, until its value is scanned too", keys: ["n"], way: 1, does: walk("n"),
+    }),
+    moreButton("begin", "◀ in", {
+      words: "back to where the innermost begun call began", keys: ["O"], way: -1, does: walk("O"),
+    }),
+    moreButton("out", "out ▶", { words: "out of the innermost begun call", keys: ["o"], way: 1, does: walk("o") }),
   ];
 }
+
+// What has a button in one of the two bars.
+/** @param {string} id @param {string} sign @param {Action} action @returns {Action} */
+const button = (id, sign, action) => ({ id, bar: "buttons", sign, ...action });
+/** @param {string} id @param {string} sign @param {Action} action @returns {Action} */
+const moreButton = (id, sign, action) => ({ id, bar: "more-buttons", sign, ...action });
 
 // What keys do beside those.
 /** @param {Page} page @returns {Action[]} */
@@ -72,7 +88,9 @@ export function keyOf(event) {
 }
 
 /** @type {Record<string, string>} */
-const KEY_NAMES = { ArrowLeft: "←", ArrowRight: "→", "Shift+ArrowLeft": "Shift+←", "Shift+ArrowRight": "Shift+→", " ": "Space" };
+const KEY_NAMES = {
+  ArrowLeft: "←", ArrowRight: "→", "Shift+ArrowLeft": "Shift+←", "Shift+ArrowRight": "Shift+→", " ": "Space",
+};
 // What a step is, as far as the switch says, and its keys, back and forward.
 /** @type {Record<Unit, [words: string, back: string, forward: string]>} */
 const UNIT_WORDS = { byte: ["a byte", "b", "s"], token: ["a token", "←", "→"], call: ["a call", "r", "u"] };
@@ -89,7 +107,10 @@ function buttonName({ sign = "", words }) {
 export function showActions(page, actions) {
   for (const action of actions) if (action.bar) addButton(page, action);
   byId("buttons").append(unitSwitch(page));
-  for (const speed of SPEEDS) byId("speed").append(new Option(`${speed}/s`, String(speed), speed === SPEED, speed === SPEED));
+  for (const speed of SPEEDS) {
+    const isFirst = speed === SPEED;
+    byId("speed").append(new Option(`${speed}/s`, String(speed), isFirst, isFirst));
+  }
   startPlace(page);
   for (const { keys, words } of [...actions.filter((action) => action.keys.length), ...moreKeys(page)]) {
     const row = make("div");
@@ -107,8 +128,8 @@ function addButton(page, action) {
   const button = buttonOf("", () => page.cursor.act(action));
   button.id = id;
   // (a small window has no room for the words of two of them)
-  const parts = /^(◀ )?(back|step)( ▶)?$/.test(sign) ? sign.split(/([a-z]+)/) : [sign];
-  button.append(...parts.filter((part) => part).map((part) => (parts.length > 1 && /[a-z]/.test(part) ? make("span", "word", part) : part)));
+  const parts = /^(◀ )?(back|step)( ▶)?$/.test(sign) ? sign.split(/([a-z]+)/).filter((part) => part) : [sign];
+  button.append(...parts.map((part) => (parts.length > 1 && /[a-z]/.test(part) ? make("span", "word", part) : part)));
   button.title = keys.length ? `${words} (${keys.map((key) => KEY_NAMES[key] ?? key).join(", ")})` : words;
   button.setAttribute("aria-label", buttonName({ sign, words }));
   byId(bar).insertBefore(button, bar === "buttons" ? null : byId("speed-label"));

@@ -10,7 +10,9 @@ import { keepFocus } from "./focus.js";
 import { around, buttonOf, byId, elementOf, make } from "./elements.js";
 
 /** @type {Record<string, string>} */
-const DEEDS = { prints: "prints it", sets: "sets it", gives: "gives it", makes: "makes it", there: "it is there already" };
+const DEEDS = {
+  prints: "prints it", sets: "sets it", gives: "gives it", makes: "makes it", there: "it is there already",
+};
 // So often a byte that a call made is followed on by itself, through the same argument of calls of the same name.
 const MOST_HOPS = 200;
 const SHOWN_ROWS = 30;
@@ -71,7 +73,8 @@ export class Way {
     /** @param {Row} row */
     const told = (row) => [`step ${grouped(row.step)}:`, plainOf(this.textOf(row), 60), this.words(row)].join(" ");
     const count = rows.reduce((sum, { left }) => sum + (left ?? 1), 0);
-    const all = rows.length < 4 ? rows.map(told).join("; ") : `${grouped(count)} calls, the last is ${told(rows[rows.length - 1])}`;
+    const all = rows.length < 4 ? rows.map(told).join("; ")
+      : `${grouped(count)} calls, the last is ${told(rows[rows.length - 1])}`;
     return `Where it comes from: ${all}`;
   }
 
@@ -198,7 +201,9 @@ export function placeOf(page, byte) {
 // The editor has another text now: no place leads there any more.
 export function unlinkPlaces() {
   keepFocus(() => {
-    for (const button of document.querySelectorAll("button.place")) button.replaceWith(make("span", "", button.textContent + OF_OLD));
+    for (const button of document.querySelectorAll("button.place")) {
+      button.replaceWith(make("span", "", button.textContent + OF_OLD));
+    }
   });
 }
 

@@ -56,7 +56,8 @@ export function welcome(page, isGiven) {
   const first = library.named(FIRST);
   const isBack = page.draft.restore();
   if (!isBack && !isGiven) page.editor.put({ name: first.name, bytes: bytesOfSigns(first.text) });
-  byId("welcome-about").hidden = page.editor.name !== FIRST || page.editor.box.value !== textOf(bytesOfSigns(first.text));
+  const isFirst = page.editor.name === FIRST && page.editor.box.value === textOf(bytesOfSigns(first.text));
+  byId("welcome-about").hidden = !isFirst;
   for (const program of TRIES.map((name) => library.named(name))) {
     addTry(program.title, program.line, () => library.open(program));
   }

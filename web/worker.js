@@ -11,6 +11,7 @@ const JOURNAL = 1048576, KEEP = 1 << 28, DECIMALS = 128;
 class Refusal extends Error {}
 
 /** @typedef {(...words: bigint[]) => number} Call */
+/** @typedef {"trac_web_run" | "trac_web_debug" | "trac_web_walk" | "trac_web_way" | "trac_web_doubts"} CallName */
 
 /**
  * What the module has: its memory, how that is taken, and its calls.
@@ -28,8 +29,7 @@ class Refusal extends Error {}
 
 /**
  * The name of a call, what it takes before the room for its reply, and how many numbers it writes beside.
- * @typedef {[name: "trac_web_run" | "trac_web_debug" | "trac_web_walk" | "trac_web_way" | "trac_web_doubts", words: bigint[], beside?: number
- *   ]} Order
+ * @typedef {[name: CallName, words: bigint[], beside?: number]} Order
  */
 
 /**

@@ -1,4 +1,5 @@
-"""Nothing is used that Chromium 105, Firefox 121 or Safari 16.4 lack, but where the page goes on without it; and no part is long."""
+"""Nothing is used that Chromium 105, Firefox 121 or Safari 16.4 lack, but where the page goes on without it; and no
+part is long."""
 import glob
 import os
 import re
@@ -8,12 +9,14 @@ from webpage.pages import TOP, check
 # What later browsers alone have, or what Safari has in part.
 LATER = {
     "js": (r"\bscheduler\b|OffscreenCanvas|requestIdleCallback|checkVisibility|withResolvers|fromAsync|[gG]roupBy\("
-           r"|\.to(Sorted|Spliced|Reversed)\(|\.with\(\d|isWellFormed|startViewTransition|[sg]etHTML|moveBefore|showPopover"
-           r"|navigation\.|\.(union|difference|isSubsetOf)\(|AbortSignal\.any|Intl\.(Segmenter|DurationFormat)|Temporal\."
-           r"|import .* with|/[gimsuy]*v[gimsuy]*\.(exec|test)|Uint8Array\.from(Base64|Hex)|\.values\(\)\.(map|filter|some)\("
+           r"|\.to(Sorted|Spliced|Reversed)\(|\.with\(\d|isWellFormed|startViewTransition|[sg]etHTML|moveBefore"
+           r"|showPopover|navigation\.|\.(union|difference|isSubsetOf)\(|AbortSignal\.any"
+           r"|Intl\.(Segmenter|DurationFormat)|Temporal\.|import .* with|/[gimsuy]*v[gimsuy]*\.(exec|test)"
+           r"|Uint8Array\.from(Base64|Hex)|\.values\(\)\.(map|filter|some)\("
            r"|Promise\.try|RegExp\.escape|\busing \w+ ="),
-    "css": (r"field-sizing|@scope|@starting-style|@property|@container|:popover-open|anchor\(|text-wrap: pretty|light-dark\("
-            r"|interpolate-size|(^|[{;] *)&|calc-size|content-visibility|round\(|\bmod\(|text-decoration: \w[\w-]* [^;}]"
+    "css": (r"field-sizing|@scope|@starting-style|@property|@container|:popover-open|anchor\(|text-wrap: pretty"
+            r"|light-dark\(|interpolate-size|(^|[{;] *)&|calc-size|content-visibility|round\(|\bmod\("
+            r"|text-decoration: \w[\w-]* [^;}]"
             r"|(?<!-webkit-)(?<!-webkit-user-select: none; )user-select"),
 }
 
