@@ -282,11 +282,11 @@ function doubts() {
             const tape = Buffer.concat([fs.readFileSync(`${it}.trac`), given])
             const file = inFile(tape), width = decimals ? decimals[1] : '128'
             const words = ['--lint', '--decimals', width, file]
-            const native = spawnSync(tracWalk, words, { encoding: 'latin1', maxBuffer: 1 << 28 })
+            const found = spawnSync(tracWalk, words, { encoding: 'latin1', maxBuffer: 1 << 28 })
             const bare = (line) => (line.startsWith(`${file}:`) ? line.slice(file.length) : line)
-            const lines = native.stdout.split('\n').map(bare)
+            const lines = found.stdout.split('\n').map(bare)
             const answer = engine.doubts(tape, 10_000_000, Number(width))
-            const status = searchStatus(native.status, native.stderr)
+            const status = searchStatus(found.status, found.stderr)
             same(`doubts of ${folder}/${name}`, answer, status, Buffer.from(lines.join('\n'), 'latin1'))
             const told = lines.filter((line) => line.startsWith(':') && !/^:\d+:\d+: note: /.test(line)).length
             holds(`doubts of ${folder}/${name}: ${answer.others[0]} places, and not ${told}`, answer.others[0] === told)
