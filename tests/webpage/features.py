@@ -1,5 +1,5 @@
 """Nothing is used that Chromium 105, Firefox 121 or Safari 16.4 lack, but where the page goes on without it; and no
-part is long."""
+part is long, or has long lines."""
 import glob
 import os
 import re
@@ -21,18 +21,21 @@ LATER = {
 }
 
 
-# The most lines of a part.
-MOST_LINES = 300
+# The most lines of a part, and the most columns of a line.
+MOST_LINES, MOST_COLUMNS = 300, 120
 
 
 def check_features() -> None:
-    """Each part of the page, line by line."""
-    for path in sorted(glob.glob(os.path.join(TOP, "web", "*"))):
-        pattern = LATER.get(path.rsplit(".", 1)[-1])
+    """Each part of the page, and of what tries its module, line by line."""
+    for path in sorted(glob.glob(os.path.join(TOP, "web", "*")) + glob.glob(os.path.join(TOP, "tests", "web", "*"))):
+        name = os.path.relpath(path, TOP)
+        with open(path, encoding="utf-8") as part:
+            lines = part.read().split("\n")
+        long = [number for number, line in enumerate(lines, 1) if len(line) > MOST_COLUMNS]
+        check(not long, "{}: lines of at most {} columns, and not {}".format(name, MOST_COLUMNS, long))
+        pattern = LATER.get(name.rsplit(".", 1)[-1])
         if not pattern:
             continue
-        with open(path, encoding="utf-8") as part:
-            lines = part.readlines()
         found = [(number, line.strip()[:80]) for number, line in enumerate(lines, 1) if re.search(pattern, line)]
-        check(len(lines) <= MOST_LINES, "{} has {} lines".format(os.path.relpath(path, TOP), len(lines)))
-        check(not found, "{}: later browsers alone have this: {}".format(os.path.relpath(path, TOP), found))
+        check(len(lines) - 1 <= MOST_LINES, "{} has {} lines".format(name, len(lines) - 1))
+        check(not found, "{}: later browsers alone have this: {}".format(name, found))
