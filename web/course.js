@@ -3,28 +3,19 @@ import { leftOut } from "./bytes.js";
 import { addCells } from "./cells.js";
 import { Stopped, wordsOf } from "./engine.js";
 import { isOff, setOff } from "./focus.js";
+import { inPage } from "./instead.js";
 import { addMarkdown, titleOf } from "./markdown.js";
 import { inputAfter, judged } from "./judging.js";
 import { buttonOf, byId, make, textIn } from "./elements.js";
 import { startList } from "./lists.js";
 
 const SHOWN_BYTES = 4096;
-// What a lesson says of the exercises in a terminal: here `next` leads to them. And sentences of what only a terminal
-// shows.
-const IN_TERMINAL = /\n## Exercises\n[^]*$/;
-const OF_SHELL = /(?<=^|[.:] )[^.:\n]*\bshell\b[^.]*\.\s?/gm;
 
 /**
  * A lesson; or an exercise, with its runs: what stands after the program, and what must be printed.
  * @typedef {{ text: string, runs?: undefined } | Exercise} Item
  * @typedef {{ text: string, runs: [string, string][], start: string | null, hint: string, solution: string }} Exercise
  */
-
-// A text of the course without what holds in a terminal alone.
-/** @param {string} text */
-function inPage(text) {
-  return text.replace(IN_TERMINAL, "").replace(OF_SHELL, "");
-}
 
 export class Course {
   /** @param {Page} page */
@@ -99,7 +90,7 @@ export class Course {
     check.className = "main";
     // (a hint has no title)
     /** @param {HTMLElement} at */
-    const hinted = (at) => addMarkdown(at, `#\n${hint}`, (name, text) => this.program(name, text));
+    const hinted = (at) => addMarkdown(at, inPage(`#\n${hint}`), (name, text) => this.program(name, text));
     /** @param {HTMLElement} at */
     const solved = (at) => at.append(this.program("solution.trac", solution));
     bar.append(check, buttonOf("Hint", (button) => this.unfold(button, hinted)));

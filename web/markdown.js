@@ -70,12 +70,12 @@ export function addMarkdown(parent, text, shown) {
   }
 }
 
-// Adds what stands in a terminal. Of a run alone it is what that prints: here Run does it.
+// Adds what stands in a terminal. Of a run it is what that prints, also with what is typed: here Run does it.
 /** @param {Element} parent @param {string[]} lines */
 function addConsole(parent, lines) {
-  const isRun = /^\$ \.\/trac run < \S+$/.test(lines[0]);
-  if (isRun) parent.append(make("p", "pale", "It prints"));
-  parent.append(make("pre", "block", (isRun ? lines.slice(1) : lines).join("\n")));
+  const [, kind] = /^\$ \.\/trac (run <|play) \S+$/.exec(lines[0]) ?? [];
+  if (kind === "run <") parent.append(make("p", "pale", "It prints"));
+  parent.append(make("pre", "block", (kind ? lines.slice(1) : lines).join("\n")));
 }
 
 // The title of a text.

@@ -72,8 +72,7 @@ def check_lessons(page: Deeds) -> None:
         last = [line for line in text.split("\n## Exercises\n")[0].split("\n") if line and line[0].isalpha()][-1]
         check(has_words(shown, last), "{} is shown to its end".format(path))
         check("```" not in shown, "{}: each block is one".format(path))
-        check("./trac run <" not in shown and "./trac course" not in shown,
-              "{} takes no terminal for what Run does".format(path))
+        check("./trac" not in shown and "shell" not in shown, "{} takes no terminal for what the page does".format(path))
     shows(page, "3. Forms")
     page.put("")
     press(page, "Open scan.trac")
@@ -99,8 +98,10 @@ def check_exercises(page: Deeds) -> None:
         press(page, "Hint")
         press(page, "Hint")
         hints = page.script("[...document.querySelectorAll('.unfolded')].map((one) => one.textContent)")
-        check(len(hints) == 1 and has_words(hints[0], read(os.path.join(folder, "hint.md"))),
+        hint = read(os.path.join(folder, "hint.md"))
+        check(len(hints) == 1 and ("./trac" in hint or has_words(hints[0], hint)),
               "{}: its hint: {}".format(folder, hints))
+        check("./trac" not in page.text("lesson-text"), "{} takes no terminal".format(folder))
     shows(page, "5.1 A countdown")
     for program, part in CHECKED:
         said = judged(page, program)
