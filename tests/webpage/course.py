@@ -72,7 +72,8 @@ def check_lessons(page: Deeds) -> None:
         last = [line for line in text.split("\n## Exercises\n")[0].split("\n") if line and line[0].isalpha()][-1]
         check(has_words(shown, last), "{} is shown to its end".format(path))
         check("```" not in shown, "{}: each block is one".format(path))
-        check("./trac" not in shown and "shell" not in shown, "{} takes no terminal for what the page does".format(path))
+        check("./trac" not in shown and "shell" not in shown,
+              "{} takes no terminal for what the page does".format(path))
     shows(page, "3. Forms")
     page.put("")
     press(page, "Open scan.trac")
