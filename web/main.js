@@ -6,6 +6,7 @@ import { keepText, kept, THEME } from "./drafts.js";
 import { startChoosing } from "./choosing.js";
 import { byteNear, startSlider, startSwipes } from "./touch.js";
 import { startKeys } from "./keys.js";
+import { startOutput } from "./output.js";
 import { Page } from "./page.js";
 import { openAddress, startSharing } from "./share.js";
 import { DECIMALS, givenToPage } from "./given.js";
@@ -90,6 +91,7 @@ function startPage(page) {
     if (event.detail > 0) around(elementOf(event), "#buttons button, #more-buttons button, #run")?.blur();
   });
   startLights();
+  startOutput();
   startKeys(page);
   startAnnouncing(page);
   startFollowing(page);

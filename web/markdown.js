@@ -4,6 +4,8 @@ import { make } from "./elements.js";
 const MARKED = /`([^`]+)`|\*\*([^*]+)\*\*|\*([^*]+)\*/g;
 const FENCE = /^```(\w*) ?(\S*)$/;
 const ITEM = /^(\d+\.|-) +(.*)$/;
+// Code of so many signs at most is not broken at the end of a line.
+const SHORT = 24;
 
 /**
  * A part of a text: its kind, its name, if its fence says one, and its lines.
@@ -45,7 +47,8 @@ function addMarked(parent, text) {
   for (const found of text.matchAll(MARKED)) {
     const [whole, code, strong, slanted] = found;
     const tag = code ? "code" : strong ? "strong" : "em";
-    parent.append(text.slice(from, found.index), make(tag, "", code ?? strong ?? slanted));
+    const name = code && code.length <= SHORT ? "short" : "";
+    parent.append(text.slice(from, found.index), make(tag, name, code ?? strong ?? slanted));
     from = (found.index ?? 0) + whole.length;
   }
   parent.append(text.slice(from));

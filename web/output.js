@@ -31,6 +31,19 @@ export function showOutput(view, bytes, printed, fresh, step) {
   parent.scrollTop = parent.scrollHeight;
 }
 
+// The end of the output stays in view where the box gets another height, as by a line of input under it; unless one has
+// scrolled away from there.
+export function startOutput() {
+  const box = byId("output");
+  let isAtEnd = true;
+  box.addEventListener("scroll", () => {
+    isAtEnd = box.scrollTop + box.clientHeight >= box.scrollHeight - 2;
+  });
+  new ResizeObserver(() => {
+    if (isAtEnd) box.scrollTop = box.scrollHeight;
+  }).observe(box);
+}
+
 // A button that shows an earlier or later part, up to a byte.
 /** @param {string} word @param {number} to @param {View} view */
 function turnButton(word, to, view) {

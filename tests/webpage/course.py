@@ -2,11 +2,14 @@
 import glob
 import json
 import os
+import re
 
 from webpage.pages import TOP, Deeds, check
 from webpage.rows import ONE, rows
 
 COURSE = os.path.join(TOP, "programs", "course")
+# What a lesson says of a terminal: the page says something else.
+OF_TERMINAL = re.compile(r"\./trac|^trac:|Ctrl-C|\bshell\b")
 # A check that is stopped after a minute tells no more than how slow the machine is: so it may take an hour.
 PATIENT = """(() => {
   const set = window.setTimeout;
@@ -69,8 +72,12 @@ def check_lessons(page: Deeds) -> None:
         there = [os.path.basename(file) for file in glob.glob(os.path.join(os.path.dirname(path), "*.trac"))]
         check(sorted(names) == sorted("Open " + name for name in there), "{} has its programs: {}".format(path, names))
         shown = page.text("lesson-text").replace("\n", " ")
-        last = [line for line in text.split("\n## Exercises\n")[0].split("\n") if line and line[0].isalpha()][-1]
+        own = [line for line in text.split("\n## Exercises\n")[0].split("\n") if not OF_TERMINAL.search(line)]
+        last = [line for line in own if line and line[0].isalpha()][-1]
         check(has_words(shown, last), "{} is shown to its end".format(path))
+        is_broken = page.script("[...document.querySelectorAll('#lesson-text code.short')]"
+                                ".some((it) => it.getClientRects().length > 1)")
+        check(not is_broken, "{}: short code is not broken".format(path))
         check("```" not in shown, "{}: each block is one".format(path))
         check("./trac" not in shown and "shell" not in shown,
               "{} takes no terminal for what the page does".format(path))

@@ -36,6 +36,11 @@ def check_first(page: Deeds) -> None:
     check(page.script(HIDDEN.format("welcome")), "what to do is gone")
     page.click("document.querySelector('#output [data-byte]')")
     page.until("document.getElementById('way-list').textContent.includes('makes it')", "where the 0 comes from")
+    said = page.script("document.querySelector('#welcome ol').textContent")
+    check("character of the output, and then the argument" in said, "what to click is said: " + said)
+    page.click("[...document.querySelectorAll('#way-list .way-row:last-child .argument')].at(-1)")
+    page.until("document.getElementById('way-list').textContent.includes('reads it: line 1, column 26')",
+               "the byte that is to be changed")
     check(page.script("document.getElementById('tab-way').getAttribute('aria-selected')") == "true", "its tab is seen")
 
 
