@@ -4,6 +4,8 @@ import { addCells, placed } from "./cells.js";
 import { byId, make } from "./elements.js";
 
 const SHOWN_OUTPUT = 8192;
+// whether the end of what is shown is in view
+let isAtEnd = true;
 
 // Shows the output up to so many bytes, of which the last step has printed some. Of a long one a part is shown, which
 // buttons move.
@@ -29,17 +31,20 @@ export function showOutput(view, bytes, printed, fresh, step) {
   const isWhole = first === 0 && last === printed;
   byId("output-note").textContent = printed === 0 ? "nothing printed yet" : isWhole ? view.hint : part;
   parent.scrollTop = parent.scrollHeight;
+  isAtEnd = true;
 }
 
 // The end of the output stays in view where the box gets another height, as by a line of input under it; unless one has
 // scrolled away from there.
 export function startOutput() {
   const box = byId("output");
-  let isAtEnd = true;
+  let height = 0;
   box.addEventListener("scroll", () => {
-    isAtEnd = box.scrollTop + box.clientHeight >= box.scrollHeight - 2;
+    // (what comes of another height is no scrolling)
+    if (box.clientHeight === height) isAtEnd = box.scrollTop + height >= box.scrollHeight - 2;
   });
   new ResizeObserver(() => {
+    height = box.clientHeight;
     if (isAtEnd) box.scrollTop = box.scrollHeight;
   }).observe(box);
 }
