@@ -6,8 +6,6 @@ import { ruleOf } from "./moves.js";
 import { IDLE_TEXTS } from "./stretch.js";
 
 /** @typedef {import("./arriving.js").Arrived} Arrived */
-/** @typedef {import("./engine.js").Engine} Engine */
-/** @typedef {import("./run.js").Run} Run */
 
 // Where the processor keeps no more steps, or looks no farther: from there the same is looked for again.
 const ENDED = /not met since the first step that is kept, step (\d+)|m goes to step (\d+), where the search ended/;
@@ -16,8 +14,8 @@ const FIRST_LOOK = 16;
 const MORE_LOOKS = 4;
 
 /**
- * A move of trac-walk, without a limit but time: back to a call, forward to one, to where the innermost begun call began, or back over
- * the call that gave what stands here.
+ * A move of trac-walk, without a limit but time: back to a call, forward to one, to where the innermost begun call
+ * began, or back over the call that gave what stands here.
  * @param {Engine} engine
  * @param {Run} run
  * @param {number} from
@@ -59,12 +57,12 @@ function isMet({ said }) {
  */
 async function stateAt(run, step) {
   const states = await run.story.at([step]);
-  return /** @type {import("./replies.js").State} */ (states.get(step));
+  return /** @type {State} */ (states.get(step));
 }
 
 /**
- * Goes back to where the innermost begun call began: where the steps end that are kept, more calls may be begun, each of which is left
- * first.
+ * Goes back to where the innermost begun call began: where the steps end that are kept, more calls may be begun, each
+ * of which is left first.
  * @param {Engine} engine
  * @param {Run} run
  * @param {number} from
@@ -97,8 +95,8 @@ export async function beginOf(engine, run, step) {
 }
 
 /**
- * Goes back over the call that gave what stands here, where it may have begun before the first step that is kept. After its `)` as much was
- * left to scan as is here, and since then no less; of several, it is the earliest.
+ * Goes back over the call that gave what stands here, where it may have begun before the first step that is kept. After
+ * its `)` as much was left to scan as is here, and since then no less; of several, it is the earliest.
  * @param {Engine} engine
  * @param {Run} run
  * @param {number} from
@@ -134,8 +132,8 @@ async function overLast(engine, run, from, first, isWanted) {
 }
 
 /**
- * The step of the earliest call whose value ends there, or nothing: of those performed with so many begun around them, after these began,
- * and before a step.
+ * The step of the earliest call whose value ends there, or nothing: of those performed with so many begun around them,
+ * after these began, and before a step.
  * @param {Engine} engine
  * @param {Run} run
  * @param {{ around: number, depth: number, rest: number }} sought

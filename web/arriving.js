@@ -10,15 +10,15 @@ const LOOKS = ["p all", "b", "p all", "s", "p all", "s", "p all"];
 const FORGOTTEN = /^steps before \d+ are forgotten/m;
 
 /**
- * What a move came to: what is said of it, the step where it arrives, the states there, if they were wanted and came whole, and whether
- * the processor kept all steps on the way.
- * @typedef {{ said: string, step: number, window: import("./story.js").Window | null, isAllKept: boolean }} Arrived
+ * What a move came to: what is said of it, the step where it arrives, the states there, if they were wanted and came
+ * whole, and whether the processor kept all steps on the way.
+ * @typedef {{ said: string, step: number, window: States | null, isAllKept: boolean }} Arrived
  */
 
 /**
  * A move from a step.
- * @param {import("./engine.js").Engine} engine
- * @param {import("./run.js").Run} run
+ * @param {Engine} engine
+ * @param {Run} run
  * @param {number} from
  * @param {string} line
  * @param {boolean} isWanted
@@ -33,10 +33,12 @@ export async function movedTo(engine, { tape, isClosed }, from, line, isWanted) 
   const text = end < 0 ? replies.text : replies.text.slice(0, end);
   const told = text.trimEnd().split("\n").filter((one) => !FORGOTTEN.test(one));
   const said = told.slice(1 + ended.length, -1).join(" ");
-  return { said, step: stepSaid(text), window: end < 0 ? null : arrived(replies, stepSaid(text)), isAllKept: !FORGOTTEN.test(text) };
+  const step = stepSaid(text);
+  return { said, step, window: end < 0 ? null : arrived(replies, step), isAllKept: !FORGOTTEN.test(text) };
 }
 
 // The states at a step and beside it, in a dialogue that shows each after the line of its step.
+/** @param {Replies} replies @param {number} step */
 function arrived(replies, step) {
   // (what was read and printed before the first step that is kept is not said)
   if (FORGOTTEN.test(replies.text)) return null;

@@ -6,10 +6,13 @@ import { byId, elementOf, focused } from "./elements.js";
 const OUTSIDE_KEYS = ["/", "?", "h"];
 
 export class Big {
-  /** @param {import("./page.js").Page} page */
+  /** @param {Page} page */
   constructor(page) {
     this.page = page;
     this.button = byId("big");
+    /** @type {HTMLElement | null} what had the focus before, and how far the page was scrolled */
+    this.before = null;
+    this.scrolled = 0;
     this.button.addEventListener("click", () => this.toggle());
     document.addEventListener("keydown", (event) => this.key(event), true);
   }
@@ -48,6 +51,7 @@ export class Big {
     this.bring();
   }
 
+  /** @param {KeyboardEvent} event */
   key(event) {
     if (!this.isOn || event.ctrlKey || event.altKey || event.metaKey || isWriting(elementOf(event))) return;
     const leaves = event.key === "Escape";

@@ -8,7 +8,8 @@ const MOST_LIST = 1 << 25;
 const CALL_LINE = /^(\d+) {2}((?: {2})*)(##?\(.*)$/;
 
 /**
- * The calls of a run: for each its step, how many are begun around it, its text, and the call that it was an argument of.
+ * The calls of a run: for each its step, how many are begun around it, its text, and the call that it was an argument
+ * of.
  * @typedef {object} Calls
  * @property {number[]} steps
  * @property {number[]} depths
@@ -26,6 +27,13 @@ const CALL_LINE = /^(\d+) {2}((?: {2})*)(##?\(.*)$/;
 export const NO_CALLS = { steps: [], depths: [], texts: [], parents: [], from: 0, to: 0 };
 
 // The calls of a run. Where they are too long together, they are cut.
+/**
+ * @param {Asked} engine
+ * @param {Uint8Array} tape
+ * @param {number} end
+ * @param {boolean} [isClosed]
+ * @returns {Promise<Calls>}
+ */
 export async function callsOf(engine, tape, end, isClosed) {
   for (const list of [`t ${MOST_CALLS} all`, `t ${MOST_CALLS}`]) {
     const commands = `${[...endOfInput(isClosed), `s ${end}`, list].join("\n")}\n`;
@@ -36,6 +44,7 @@ export async function callsOf(engine, tape, end, isClosed) {
 }
 
 // The calls that trac-walk lists, before the step where it stands.
+/** @param {string} text @param {number} end */
 function callsSaid(text, end) {
   /** @type {Calls} */
   const calls = { ...NO_CALLS, steps: [], depths: [], texts: [], to: end };
@@ -54,22 +63,29 @@ function callsSaid(text, end) {
 }
 
 // For each call the one that it was an argument of, or -1. It is performed later, and fewer calls are begun then.
+/** @param {number[]} depths */
 function parentsOf(depths) {
   const parents = new Int32Array(depths.length).fill(-1);
+  /** @type {number[]} */
   const open = [];
   depths.forEach((depth, index) => {
-    while (open.length && depths[open[open.length - 1]] > depth) parents[open.pop()] = index;
+    for (let last = open.at(-1); last !== undefined && depths[last] > depth; last = open.at(-1)) {
+      parents[last] = index;
+      open.pop();
+    }
     open.push(index);
   });
   return parents;
 }
 
 // The name of a call as it is listed, in small letters.
+/** @param {string} text */
 export function nameSaid(text) {
   return /^##?\(([A-Za-z]{2})[,)]/.exec(text)?.[1].toLowerCase() ?? "";
 }
 
 // How many calls each call is within.
+/** @param {ArrayLike<number>} parents */
 export function levelsOf(parents) {
   const levels = new Int32Array(parents.length);
   for (let index = parents.length - 1; index >= 0; index--) {

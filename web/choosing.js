@@ -1,8 +1,8 @@
 // In a text that has the focus, arrows choose a sign and Enter follows it, as a click does.
 import { grouped } from "./bytes.js";
-import { rangeOfByte } from "./cells.js";
+import { cellsOf, rangeOfByte, textOfCell } from "./cells.js";
 import { setLight } from "./lights.js";
-import { elementOf } from "./elements.js";
+import { around, elementOf } from "./elements.js";
 
 // Texts whose signs can be chosen.
 export const TEXTS = "#output, #rules, #neutral, #active, #begun, [data-place][tabindex], .way-row .code[tabindex]";
@@ -10,32 +10,41 @@ export const TEXTS = "#output, #rules, #neutral, #active, #begun, [data-place][t
 const FORWARD = new Set(["active", "rules"]);
 
 // What signs are called that nobody sees or hears.
+/** @type {Record<string, string>} */
 const BLANKS = { " ": "a blank", "\n": "LF", "\t": "TAB" };
 
-// The signs of a text: the number of each, and the element that says where it stands.
+/**
+ * A sign of a text: the number of its first byte, and the element that says where it stands.
+ * @typedef {{ holder: HTMLElement, number: number }} Sign
+ */
+
+// The signs of a text.
+/** @param {HTMLElement} text */
 function signsIn(text) {
-  return [...text.querySelectorAll("[data-byte]")].flatMap((cell) => {
-    const holder = cell.closest("[data-place]");
+  return [...cellsOf(text)].flatMap((cell) => {
+    const holder = around(cell, "[data-place]");
     return holder ? numbersOf(cell).map((number) => ({ holder, number })) : [];
   });
 }
 
 // The numbers of the first bytes of an element's signs.
+/** @param {HTMLElement} cell */
 function numbersOf(cell) {
   const from = Number(cell.dataset.byte), per = Number(cell.dataset.per ?? 0);
-  if (!per) return [from];
-  const text = cell.firstChild.data;
+  const text = textOfCell(cell);
+  if (!text) return [from];
   const units = Array.from({ length: text.length }, (_, unit) => unit);
-  return units.filter((unit) => !/[\udc00-\udfff]/.test(text[unit])).map((unit) => from + unit * per);
+  return units.filter((unit) => !/[\udc00-\udfff]/.test(text.data[unit])).map((unit) => from + unit * per);
 }
 
 // A sign of a text by a name, so that it is found again after a step.
+/** @param {Sign} sign */
 function signName({ holder, number }) {
   return `${number} ${holder.dataset.place} ${holder.dataset.step}`;
 }
 
 // Moves the choice of a sign within a text, or follows it. Returns whether the key was for that.
-/** @param {import("./page.js").Page} page */
+/** @param {Page} page @param {HTMLElement} text @param {string} key */
 function chooseSign(page, text, key) {
   if (!["ArrowLeft", "ArrowRight", "Enter"].includes(key)) return false;
   const signs = signsIn(text);
@@ -43,7 +52,7 @@ function chooseSign(page, text, key) {
   const isForward = FORWARD.has(text.id);
   const at = signs.findIndex((sign) => signName(sign) === text.dataset.chosen);
   if (key === "Enter") {
-    const { holder, number } = signs.at(at >= 0 ? at : isForward ? 0 : -1);
+    const { holder, number } = signs[at >= 0 ? at : isForward ? 0 : signs.length - 1];
     page.cursor.follow(holder, number).then(() => page.way.focus());
     return true;
   }
@@ -55,18 +64,20 @@ function chooseSign(page, text, key) {
 }
 
 // Marks the chosen sign, brings it in view, and says what it is.
-/** @param {import("./page.js").Page} page */
+/** @param {Page} page @param {HTMLElement} text @param {Sign} sign */
 function showChosen(page, text, { holder, number }) {
   const range = rangeOfByte(holder, number);
   if (!range) return;
   setLight("chosen", [range]);
   bringInView(text, range);
-  page.view.note(`byte ${grouped(number + 1)}: ${BLANKS[range] ?? range}`);
+  const shown = String(range);
+  page.view.note(`byte ${grouped(number + 1)}: ${BLANKS[shown] ?? shown}`);
 }
 
 // Brings a range in view of its text, which scrolls, or is one line that is cut at its ends.
+/** @param {HTMLElement} text @param {Range} range */
 function bringInView(text, range) {
-  const line = text.querySelector(":scope > .line");
+  const line = lineIn(text);
   const at = range.getBoundingClientRect(), box = text.getBoundingClientRect();
   if (line) {
     const shift = Number(line.dataset.shift ?? 0);
@@ -77,16 +88,23 @@ function bringInView(text, range) {
   else if (at.bottom > box.bottom) text.scrollTop += at.bottom - box.bottom;
 }
 
+// The line of a text that has one.
+/** @param {HTMLElement} text @returns {HTMLElement | null} */
+function lineIn(text) {
+  return text.querySelector(":scope > .line");
+}
+
 // Nothing is chosen any more: no sign is marked, and a line stands as it did.
+/** @param {EventTarget | null} text */
 function forgetChosen(text) {
   setLight("chosen", []);
-  const line = text.querySelector?.(":scope > .line[data-shift]");
-  if (!line) return;
+  const line = text instanceof HTMLElement ? lineIn(text) : null;
+  if (!line?.dataset.shift) return;
   delete line.dataset.shift;
   line.style.transform = "";
 }
 
-/** @param {import("./page.js").Page} page */
+/** @param {Page} page */
 export function startChoosing(page) {
   document.addEventListener("keydown", (event) => {
     if (!elementOf(event).matches?.(TEXTS) || event.ctrlKey || event.altKey || event.metaKey || event.shiftKey) return;
@@ -94,5 +112,5 @@ export function startChoosing(page) {
     event.preventDefault();
     event.stopImmediatePropagation();
   }, true);
-  document.addEventListener("focusout", (event) => forgetChosen(elementOf(event)));
+  document.addEventListener("focusout", (event) => forgetChosen(event.target));
 }

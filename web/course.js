@@ -3,28 +3,31 @@ import { leftOut } from "./bytes.js";
 import { addCells } from "./cells.js";
 import { Stopped, wordsOf } from "./engine.js";
 import { isOff, setOff } from "./focus.js";
+import { inPage } from "./instead.js";
 import { addMarkdown, titleOf } from "./markdown.js";
 import { inputAfter, judged } from "./judging.js";
-import { buttonOf, byId, make } from "./elements.js";
+import { buttonOf, byId, make, textIn } from "./elements.js";
 import { startList } from "./lists.js";
 
 const SHOWN_BYTES = 4096;
-// What a lesson says of the exercises in a terminal: here `next` leads to them. And sentences of what only a terminal shows.
-const IN_TERMINAL = /\n## Exercises\n[^]*$/;
-const OF_SHELL = /(?<=^|[.:] )[^.:\n]*\bshell\b[^.]*\.\s?/gm;
 
-// A text of the course without what holds in a terminal alone.
-function inPage(text) {
-  return text.replace(IN_TERMINAL, "").replace(OF_SHELL, "");
-}
+/**
+ * A lesson; or an exercise, with its runs: what stands after the program, and what must be printed.
+ * @typedef {{ text: string, runs?: undefined } | Exercise} Item
+ * @typedef {{ text: string, runs: [string, string][], start: string | null, hint: string, solution: string }} Exercise
+ */
 
 export class Course {
-  /** @param {import("./page.js").Page} page */
+  /** @param {Page} page */
   constructor(page) {
     this.page = page;
-    const lessons = JSON.parse(byId("course-data").textContent);
-    // lessons, each before its exercises
-    this.items = lessons.flatMap((lesson) => [lesson, ...lesson.exercises]);
+    /** @type {{ text: string, exercises: Exercise[] }[]} */
+    const lessons = JSON.parse(textIn("course-data"));
+    /** @type {Item[]} lessons, each before its exercises */
+    this.items = lessons.flatMap(({ text, exercises }) => [{ text }, ...exercises]);
+    this.at = 0;
+    // what is said of a check
+    this.said = make("div");
     this.list();
     byId("lesson-before").addEventListener("click", () => this.show(this.at - 1));
     byId("lesson-next").addEventListener("click", () => this.show(this.at + 1));
@@ -42,6 +45,7 @@ export class Course {
   }
 
   // Shows a lesson or an exercise.
+  /** @param {number} index */
   show(index) {
     this.at = index;
     const item = this.items[index], next = this.items[index + 1], before = this.items[index - 1];
@@ -66,6 +70,7 @@ export class Course {
   }
 
   // A program that can be opened in the editor.
+  /** @param {string} name @param {string} text */
   program(name, text) {
     const frame = make("div", "program");
     const open = buttonOf(`Open ${name}`, () => this.page.open(name, new TextEncoder().encode(text)));
@@ -74,6 +79,7 @@ export class Course {
   }
 
   // What an exercise has beside its text: where it begins, its runs, a hint, a solution, and the check.
+  /** @param {HTMLElement} place @param {Exercise} item */
   addExercise(place, { start, runs, hint, solution }) {
     if (start) place.append(this.program("start.trac", start));
     runs.forEach(([given, wanted], at) => place.append(this.run(at, given, wanted)));
@@ -83,7 +89,9 @@ export class Course {
     const check = buttonOf("Check", () => this.check(runs));
     check.className = "main";
     // (a hint has no title)
-    const hinted = (at) => addMarkdown(at, `#\n${hint}`, (name, text) => this.program(name, text));
+    /** @param {HTMLElement} at */
+    const hinted = (at) => addMarkdown(at, inPage(`#\n${hint}`), (name, text) => this.program(name, text));
+    /** @param {HTMLElement} at */
     const solved = (at) => at.append(this.program("solution.trac", solution));
     bar.append(check, buttonOf("Hint", (button) => this.unfold(button, hinted)));
     bar.append(buttonOf("A solution", (button) => this.unfold(button, solved)));
@@ -91,6 +99,7 @@ export class Course {
   }
 
   // A run: what stands after the program, and what must be printed.
+  /** @param {number} at @param {string} given @param {string} wanted */
   run(at, given, wanted) {
     const frame = make("div", "run");
     frame.append(make("h3", "", `Run ${at + 1}`));
@@ -102,6 +111,7 @@ export class Course {
   }
 
   // Bytes as a block, the first of them.
+  /** @param {Uint8Array} bytes */
   block(bytes) {
     const block = make("pre", "block");
     addCells(block, bytes.subarray(0, SHOWN_BYTES), 0, true);
@@ -111,6 +121,7 @@ export class Course {
   }
 
   // Shows what a button is for below the buttons, once, and says it.
+  /** @param {HTMLButtonElement} button @param {(place: HTMLElement) => void} adds */
   unfold(button, adds) {
     if (isOff(button)) return;
     setOff(button, true);
@@ -122,6 +133,7 @@ export class Course {
   }
 
   // Checks the program of the editor, and says what differs.
+  /** @param {[string, string][]} runs */
   async check(runs) {
     const { page, said } = this;
     const program = page.editor.bytes();
@@ -137,6 +149,7 @@ export class Course {
   }
 
   // What is said of a run that fails.
+  /** @param {import("./judging.js").Failure} failed @param {Uint8Array} program @param {[string, string][]} runs */
   failure({ at, printed, why, where }, program, runs) {
     const run = buttonOf("Run it on this input", () => this.page.runs.start(inputAfter(program, runs[at][0])));
     const last = make("p", "", where ? `${where[0].toUpperCase()}${where.slice(1)}. ` : "");

@@ -17,8 +17,10 @@ const SMALL_OUTPUT = 1 << 16;
  * @typedef {{ from: number, to: number }} Passed
  */
 
+/** @typedef {import("./walking.js").Unit} Unit */
+
 export class Cursor {
-  /** @param {import("./page.js").Page} page */
+  /** @param {Page} page */
   constructor(page) {
     this.page = page;
     this.step = 0;
@@ -30,18 +32,22 @@ export class Cursor {
     this.passed = null;
     // what is asked for later makes an earlier answer worthless
     this.turn = 0;
+    /** @type {ReturnType<typeof setTimeout> | 0} */
     this.playing = 0;
+    /** @type {Unit} */
     this.unit = "token";
     // whether each step of the idle program is shown
     this.showsIdle = false;
   }
 
   // Another run is shown, at this step.
+  /** @param {number} step */
   put(step) {
     [this.step, this.passed] = [step, null];
   }
 
   // Goes to a step that was asked for by itself: so what it does is said, and not what led there.
+  /** @param {number} step */
   visit(step) {
     return this.go(step, null, "next");
   }
@@ -54,8 +60,8 @@ export class Cursor {
   }
 
   /**
-   * Goes to a step, and shows it; where a token was passed on the way, with what that came to. Says what led there, or what is
-   * next, or nothing.
+   * Goes to a step, and shows it; where a token was passed on the way, with what that came to. Says what led there, or
+   * what is next, or nothing.
    * @param {number} wanted
    * @param {Passed | null} passed
    * @param {"last" | "next" | null} said
@@ -67,7 +73,7 @@ export class Cursor {
     const turn = ++this.turn;
     try {
       run.story.cursor = step;
-      const states = await run.story.around(step, run.end, () => turn === this.turn);
+      const states = await run.story.aroundIf(step, run.end, () => turn === this.turn);
       if (turn !== this.turn || !states) return;
       [this.step, this.passed] = [step, passed];
       keepFocus(() => view.draw(states));
@@ -85,17 +91,20 @@ export class Cursor {
 
   // The states around the step that is shown.
   states() {
-    const { run } = this.page;
+    const { shownRun: run } = this.page;
     return run.story.around(this.step, run.end);
   }
 
   // Does what a button or a key is for.
+  /** @param {Action} action */
   async act(action) {
     const { run, view } = this.page;
     if (action.id !== "play") this.play(0);
     if (action.id || action.way) this.from = this.step;
     view.note("");
-    if (action.way && this.step === (action.way < 0 ? 0 : run.end)) return void view.note(action.way < 0 ? "this is the start" : "this is the end");
+    if (action.way && this.step === (action.way < 0 ? 0 : run?.end)) {
+      return void view.note(action.way < 0 ? "this is the start" : "this is the end");
+    }
     try {
       await action.does();
     } catch (fault) {
@@ -129,6 +138,7 @@ export class Cursor {
     return this.redraw();
   }
 
+  /** @param {Unit} unit */
   setUnit(unit) {
     this.unit = unit;
     for (const one of UNITS) byId(one).setAttribute("aria-pressed", String(one === unit));
@@ -148,9 +158,11 @@ export class Cursor {
     await this.go(from, { from, to });
   }
 
-  // A move of trac-walk. What it says beside where it stands is shown. Of a move to a call, or to where one begins, that is said.
+  // A move of trac-walk. What it says beside where it stands is shown. Of a move to a call, or to where one begins,
+  // that is said.
+  /** @param {string} line */
   async walk(line) {
-    const { engine, run, view } = this.page;
+    const { engine, shownRun: run, view } = this.page;
     const { story } = run;
     const isSmall = story.isSmall && run.output.length < SMALL_OUTPUT;
     const { said, step, window } = await movedAnew(engine, run, this.step, line, isSmall);
@@ -164,6 +176,7 @@ export class Cursor {
     await this.visit(this.from);
   }
 
+  /** @param {string | null} name */
   async whoChanged(name) {
     const { tabs, view } = this.page;
     const { forms } = (await this.states()).at.parts;
@@ -178,8 +191,9 @@ export class Cursor {
   }
 
   // Goes to the call that changed a form last.
+  /** @param {string} name */
   async goToChange(name) {
-    const { engine, run, tree: { calls }, view } = this.page;
+    const { engine, shownRun: run, tree: { calls }, view } = this.page;
     const { tape, story, isClosed } = run;
     const listed = calls.steps.length ? calls : await callsOf(engine, tape, this.step, isClosed);
     const found = await lastChange(engine, tape, story, listed, this.step, name);
@@ -191,9 +205,10 @@ export class Cursor {
     const { at } = await this.states();
     const inner = at.parts.calls.length - 1;
     const cell = document.querySelector(`#begun [data-place="argument ${inner} 0"]`);
-    if (cell) await this.follow(cell, 0);
+    if (cell instanceof HTMLElement) await this.follow(cell, 0);
   }
 
+  /** @param {number} way */
   doubt(way) {
     const { tree, view } = this.page;
     const steps = [...tree.doubts.keys()].sort((a, b) => a - b);
@@ -204,6 +219,7 @@ export class Cursor {
   }
 
   // Follows a byte of a text that is shown.
+  /** @param {HTMLElement} holder @param {number} number */
   async follow(holder, number) {
     const { view, way } = this.page;
     view.note("");
@@ -236,7 +252,7 @@ export class Cursor {
   playOn() {
     this.playing = setTimeout(async () => {
       const { playing, step } = this;
-      if (step < this.page.run.end) await this.unitForward();
+      if (step < this.page.shownRun.end) await this.unitForward();
       if (this.step === step) return this.play(0);
       if (this.playing === playing) this.playOn();
       return undefined;
@@ -244,10 +260,13 @@ export class Cursor {
   }
 }
 
+const NO_EARLIER = /^not met since the first step that is kept, step 0$/;
+
 // What trac-walk says beside where it stands after a command, without its own commands.
+/** @param {string} text @param {string} line */
 function noteOf(text, line) {
   const met = line === "u" ? text.replace(/^not met; /, "there is no call after this step: ")
-    : line === "r" ? text.replace(/^not met since the first step that is kept, step 0$/, "there is no call before this step") : text;
+    : line === "r" ? text.replace(NO_EARLIER, "there is no call before this step") : text;
   return met.replace(/: i TEXT feeds a line, e ends the input/g, "")
     .replace(/ ?\bm goes to step (\d+), where the search ended/g, " (step $1)");
 }

@@ -13,21 +13,25 @@ const ROOM_OF_DOUBTS = 1 << 18;
 const ENDS_NOTHING = ") ends no call";
 
 /**
- * What is doubted: at a step, or of the text of the program; the byte where it stands, and the one before which it ends; what is said
- * of it, and beside that.
+ * What is doubted: at a step, or of the text of the program; the byte where it stands, and the one before which it
+ * ends; what is said of it, and beside that.
  * @typedef {{ step: number | null, byte: number, end?: number, words: string, notes?: string[] }} Doubt
  */
 
 /**
- * The doubts of a run, by the steps, each once for each place: rows of the line and the column in all of the input, the words, and
- * the step.
+ * The doubts of a run, by the steps, each once for each place: rows of the line and the column in all of the input, the
+ * words, and the step.
+ * @param {Uint8Array} bytes
+ * @param {Uint8Array} tape
  * @returns {Doubt[]}
  */
 function doubtsSaid(bytes, tape) {
+  /** @type {(Doubt & { notes: string[] })[]} */
   const doubts = [];
+  /** @param {string} line @param {string} column */
+  const place = (line, column) => byteAt(tape, Number(line), Number(column));
   for (const row of new TextDecoder("latin1").decode(bytes).split("\n")) {
     const found = /^:(\d+):(\d+): (.+) \(step (\d+)\)$/.exec(row);
-    const place = (line, column) => byteAt(tape, Number(line), Number(column));
     if (found) doubts.push({ step: Number(found[4]), byte: place(found[1], found[2]), words: found[3], notes: [] });
     // (a note goes on with the doubt before it)
     const note = /^:(\d+):(\d+): note: (?:(.+) here|this (.) (.+))$/.exec(row);
@@ -41,12 +45,14 @@ function doubtsSaid(bytes, tape) {
 }
 
 // Whether an apostrophe stands there before more words, and so ended a text where it was hardly meant to.
+/** @param {Uint8Array} bytes @param {number} at */
 function isWithinWords(bytes, at) {
   return bytes[at] === 39 && /^[ \t]*[A-Za-z]/.test(String.fromCharCode(...bytes.subarray(at + 1, at + 20)));
 }
 
-// What a note adds to the words of a doubt: which parenthesis may be wrong, where a form of nearly the name is defined, or that an
-// apostrophe ended the text.
+// What a note adds to the words of a doubt: which parenthesis may be wrong, where a form of nearly the name is defined,
+// or that an apostrophe ended the text.
+/** @param {string[]} note @param {boolean} isApostrophe */
 function noteSaid(note, isApostrophe) {
   const [, line, column, missing, surplus, why] = note;
   const where = `line ${line}, column ${column}`;
@@ -55,12 +61,14 @@ function noteSaid(note, isApostrophe) {
 }
 
 // The doubts of a run, as trac-lint finds them.
+/** @param {Engine} engine @param {Run} run */
 export async function doubtsOf(engine, run) {
   const { bytes } = await engine.ask("doubts", run.tape, { budget: Math.max(run.end, 1) }, ROOM_OF_DOUBTS);
-  return doubtsSaid(bytes, run.tape).filter(({ step }) => step < run.end);
+  return doubtsSaid(bytes, run.tape).filter(({ step }) => step !== null && step < run.end);
 }
 
 // The byte at a line and a column, both counted from 1.
+/** @param {Uint8Array} program @param {number} line @param {number} column */
 function byteAt(program, line, column) {
   let start = 0;
   for (let left = line - 1; left > 0; left--) start = program.indexOf(10, start) + 1;
@@ -68,20 +76,23 @@ function byteAt(program, line, column) {
 }
 
 // Says of the last step and of the next one what was hardly meant.
+/** @param {Page} page */
 export function markDoubts({ tree, cursor: { step } }) {
-  for (const [id, of] of [["last", step - 1], ["next", step]]) {
+  for (const of of [step - 1, step]) {
+    const place = byId(of < step ? "last" : "next");
     const words = tree.doubts.get(of);
-    byId(id).querySelector(".doubt")?.remove();
-    if (words) byId(id).append(doubtSign(words));
+    place.querySelector(".doubt")?.remove();
+    if (words) place.append(doubtSign(words));
   }
 }
 
-// Lists the first doubts, each as a link to its step, marks all of them in the program, and each under its call. Hints of the page have no
-// step.
-/** @param {import("./page.js").Page} page */
+// Lists the first doubts, each as a link to its step, marks all of them in the program, and each under its call. Hints
+// of the page have no step.
+/** @param {Page} page @param {Doubt[]} told */
 export function showDoubts(page, told) {
+  const { shownRun: run } = page;
   page.tree.doubts = new Map();
-  const forms = formsSet(page.run, page.tree.calls);
+  const forms = formsSet(run, page.tree.calls);
   const doubts = told.map((doubt) => remedied(doubt, page, forms));
   for (const { step, words } of doubts) {
     if (step === null) continue;
@@ -90,11 +101,13 @@ export function showDoubts(page, told) {
   }
   page.tree.draw();
   markDoubts(page);
-  const isInProgram = ({ byte }) => byte < page.run.program.length;
-  const inProgram = doubts.filter(isInProgram);
-  page.editor.light("doubtful", page.isStale ? [] : inProgram.map(({ byte, end }) => [byte, end]), false);
+  /** @param {Doubt} doubt */
+  const isInProgram = ({ byte }) => byte < run.program.length;
+  const inProgram = page.isStale ? [] : doubts.filter(isInProgram);
+  page.editor.light("doubtful", inProgram.map(({ byte, end = byte + 1 }) => [byte, end]), false);
   page.tabs.count("doubts", grouped(doubts.length), doubts.length > 0);
-  byId("doubts-hint").textContent = doubts.length ? "What was probably not meant." : "Nothing is done that was probably not meant.";
+  const hint = doubts.length ? "What was probably not meant." : "Nothing is done that was probably not meant.";
+  byId("doubts-hint").textContent = hint;
   byId("doubts").replaceChildren(...doubts.slice(0, MOST_DOUBTS).map((doubt) => {
     const { step, byte, words } = doubt;
     const row = make("p", "way-row");
@@ -103,5 +116,6 @@ export function showDoubts(page, told) {
     if (isInProgram(doubt)) row.append(placeOf(page, byte));
     return row;
   }));
-  if (doubts.length > MOST_DOUBTS) byId("doubts").append(make("p", "note", `and ${grouped(doubts.length - MOST_DOUBTS)} more`));
+  const more = doubts.length - MOST_DOUBTS;
+  if (more > 0) byId("doubts").append(make("p", "note", `and ${grouped(more)} more`));
 }

@@ -1,5 +1,5 @@
-// What this browser keeps for the next time: the program in the editor with its name, and the looks. Where it keeps nothing, the page
-// goes on without.
+// What this browser keeps for the next time: the program in the editor with its name, and the looks. Where it keeps
+// nothing, the page goes on without.
 import { textOf } from "./bytes.js";
 
 export const DRAFT = "trac.draft", THEME = "trac.theme";
@@ -7,6 +7,7 @@ export const DRAFT = "trac.draft", THEME = "trac.theme";
 const MOST_DRAFT = 1 << 20;
 const DRAFT_TIME = 250;
 
+/** @param {string} key */
 export function kept(key) {
   try {
     return localStorage.getItem(key);
@@ -16,6 +17,7 @@ export function kept(key) {
 }
 
 // Keeps a text, or forgets it. Returns whether that was done.
+/** @param {string} key @param {string | null} text */
 export function keepText(key, text) {
   try {
     if (text === null) localStorage.removeItem(key);
@@ -27,10 +29,13 @@ export function keepText(key, text) {
 }
 
 export class Draft {
+  /** @param {Editor} editor */
   constructor(editor) {
     this.editor = editor;
     // whether what stands in the editor is kept or saved
     this.isKept = true;
+    /** @type {ReturnType<typeof setTimeout> | 0} */
+    this.later = 0;
     addEventListener("pagehide", () => this.later && this.keep());
     // what was typed and is neither saved nor kept is not to be lost
     addEventListener("beforeunload", (event) => {
@@ -58,7 +63,7 @@ export class Draft {
   // Brings back what was kept, if there is something.
   restore() {
     try {
-      const { name, text } = JSON.parse(kept(DRAFT));
+      const { name, text } = JSON.parse(kept(DRAFT) ?? "");
       if (typeof name !== "string" || typeof text !== "string" || text === "") return false;
       this.editor.put({ name, bytes: new TextEncoder().encode(text) });
       return true;

@@ -1,12 +1,9 @@
-// Where a byte stood earlier: at a step before which the processor keeps none, so that it is followed on from there. A call that passed it
-// on had it from an argument or a form; scanning moved it. Where that is not certain, nothing is said.
+// Where a byte stood earlier: at a step before which the processor keeps none, so that it is followed on from there. A
+// call that passed it on had it from an argument or a form; scanning moved it. Where that is not certain, nothing is
+// said.
 import { bytesOf, lengthOf } from "./bytes.js";
 import { beginOf } from "./anew.js";
 import { moveFrom } from "./moves.js";
-
-/** @typedef {import("./engine.js").Engine} Engine */
-/** @typedef {import("./replies.js").State} State */
-/** @typedef {import("./run.js").Run} Run */
 
 /**
  * A place of a state: its kind, as the module numbers them, its numbers, and the name of its form.
@@ -40,16 +37,24 @@ export function sourceOf(before, after, spot) {
   if (!move.call) return null;
   const { texts } = move.call;
   /** @type {(place: number, byte: number) => Spot} */
-  const inArgument = (place, byte) => ({ kind: KINDS.argument, numbers: [before.parts.calls.length - 1, place, byte], name: NO_NAME });
+  const inArgument = (place, byte) => {
+    const numbers = [before.parts.calls.length - 1, place, byte];
+    return { kind: KINDS.argument, numbers, name: NO_NAME };
+  };
   const name = texts[0].toLowerCase();
-  if (spot.kind === KINDS.output) return name === "ps" && move.printed === texts[1] ? inArgument(1, spot.numbers[0] - before.parts.printed) : null;
+  if (spot.kind === KINDS.output) {
+    const isIt = name === "ps" && move.printed === texts[1];
+    return isIt ? inArgument(1, spot.numbers[0] - before.parts.printed) : null;
+  }
   if (spot.kind === KINDS.form) {
     const form = formOf(after, spot.name);
     return name === "ds" && form && form.text === POINTER + texts[2] ? inArgument(2, spot.numbers[0]) : null;
   }
   const byte = byteOfValue(move, after, spot);
   if (byte === null) return null;
-  if (OF_FORMS.has(name) && (name === "cl" || move.form === undefined)) return placesOf(before, move, inArgument)?.[byte] ?? null;
+  if (OF_FORMS.has(name) && (name === "cl" || move.form === undefined)) {
+    return placesOf(before, move, inArgument)?.[byte] ?? null;
+  }
   const places = texts.map((text, place) => (place > 0 && text === move.value ? place : 0)).filter((place) => place);
   const branch = name === "eq" ? places.filter((place) => place === (texts[1] === texts[2] ? 3 : 4)) : places;
   return branch.length === 1 ? inArgument(branch[0], byte) : null;
@@ -57,7 +62,7 @@ export function sourceOf(before, after, spot) {
 
 /**
  * Which byte of the value of a call stands at a place after it.
- * @param {import("./moves.js").Move} move
+ * @param {Move} move
  * @param {State} after
  * @param {Spot} spot
  */
@@ -65,7 +70,8 @@ function byteOfValue(move, after, { kind, numbers }) {
   const length = lengthOf(move.value);
   const { base, calls } = after.parts;
   const [function_, argument, at] = numbers;
-  const start = kind === KINDS.active ? 0 : kind === KINDS.base ? lengthOf(base) - length : lengthOf(calls[function_].texts[argument]) - length;
+  const text = kind === KINDS.base ? base : calls[function_]?.texts[argument] ?? "";
+  const start = kind === KINDS.active ? 0 : lengthOf(text) - length;
   const byte = (kind === KINDS.argument ? at : numbers[0]) - start;
   return byte >= 0 && byte < length ? byte : null;
 }
@@ -80,7 +86,8 @@ function formOf(state, name) {
 }
 
 /**
- * The items of a form as they are shown: bytes, as they stand there, and gaps by their numbers; and how many stand before its pointer.
+ * The items of a form as they are shown: bytes, as they stand there, and gaps by their numbers; and how many stand
+ * before its pointer.
  * @param {string} text
  */
 function itemsOf(text) {
@@ -95,15 +102,15 @@ function itemsOf(text) {
 }
 
 /**
- * Where each byte of a value was that is of a form: in the form, or in an argument for a gap. Nothing where the value is another than these
- * give: the form may have text that looks like a gap.
+ * Where each byte of a value was that is of a form: in the form, or in an argument for a gap. Nothing where the value
+ * is another than these give: the form may have text that looks like a gap.
  * @param {State} before
- * @param {import("./moves.js").Move} move
+ * @param {Move} move
  * @param {(place: number, byte: number) => Spot} inArgument
  * @returns {Spot[] | null}
  */
 function placesOf(before, move, inArgument) {
-  const { texts } = /** @type {import("./parts.js").Begun} */ (move.call);
+  const { texts } = /** @type {Begun} */ (move.call);
   const name = bytesOf(texts[1] ?? "");
   const form = formOf(before, name);
   if (!form) return null;
@@ -142,8 +149,8 @@ export async function stoodAt(engine, run, early, step, spot) {
 }
 
 /**
- * The same of a form: since when it is as it is at a step, but for its pointer; or where the byte was before that. (It is the same form all
- * the time, so only `ss` has changed it, after which it is never again as it was.)
+ * The same of a form: since when it is as it is at a step, but for its pointer; or where the byte was before that. (It
+ * is the same form all the time, so only `ss` has changed it, after which it is never again as it was.)
  * @param {Run} run
  * @param {number} early
  * @param {number} step
@@ -183,8 +190,8 @@ function itemBefore(before, after, spot) {
 }
 
 /**
- * The first step of which something holds, and the one before: it does not hold of the first of these, and from where it holds it does up to
- * the last.
+ * The first step of which something holds, and the one before: it does not hold of the first of these, and from where
+ * it holds it does up to the last.
  * @param {Run} run
  * @param {number} from
  * @param {number} to
@@ -214,8 +221,8 @@ function stillToScan(state, step, rest) {
 }
 
 /**
- * Where a byte of an argument was at an earlier step: there already, or in what was not scanned yet. Of that none but those in front are ever
- * taken.
+ * Where a byte of an argument was at an earlier step: there already, or in what was not scanned yet. Of that none but
+ * those in front are ever taken.
  * @param {Engine} engine
  * @param {Run} run
  * @param {number} early

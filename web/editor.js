@@ -1,19 +1,15 @@
-// The program: a box of text over the same text, on which places are lit. Bytes are the truth: what the box cannot give back
-// as it was is shown for reading only.
+// The program: a box of text over the same text, on which places are lit. Bytes are the truth: what the box cannot give
+// back as it was is shown for reading only.
 import { grouped, textOf } from "./bytes.js";
-import { runsOf } from "./cells.js";
+import { fixedOf, unitOfFixed } from "./fixed.js";
 import { setLight } from "./lights.js";
-import { startOfSign } from "./output.js";
 import { LONG, Paint, pairAround } from "./paint.js";
 import { isWriting } from "./focus.js";
 import { byId, elementOf, focused } from "./elements.js";
 import { insertText, startIndenting } from "./indent.js";
 
-// Of a longer program a part is shown, for reading only, and so of a long one that is no text: browsers take some hundred bytes of
-// memory for each sign that is in a box.
+// A longer program is for reading only.
 const MOST_EDITED = 1 << 21;
-const MOST_FIXED = 1 << 18;
-const PART = 1 << 16;
 // So many programs that stood there before are kept, and so many bytes of them.
 const MOST_BEFORE = 20;
 const MOST_BEFORE_BYTES = 1 << 25;
@@ -21,22 +17,38 @@ const MOST_BEFORE_BYTES = 1 << 25;
 const NO_TEXT = "it has bytes that are no text";
 const TWO_ENDS = "its line ends are of two kinds, CR LF and LF";
 
+/**
+ * A program: its name, and its bytes. And a stretch of it: from a byte to before another.
+ * @typedef {{ name: string, bytes: Uint8Array }} Held
+ * @typedef {[from: number, to: number]} Stretch
+ */
+
+/** @typedef {import("./fixed.js").Fixed} Fixed */
+
+
 export class Editor {
+  /** @param {() => void} changed */
   constructor(changed) {
     this.box = byId("source");
     this.frame = byId("editor");
     this.paint = new Paint(byId("paint"));
-    // the bytes of what is for reading only, why it is, which of them are shown, and where their signs stand in the box
+    /** @type {Fixed | null} what is for reading only */
     this.fixed = null;
     this.eol = "\n";
     this.name = "program.trac";
-    // the bytes of the text in the box, once they are asked for, and which are lit
+    // the bytes of the text in the box, once they are asked for
+    /** @type {{ value: string, eol: string, bytes: Uint8Array } | null} */
     this.kept = null;
+    /** @type {Map<string, Stretch[]>} which bytes are lit, in which way */
     this.lit = new Map();
-    // what stood there before and after, and the text as it was opened
+    /** @type {Held[]} what stood there before, and after */
     this.before = [];
+    /** @type {Held[]} */
     this.after = [];
+    // the text as it was opened
     this.opened = "";
+    /** @type {ReturnType<typeof setTimeout> | undefined} */
+    this.later = undefined;
     /** @type {(name: string) => void} what is told that such a program is back */
     this.restored = () => {};
     this.box.addEventListener("input", () => {
@@ -71,6 +83,7 @@ export class Editor {
   }
 
   // A long text that is pasted never comes into the box. Whether it was one.
+  /** @param {ClipboardEvent} event */
   pasted(event) {
     const text = event.clipboardData?.getData("text/plain") ?? "";
     if (text.length <= MOST_EDITED || this.box.readOnly) return false;
@@ -82,6 +95,7 @@ export class Editor {
   }
 
   // Opens a program in place of what is there, which can be brought back.
+  /** @param {string} name @param {Uint8Array} bytes */
   open(name, bytes) {
     if (this.box.value !== "") this.keep(this.before);
     this.after = [];
@@ -89,6 +103,7 @@ export class Editor {
   }
 
   // Shows a program. What is long, is not UTF-8, or has line ends of two kinds, is for reading only.
+  /** @param {Held} held */
   put({ name, bytes }) {
     clearTimeout(this.later);
     this.name = name;
@@ -102,7 +117,7 @@ export class Editor {
     const areEnds = !isSame && text !== null && !/\r(?!\n)|\0/.test(text);
     byId("mend").hidden = !areEnds;
     if (isSame) this.free();
-    else this.fix(bytes, areEnds ? TWO_ENDS : NO_TEXT);
+    else this.fix(fixedOf(bytes, areEnds ? TWO_ENDS : NO_TEXT));
     this.opened = this.box.value;
     this.repaint();
     this.frame.scrollTop = 0;
@@ -111,18 +126,22 @@ export class Editor {
 
   // Has one kind of line ends in place of two, so that the program can be edited.
   mend() {
-    this.open(this.name, new TextEncoder().encode(textOf(this.bytes()).replaceAll("\r\n", "\n")));
+    const text = textOf(this.bytes()) ?? "";
+    this.open(this.name, new TextEncoder().encode(text.replaceAll("\r\n", "\n")));
     this.restored(this.name);
     this.box.focus();
   }
 
   // Keeps what is there.
+  /** @param {Held[]} list */
   keep(list) {
     list.push({ name: this.name, bytes: this.bytes() });
-    while (list.length > MOST_BEFORE || list.reduce((sum, { bytes }) => sum + bytes.length, 0) > MOST_BEFORE_BYTES) list.shift();
+    const length = () => list.reduce((sum, { bytes }) => sum + bytes.length, 0);
+    while (list.length > MOST_BEFORE || length() > MOST_BEFORE_BYTES) list.shift();
   }
 
   // Brings back what stood there before another program was opened, or after.
+  /** @param {Held[]} from @param {Held[]} to */
   goBack(from, to) {
     const held = from.pop();
     if (!held) return;
@@ -132,7 +151,9 @@ export class Editor {
     this.box.focus({ preventScroll: true });
   }
 
-  // Ctrl+Z, where nothing was typed since a program was opened, brings back the one before. All else is undone by the browser.
+  // Ctrl+Z, where nothing was typed since a program was opened, brings back the one before. All else is undone by the
+  // browser.
+  /** @param {KeyboardEvent} event */
   key(event) {
     const key = event.key.toLowerCase();
     if (!(event.ctrlKey || event.metaKey) || event.altKey || !["z", "y"].includes(key)) return;
@@ -158,26 +179,20 @@ export class Editor {
     byId("program-name").textContent = this.name;
   }
 
-  // Keeps bytes as they are, and shows signs in their place; of many those from one on.
-  fix(bytes, why, first = 0) {
-    const isWhole = bytes.length <= MOST_FIXED;
-    const from = isWhole ? 0 : startOfSign(bytes, first);
-    const to = isWhole ? bytes.length : startOfSign(bytes, Math.min(from + PART, bytes.length));
-    this.fixed = { bytes, why, isWhole, from, to, places: [] };
-    let text = "";
-    for (const run of runsOf(bytes.subarray(from, to))) {
-      this.fixed.places.push({ byte: from + run.from, unit: text.length, per: run.perUnit ?? 1 });
-      text += run.text ?? standIn(run.byte);
-    }
-    this.box.value = text;
+  // Keeps bytes as they are, and shows signs in their place.
+  /** @param {Fixed} fixed */
+  fix(fixed) {
+    this.fixed = fixed;
+    this.box.value = fixed.text;
     this.box.readOnly = true;
     this.kept = null;
-    const [one, last, all] = [from + 1, to, bytes.length].map(grouped);
-    const said = isWhole ? why : `bytes ${one} to ${last} of ${all} are shown`;
+    const [one, last, all] = [fixed.from + 1, fixed.to, fixed.bytes.length].map(grouped);
+    const said = fixed.isWhole ? fixed.why : `bytes ${one} to ${last} of ${all} are shown`;
     byId("program-name").textContent = `${this.name} (for reading only: ${said})`;
   }
 
   // The bytes of a text of the box.
+  /** @param {string} text */
   encoded(text) {
     return new TextEncoder().encode(text.replaceAll("\n", this.eol));
   }
@@ -185,12 +200,15 @@ export class Editor {
   // The bytes of the program.
   bytes() {
     if (this.fixed) return this.fixed.bytes;
-    const { value } = this.box;
-    if (this.kept?.value !== value || this.kept.eol !== this.eol) this.kept = { value, eol: this.eol, bytes: this.encoded(value) };
-    return this.kept.bytes;
+    const { eol, kept, box: { value } } = this;
+    if (kept?.value === value && kept.eol === eol) return kept.bytes;
+    const bytes = this.encoded(value);
+    this.kept = { value, eol, bytes };
+    return bytes;
   }
 
   // Writes a text at the end of the program, before the line ends there, as if it was typed.
+  /** @param {string} text */
   write(text) {
     const end = this.box.value.replace(/\s+$/, "").length;
     this.box.focus({ preventScroll: true });
@@ -208,13 +226,15 @@ export class Editor {
   lightPair() {
     const { box } = this;
     const isHere = focused() === box && box.selectionStart === box.selectionEnd && !this.paint.isPlain;
-    const pair = isHere && pairAround(box.value, box.selectionStart);
-    setLight("pair", pair ? pair.map((unit) => this.paint.rangeOf(unit)).filter((range) => range) : []);
+    const pair = isHere ? pairAround(box.value, box.selectionStart) : null;
+    setLight("pair", (pair ?? []).flatMap((unit) => this.paint.rangeOf(unit) ?? []));
   }
 
   // Where the signs of bytes stand in the box, each byte after the one before; -1 where one is not there.
+  /** @param {number[]} numbers */
   unitsOf(numbers) {
-    if (this.fixed) return numbers.map((number) => this.unitOfFixed(number));
+    const { fixed } = this;
+    if (fixed) return numbers.map((number) => unitOfFixed(fixed, number));
     const bytes = this.bytes();
     if (bytes.length === this.box.value.length) return numbers;
     let at = 0, unit = 0, next = 0;
@@ -227,27 +247,24 @@ export class Editor {
     });
   }
 
-  unitOfFixed(number) {
-    const { from, to, places } = this.fixed;
-    if (number < from || number >= to) return -1;
-    const place = places.filter(({ byte }) => byte <= number).at(-1);
-    return place.unit + Math.floor((number - place.byte) / place.per);
-  }
-
-  // Lights bytes of the program, or stretches from one to before another, in a way that has a name. If it is wanted, they come in view.
-  light(name, places, isShown = true) {
-    this.lit.set(name, places);
-    const stretches = places.map((place) => (typeof place === "number" ? [place, place + 1] : place));
+  // Lights stretches of the program, each from a byte to before another, in a way that has a name. If it is wanted,
+  // they come in view.
+  /** @param {string} name @param {Stretch[]} stretches */
+  light(name, stretches, isShown = true) {
+    this.lit.set(name, stretches);
     const rising = [...new Set(stretches.flatMap(([from, to]) => [from, to - 1]))].sort((one, other) => one - other);
-    const units = new Map(this.unitsOf(rising).map((unit, at) => [rising[at], unit]));
-    const ranges = stretches.flatMap(([from, to]) => this.paint.rangesOf(units.get(from), units.get(to - 1) + 1));
+    const units = this.unitsOf(rising);
+    /** @param {number} byte */
+    const unitOf = (byte) => units[rising.indexOf(byte)];
+    const ranges = stretches.flatMap(([from, to]) => this.paint.rangesOf(unitOf(from), unitOf(to - 1) + 1));
     setLight(name, ranges);
     if (isShown && ranges.length && focused() !== this.box) this.bring(ranges[0]);
   }
 
   // Chooses the sign of a byte, in view, so that it can be edited.
+  /** @param {number} number */
   choose(number) {
-    if (this.fixed && this.unitOfFixed(number) < 0) this.showAround(number);
+    if (this.fixed && unitOfFixed(this.fixed, number) < 0) this.showAround(this.fixed, number);
     const [unit] = this.unitsOf([number]);
     this.frame.scrollIntoView({ block: "nearest" });
     this.box.focus({ preventScroll: true });
@@ -257,16 +274,17 @@ export class Editor {
   }
 
   // Shows the part that has a byte in its middle, with what is lit in it.
-  showAround(number) {
+  /** @param {Fixed} fixed @param {number} number */
+  showAround({ bytes, why }, number) {
     const isOpened = this.box.value === this.opened;
-    const { bytes, why } = this.fixed;
-    this.fix(bytes, why, Math.max(number - PART / 2, 0));
+    this.fix(fixedOf(bytes, why, number));
     if (isOpened) this.opened = this.box.value;
     this.repaint();
-    for (const [name, places] of this.lit) this.light(name, places, false);
+    for (const [name, stretches] of this.lit) this.light(name, stretches, false);
   }
 
   // Scrolls the box so that a range is in view.
+  /** @param {Range} range */
   bring(range) {
     const at = range.getBoundingClientRect(), frame = this.frame.getBoundingClientRect();
     if (at.top >= frame.top && at.bottom <= frame.bottom) return;
@@ -274,8 +292,4 @@ export class Editor {
   }
 }
 
-// What is shown in place of a byte that has no sign.
-function standIn(byte) {
-  if (byte === 10 || byte === 9) return String.fromCharCode(byte);
-  return byte < 32 ? String.fromCharCode(0x2400 + byte) : "\ufffd";
-}
+

@@ -6,18 +6,31 @@
  *   source: HTMLTextAreaElement, "share-text": HTMLTextAreaElement, input: HTMLInputElement, place: HTMLInputElement,
  *   slider: HTMLInputElement, filter: HTMLInputElement, file: HTMLInputElement, paste: HTMLInputElement,
  *   "single-keys": HTMLInputElement, library: HTMLSelectElement, course: HTMLSelectElement, speed: HTMLSelectElement,
- *   depth: HTMLCanvasElement, question: HTMLDialogElement, "share-box": HTMLDialogElement, "open-box": HTMLDialogElement,
- *   dark: HTMLStyleElement,
+ *   depth: HTMLCanvasElement, question: HTMLDialogElement, "share-box": HTMLDialogElement,
+ *   "open-box": HTMLDialogElement, dark: HTMLStyleElement,
  * }} Special
+ */
+
+/**
+ * The kind of the element with an id.
+ * @template {string} Id
+ * @typedef {Id extends keyof Special ? Special[Id] : HTMLElement} Kind
  */
 
 /**
  * The element with an id.
  * @template {string} Id
  * @param {Id} id
- * @returns {Id extends keyof Special ? Special[Id] : HTMLElement}
  */
-export const byId = (id) => /** @type {any} */ (document.getElementById(id));
+export function byId(id) {
+  return /** @type {Kind<Id>} */ (/** @type {unknown} */ (document.getElementById(id)));
+}
+
+/**
+ * The text of the element with an id.
+ * @param {string} id
+ */
+export const textIn = (id) => document.getElementById(id)?.textContent ?? "";
 
 /**
  * Makes an element with a class and a text.
@@ -69,7 +82,12 @@ export function around(element, kind) {
   return element?.closest(kind) ?? null;
 }
 
-// Gives an element a name for screen readers.
+/**
+ * Gives an element a name for screen readers.
+ * @template {Element} Any
+ * @param {Any} element
+ * @param {string} label
+ */
 export function labelled(element, label) {
   element.setAttribute("role", "img");
   element.setAttribute("aria-label", label);

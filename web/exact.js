@@ -14,6 +14,7 @@ const MOST_ROWS = 120;
 
 // How long a call is in the text that lists it, with or without parentheses around what was protected; 0 where it is
 // cut.
+/** @param {string} text @param {Called} call */
 function listedLength(text, { neutral, texts }) {
   const ways = [texts.map((one) => (isProtected(one) ? `(${one})` : one)), texts];
   const found = ways.map((way) => `${neutral ? "##(" : "#("}${way.join(",")})`).find((way) => text.startsWith(way));
@@ -22,11 +23,14 @@ function listedLength(text, { neutral, texts }) {
 
 export class CallTree extends Tree {
   // What is told how many calls there are.
+  /** @param {(step: number) => void} go @param {(count: string) => void} counted */
   constructor(go, counted) {
     super(go);
     this.counted = counted;
     /** @type {((indexes: number[]) => void) | undefined} what is told which calls are shown */
     this.wants = undefined;
+    /** @type {Map<number, Called | null>} the calls as they stood, as far as they are known */
+    this.exact = new Map();
   }
 
   /** @override */
@@ -42,9 +46,8 @@ export class CallTree extends Tree {
     this.draw();
   }
 
-  /** @override */
+  /** @override @param {Calls} calls */
   show(calls) {
-    // the calls as they stood, as far as they are known
     this.exact = new Map();
     super.show(calls);
   }
@@ -58,27 +61,32 @@ export class CallTree extends Tree {
   /**
    * What a row says of its call: once its arguments are known, protected ones stand in quotes.
    * @override
+   * @param {HTMLElement} row
+   * @param {number} index
    */
   fill(row, index) {
     const text = this.calls.texts[index], call = this.exact.get(index);
     const length = call ? listedLength(text, call) : 0;
-    if (length > 0) row.append(addCallText(make("span"), call, 80));
+    if (call && length > 0) row.append(addCallText(make("span"), call, 80));
     addText(row, text.slice(length, boundary(text, Math.min(length + (length ? 200 : 300), text.length))));
   }
 
   // The call that is performed at a step, as it is listed, or nothing.
+  /** @param {number} step */
   textAt(step) {
     const index = this.at(step);
     return this.calls.steps[index] === step ? this.calls.texts[index] : undefined;
   }
 
   // The calls cannot be listed: that is said in place of them.
+  /** @param {string} words */
   lack(words) {
     this.note = `: ${words}`;
     this.list();
   }
 
   // A call is known, or cannot be told.
+  /** @param {number} index @param {Called | null} call */
   learn(index, call) {
     this.exact.set(index, call);
     this.made.delete(index);
@@ -86,16 +94,20 @@ export class CallTree extends Tree {
 }
 
 export class Exact {
-  /** @param {import("./page.js").Page} page */
+  /** @param {Page} page */
   constructor(page) {
     this.page = page;
     this.tree = page.tree;
+    /** @type {{ tree: number[], timeline: number[] }} the calls that each part shows */
     this.wanted = { tree: [], timeline: [] };
+    /** @type {ReturnType<typeof setTimeout> | undefined} */
+    this.later = undefined;
     this.tree.wants = (indexes) => this.want("tree", indexes);
     page.timeline.wants = (indexes) => this.want("timeline", indexes);
   }
 
   // A part of the page shows these calls now.
+  /** @param {"tree" | "timeline"} part @param {number[]} indexes */
   want(part, indexes) {
     this.wanted[part] = indexes.slice(0, MOST_ROWS);
     clearTimeout(this.later);

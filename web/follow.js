@@ -4,25 +4,27 @@ import { KINDS, sourceOf, stoodAt } from "./earlier.js";
 import { NotUnderstood } from "./replies.js";
 
 /** @typedef {import("./earlier.js").Spot} Spot */
-/** @typedef {import("./run.js").Run} Run */
-/** @typedef {import("./engine.js").Engine} Engine */
 
 /**
- * A row of a way: a step, what was done with the byte there, and from where it was followed to that, or which byte of all input it is.
- * @typedef {{ step: number, deed: string, spot?: Spot, byte?: number, left?: number, state?: import("./replies.js").State }} Row
+ * A row of a way: a step, what was done with the byte there, and from where it was followed to that, or which byte of
+ * all input it is. Where many are left out, one stands for them.
+ * @typedef {{ step: number, deed: string, spot?: Spot, byte?: number, left?: number, state?: State }} Row
  */
 
 /** @type {Record<string, string>} */
-const DEEDS = { prints: "prints", sets: "sets", gives: "gives", nothing: "nothing", made: "makes", read: "reads", earlier: "there" };
+const DEEDS = {
+  prints: "prints", sets: "sets", gives: "gives", nothing: "nothing", made: "makes", read: "reads", earlier: "there",
+};
 
 // A row: its step, what was done, and where; where that is a form, its name follows.
 const ROW = new RegExp("(\\d+) (prints|sets|gives|made|read|earlier|nothing)"
   + "((?: (?:output|active|base|argument|form|held))?(?: \\d+)*)( |\n)", "y");
 
 /**
- * The way of a byte that stands at a place of the state after a step, without a limit but time: where the processor keeps no more steps, the
- * byte is followed on from there. (A byte of the output is followed from where it was there first, or soon after.)
- * @param {import("./page.js").Page} page
+ * The way of a byte that stands at a place of the state after a step, without a limit but time: where the processor
+ * keeps no more steps, the byte is followed on from there. (A byte of the output is followed from where it was there
+ * first, or soon after.)
+ * @param {Page} page
  * @param {string} place
  * @param {number} at
  * @param {number} number
@@ -31,8 +33,8 @@ const ROW = new RegExp("(\\d+) (prints|sets|gives|made|read|earlier|nothing)"
  */
 export async function followed(page, place, at, number, engine = page.engine, isWanted = () => true) {
   const run = /** @type {Run} */ (page.run);
-  const mark = place === "output" ? run.landmarks.find(({ step, printed }) => step <= at && printed > number) : undefined;
-  const step = mark?.step ?? at;
+  const marks = place === "output" ? run.landmarks : [];
+  const step = marks.find((mark) => mark.step <= at && mark.printed > number)?.step ?? at;
   return wayFrom(engine, run, step, await spotOf(run, place, step, number), isWanted);
 }
 
@@ -63,8 +65,8 @@ export async function wayFrom(engine, run, step, spot, isWanted = () => true) {
 }
 
 /**
- * From where a byte is followed on: from before the last call but one that passed it on; if only one did, from before that; or, if none did,
- * from the first step that is kept.
+ * From where a byte is followed on: from before the last call but one that passed it on; if only one did, from before
+ * that; or, if none did, from the first step that is kept.
  * @param {Engine} engine
  * @param {Run} run
  * @param {number} step
@@ -84,7 +86,7 @@ async function onFrom(engine, run, step, spot, rows, early) {
   const stood = last.step + 1 < step ? await stoodAt(engine, run, last.step + 1, step, spot) : { step, spot };
   if (stood?.step !== last.step + 1) return stood && { ...stood };
   const states = await run.story.at([last.step, last.step + 1]);
-  const [before, after] = [0, 1].map((more) => /** @type {import("./replies.js").State} */ (states.get(last.step + more)));
+  const [before, after] = [0, 1].map((more) => /** @type {State} */ (states.get(last.step + more)));
   const source = sourceOf(before, after, stood.spot);
   return source && { step: last.step, spot: source };
 }
@@ -102,7 +104,7 @@ async function spotOf(run, place, step, number) {
   const numbers = words.map(Number);
   let name = new Uint8Array(0);
   if (kind === "form" || kind === "held") {
-    const { forms, blocks } = /** @type {import("./replies.js").State} */ ((await run.story.at([step])).get(step)).parts;
+    const { forms, blocks } = /** @type {State} */ ((await run.story.at([step])).get(step)).parts;
     const [block, held] = numbers.splice(0);
     name = bytesOf((kind === "form" ? forms[block] : blocks[block].forms[held]).name);
     if (kind === "held") numbers.push(blocks[block].number);

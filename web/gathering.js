@@ -9,7 +9,7 @@ import { byId } from "./elements.js";
 import { depthsOf, idlesOf, printsOf } from "./tracks.js";
 
 // Gathers all that, as long as the run is the one that is shown.
-/** @param {import("./page.js").Page} page */
+/** @param {Page} page @param {Run} run */
 export async function gather(page, run) {
   const { tree } = page;
   byId("tree-count").textContent = "are listed ..";
@@ -25,7 +25,7 @@ export async function gather(page, run) {
   }
 }
 
-/** @param {import("./page.js").Page} page */
+/** @param {Page} page @param {Run} run @param {Calls} calls */
 function showCalls(page, run, calls) {
   const { tree } = page;
   tree.note = calls.from > 0 ? ", the last of the run" : "";
@@ -36,7 +36,7 @@ function showCalls(page, run, calls) {
   showRepeats(page, calls);
 }
 
-/** @param {import("./page.js").Page} page */
+/** @param {Page} page @param {Run} run @param {Calls} calls */
 async function gatherMore(page, run, calls) {
   const { background, timeline } = page;
   const { tape, isClosed } = run;
@@ -47,7 +47,8 @@ async function gatherMore(page, run, calls) {
   if (run !== page.run) return;
   doubts.push(...hintsOf(run.program));
   showDoubts(page, doubts);
-  if (doubts.length) page.announcer.say("note", `${doubts.length === 1 ? "1 doubt is" : `${grouped(doubts.length)} doubts are`} listed`);
+  const count = doubts.length === 1 ? "1 doubt is" : `${grouped(doubts.length)} doubts are`;
+  if (doubts.length) page.announcer.say("note", `${count} listed`);
   calls.prints = await printsOf(background, tape, calls, run);
   calls.idles = await idlesOf(background, tape, calls, run);
   if (run === page.run) timeline.show(calls, run.end);
@@ -55,18 +56,19 @@ async function gatherMore(page, run, calls) {
   listAround(page);
 }
 
-// Of a run with more calls than are listed, it lists those around the cursor once that stands outside the list: so many steps after it
-// at most. For that the run is done anew.
+// Of a run with more calls than are listed, it lists those around the cursor once that stands outside the list: so many
+// steps after it at most. For that the run is done anew.
 const STEPS_AFTER = 50000;
 let isListing = false;
 
+/** @param {Page} page */
 export async function listAround(page) {
   const { run, tree, cursor } = page;
-  const isOutside = () => run === page.run && run.isGathered && (cursor.step < tree.calls.from || cursor.step > tree.calls.to);
+  const isOutside = () => run === page.run && (cursor.step < tree.calls.from || cursor.step > tree.calls.to);
   if (isListing) return;
   isListing = true;
   try {
-    while (run && isOutside()) {
+    while (run?.isGathered && isOutside()) {
       const end = Math.min(cursor.step + STEPS_AFTER, run.end);
       const calls = await callsOf(page.background, run.tape, end, run.isClosed);
       if (run !== page.run || calls.from > cursor.step) return;

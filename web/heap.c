@@ -1,11 +1,12 @@
 // The memory of the module: the three functions that the compiler's module calls, and four for the page.
 //
-// A small block holds 2^n bytes, 16 at least, after 16 that hold its class, n; free ones stand in a list for each class. A large one
-// has as many bytes as are wanted, after 16 that hold how many it takes with these; free ones stand in one list by their places, those
-// that touch being one, and what is freed at the top is no block any more.
+// A small block holds 2^n bytes, 16 at least, after 16 that hold its class, n; free ones stand in a list for each
+// class. A large one has as many bytes as are wanted, after 16 that hold how many it takes with these; free ones stand
+// in one list by their places, those that touch being one, and what is freed at the top is no block any more.
 //
-// A request that would pass the most (what the page allows, and MOST_PAGES, by web/build) is refused here, and so is one that the
-// browser refuses: in the lowered module memory.grow answers 2^32 - 1 and never -1, so the low 32 bits are compared.
+// A request that would pass the most (what the page allows, and MOST_PAGES, by web/build) is refused here, and so is
+// one that the browser refuses: in the lowered module memory.grow answers 2^32 - 1 and never -1, so the low 32 bits are
+// compared.
 
 typedef unsigned long u64;
 typedef unsigned int u32;
@@ -41,7 +42,8 @@ static u64 pages_of(u64 bytes) { return (bytes + (1ul << PAGE_BITS) - 1) >> PAGE
 
 static u64 rounded(u64 bytes) { return (bytes + HEAD - 1) & ~(u64)(HEAD - 1); }
 
-// For the page: forgets all blocks, and lets them take so much memory from here on, with all that the module has beside.
+// For the page: forgets all blocks, and lets them take so much memory from here on, with all that the module has
+// beside.
 void trac_web_begin(u64 bytes) {
     for (u64 class = 0; class < CLASSES; class++) lists[class] = 0;
     pieces = 0;

@@ -4,6 +4,7 @@
 const MARGIN = "\t";
 
 // Writes a text in place of what is chosen in a box, so that the browser can undo it.
+/** @param {HTMLTextAreaElement} box @param {string} text */
 export function insertText(box, text) {
   const [from, to] = [box.selectionStart, box.selectionEnd];
   if (text === "" ? document.execCommand("delete") : document.execCommand("insertText", false, text)) return;
@@ -11,8 +12,9 @@ export function insertText(box, text) {
   box.dispatchEvent(new Event("input"));
 }
 
-// Changes the lines that have something of what is chosen, each by itself. They are chosen then, if there are several; else the
-// caret stays at its sign.
+// Changes the lines that have something of what is chosen, each by itself. They are chosen then, if there are several;
+// else the caret stays at its sign.
+/** @param {HTMLTextAreaElement} box @param {(line: string) => string} change */
 function changeLines(box, change) {
   const { value, selectionStart, selectionEnd } = box;
   const from = value.slice(0, selectionStart).lastIndexOf("\n") + 1;
@@ -24,22 +26,26 @@ function changeLines(box, change) {
   box.setSelectionRange(from, to);
   insertText(box, text);
   const isOne = !before.includes("\n"), by = text.length - before.length;
+  /** @param {number} place */
   const caret = (place) => Math.max(place + by, from);
   if (isOne) box.setSelectionRange(caret(selectionStart), caret(selectionEnd));
   else box.setSelectionRange(from, from + text.length);
 }
 
+/** @param {HTMLTextAreaElement} box */
 function setIn(box) {
   const isOne = !box.value.slice(box.selectionStart, box.selectionEnd).includes("\n");
   if (isOne) insertText(box, MARGIN);
   else changeLines(box, (line) => (line === "" ? line : MARGIN + line));
 }
 
+/** @param {HTMLTextAreaElement} box */
 function setOut(box) {
   changeLines(box, (line) => (line.startsWith(MARGIN) ? line.slice(MARGIN.length) : line));
 }
 
 // Listens to Tab in a box. Who has left it by Esc goes on from it by Tab.
+/** @param {HTMLTextAreaElement} box */
 export function startIndenting(box) {
   let isLeft = false;
   box.addEventListener("keydown", (event) => {

@@ -2,11 +2,13 @@
 import { grouped, joined } from "./bytes.js";
 
 // All input: the program, and what was given. (A copy of it alone would be of no use.)
+/** @param {Pick<Wanted, "program" | "inputs">} wanted */
 export function tapeOf({ program, inputs }) {
   return inputs.length ? joined([program, ...inputs.map(({ bytes }) => bytes)]) : program;
 }
 
 // The lines of which something is read, where so many bytes of all lines are.
+/** @param {Line[]} inputs @param {number} read */
 export function linesBegun(inputs, read) {
   const begun = [];
   let from = 0;
@@ -21,12 +23,15 @@ export function linesBegun(inputs, read) {
 }
 
 // How many lines have something in them.
+/** @param {Line[]} inputs */
 export function countOfLines(inputs) {
+  /** @param {number} byte @param {number} at @param {Uint8Array} bytes */
   const isEnd = (byte, at, bytes) => byte !== 10 && (at + 1 === bytes.length || bytes[at + 1] === 10);
-  return inputs.reduce((sum, { bytes }) => sum + bytes.reduce((count, ...of) => count + (isEnd(...of) ? 1 : 0), 0), 0);
+  return inputs.reduce((sum, { bytes }) => sum + bytes.filter(isEnd).length, 0);
 }
 
 // What came after a step: so many lines, and perhaps the end of input. Nothing if neither did.
+/** @param {number} lines @param {boolean} isClosed @param {number} step */
 export function laterSaid(lines, isClosed, step) {
   const parts = lines > 0 ? [lines === 1 ? "one line of input" : `${grouped(lines)} lines of input`] : [];
   if (isClosed) parts.push("the end of input");

@@ -8,6 +8,7 @@ const JUDGED_BYTES = 65536;
 const JUDGED_TIME = 60000;
 
 // How a run may end but well, by its status.
+/** @type {Record<string, string>} */
 const FAULTS = {
   3: `it has not ended within ${grouped(JUDGED_STEPS)} steps: does a form call itself without end?`,
   4: "it passes a limit: does a form call itself without end, or grow with each call?",
@@ -17,6 +18,7 @@ const FAULTS = {
 };
 
 // What a program prints that is all of this input, and what is wrong with its end, if that is.
+/** @param {Engine} engine @param {Uint8Array} tape */
 async function tried(engine, tape) {
   let isLate = false;
   const timer = setTimeout(() => {
@@ -36,17 +38,20 @@ async function tried(engine, tape) {
 }
 
 // Bytes without the line ends at their end.
+/** @param {Uint8Array} bytes */
 function withoutEnds(bytes) {
   let length = bytes.length;
   while (length > 0 && bytes[length - 1] === 10) length--;
   return bytes.subarray(0, length);
 }
 
+/** @param {Uint8Array} one @param {Uint8Array} other */
 export function isEqual(one, other) {
   return one === other || (one.length === other.length && one.every((byte, at) => byte === other[at]));
 }
 
 // Where two texts begin to differ.
+/** @param {Uint8Array} printed @param {Uint8Array} wanted */
 function difference(printed, wanted) {
   const [one, other] = [printed, wanted].map((bytes) => [...new TextDecoder().decode(withoutEnds(bytes))]);
   let at = 0;
@@ -57,11 +62,19 @@ function difference(printed, wanted) {
 }
 
 // The input after a program: its last line is ended, else the input would go on in it.
+/** @param {Uint8Array} program @param {string} given */
 export function inputAfter(program, given) {
   return joined([program[program.length - 1] === 10 ? "" : "\n", given].map((text) => new TextEncoder().encode(text)));
 }
 
-// The first run that fails, if one does: its number, what it prints, and why.
+/**
+ * A run that fails: its number, what it prints, why that is not right, and where it begins to differ, if that can be
+ * said.
+ * @typedef {{ at: number, printed: Uint8Array, why: string, where: string | null }} Failure
+ */
+
+// The first run that fails, if one does.
+/** @param {Engine} engine @param {Uint8Array} program @param {[string, string][]} runs */
 export async function judged(engine, program, runs) {
   for (const [at, [given, out]] of runs.entries()) {
     const wanted = new TextEncoder().encode(out);

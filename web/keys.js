@@ -4,7 +4,7 @@ import { keyOf, moreKeys } from "./walking.js";
 import { isOn, isShown, isWriting } from "./focus.js";
 import { byId, elementOf, focused } from "./elements.js";
 
-/** @param {import("./page.js").Page} page */
+/** @param {Page} page @param {KeyboardEvent} event @param {Map<string, Action>} keys */
 function onKey(page, event, keys) {
   if ((event.ctrlKey || event.metaKey) && event.key === "Enter") {
     event.preventDefault();
@@ -12,20 +12,9 @@ function onKey(page, event, keys) {
     return;
   }
   if (event.ctrlKey || event.altKey || event.metaKey || event.isComposing) return;
-  if (event.key === "Escape" && !event.defaultPrevented && !byId("stop").hidden && !elementOf(event).closest("dialog")) {
-    page.runs.stop();
-    return;
-  }
-  if (event.key === "Escape" && !event.defaultPrevented && !byId("help").hidden && !elementOf(event).closest("dialog")) {
-    page.view.help(false);
-    return;
-  }
+  if (event.key === "Escape" && !elementOf(event).closest("dialog") && leaves(page, event)) return;
   if (event.key === "Enter" && elementOf(event).id === "filter") {
     page.cursor.visitFound();
-    return;
-  }
-  if (event.key === "Escape" && isWriting(elementOf(event)) && !elementOf(event).closest("dialog")) {
-    elementOf(event).blur();
     return;
   }
   if (isWriting(elementOf(event)) || !page.run) return;
@@ -38,8 +27,18 @@ function onKey(page, event, keys) {
   page.cursor.act(action);
 }
 
+// Ends what goes on, or closes the help, or leaves what is written in, by Escape. Whether it did.
+/** @param {Page} page @param {KeyboardEvent} event */
+function leaves(page, event) {
+  if (!event.defaultPrevented && !byId("stop").hidden) page.runs.stop();
+  else if (!event.defaultPrevented && !byId("help").hidden) page.view.help(false);
+  else if (isWriting(elementOf(event))) elementOf(event).blur();
+  else return false;
+  return true;
+}
+
 // Runs the program. The output has the focus then, if nothing else was given it meanwhile.
-/** @param {import("./page.js").Page} page */
+/** @param {Page} page */
 async function startByKeys(page) {
   const held = focused();
   await page.runs.start();
@@ -47,8 +46,9 @@ async function startByKeys(page) {
 }
 
 // Listens to the keys of all actions.
-/** @param {import("./page.js").Page} page */
+/** @param {Page} page */
 export function startKeys(page) {
+  /** @type {Map<string, Action>} */
   const keys = new Map();
   for (const action of [...page.actions, ...moreKeys(page)]) action.keys.forEach((key) => keys.set(key, action));
   document.addEventListener("keydown", (event) => onKey(page, event, keys));

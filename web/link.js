@@ -1,4 +1,5 @@
-// A link's part after #: a program, its input and a step. Its first sign says its form, the second how the rest is packed.
+// A link's part after #: a program, its input and a step. Its first sign says its form, the second how the rest is
+// packed.
 import { bytesOfSigns, joined } from "./bytes.js";
 
 const LINK_FORM = "1";
@@ -10,6 +11,13 @@ const MOST_PACKED = 2 * MOST_HELD + 32 * MOST_LINES;
 // What is said of a link that is not taken.
 export class WrongLink extends Error {}
 
+/**
+ * What a link holds: a program, its input, whether that has ended, and the step, or nothing where the program was not
+ * run.
+ * @typedef {{ program: Uint8Array, inputs: Line[], isClosed: boolean, step: number | null }} Linked
+ * @typedef {CompressionStream | DecompressionStream} Packing
+ */
+
 const LINK_FAULTS = {
   other: "This link is not one that this page made. Nothing is opened.",
   later: "This link was made by a later version of this page. Nothing is opened.",
@@ -20,6 +28,7 @@ const LINK_FAULTS = {
 };
 
 // A sum of bytes by which a link that was cut off or changed is known: FNV-1a, as four bytes.
+/** @param {Uint8Array} bytes */
 function sumOf(bytes) {
   let sum = 0x811c9dc5;
   for (const byte of bytes) sum = Math.imul(sum ^ byte, 0x01000193) >>> 0;
@@ -27,6 +36,7 @@ function sumOf(bytes) {
 }
 
 // A whole number as bytes of seven bits each, the lowest first; all but the last have the eighth.
+/** @param {number} number */
 function numberBytes(number) {
   const bytes = [];
   for (let rest = number; ; rest = Math.floor(rest / 128)) {
@@ -37,6 +47,7 @@ function numberBytes(number) {
 
 // Bytes, read one after the other.
 class Held {
+  /** @param {Uint8Array} bytes */
   constructor(bytes) {
     this.bytes = bytes;
     this.at = 0;
@@ -52,6 +63,7 @@ class Held {
     throw new WrongLink(LINK_FAULTS.cut);
   }
 
+  /** @param {number} count */
   take(count) {
     if (this.at + count > this.bytes.length) throw new WrongLink(LINK_FAULTS.cut);
     this.at += count;
@@ -59,6 +71,7 @@ class Held {
   }
 
   // Bytes after how many they are, which are not more than so many.
+  /** @param {number} most */
   text(most) {
     const length = this.number();
     if (length > most) throw new WrongLink(LINK_FAULTS.large);
@@ -66,8 +79,9 @@ class Held {
   }
 }
 
-// What a link holds, as bytes: a sum of the rest; the step and 1, or 0 where the program was not run; the program; how many
-// lines of input, and whether it has ended; and each line after its step.
+// What a link holds, as bytes: a sum of the rest; the step and 1, or 0 where the program was not run; the program; how
+// many lines of input, and whether it has ended; and each line after its step.
+/** @param {Linked} held */
 function bytesOfLink({ program, inputs, isClosed, step }) {
   const parts = [numberBytes(step === null ? 0 : step + 1), numberBytes(program.length), program,
     numberBytes(2 * inputs.length + (isClosed ? 1 : 0))];
@@ -77,6 +91,7 @@ function bytesOfLink({ program, inputs, isClosed, step }) {
 }
 
 // What those bytes hold.
+/** @param {Uint8Array} bytes @returns {Linked} */
 function heldInLink(bytes) {
   const held = new Held(bytes);
   const sum = held.take(4);
@@ -85,6 +100,7 @@ function heldInLink(bytes) {
   const program = held.text(MOST_HELD);
   const lines = held.number();
   if (lines >= 2 * (MOST_LINES + 1)) throw new WrongLink(LINK_FAULTS.lines);
+  /** @type {Line[]} */
   const inputs = [];
   let left = MOST_HELD;
   for (let count = Math.floor(lines / 2); count > 0; count--) {
@@ -97,13 +113,14 @@ function heldInLink(bytes) {
 }
 
 // Bytes through a stream, of which not more than so many come out.
+/** @param {Uint8Array} bytes @param {Packing} stream @param {number} most */
 async function streamed(bytes, stream, most) {
   const reader = new Blob([bytes]).stream().pipeThrough(stream).getReader();
   const parts = [];
   let left = most;
   for (;;) {
     const { done, value } = await reader.read();
-    if (done) return joined(parts);
+    if (done || !value) return joined(parts);
     left -= value.length;
     if (left < 0) {
       reader.cancel().catch(() => {});
@@ -114,6 +131,7 @@ async function streamed(bytes, stream, most) {
 }
 
 // The stream that packs or unpacks, or nothing where the browser has none.
+/** @param {"CompressionStream" | "DecompressionStream"} name */
 function packing(name) {
   try {
     return new (name === "CompressionStream" ? CompressionStream : DecompressionStream)("deflate-raw");
@@ -123,6 +141,7 @@ function packing(name) {
 }
 
 // Bytes in signs that stand in an address.
+/** @param {Uint8Array} bytes */
 function signsOf(bytes) {
   let text = "";
   for (const byte of bytes) text += String.fromCharCode(byte);
@@ -130,6 +149,7 @@ function signsOf(bytes) {
 }
 
 // The part after #, or nothing where the page would not take so much. It is packed where that makes it shorter.
+/** @param {Linked} held */
 export async function linkOf(held) {
   const input = held.inputs.reduce((sum, { bytes }) => sum + bytes.length, 0);
   if (held.program.length > MOST_HELD || input > MOST_HELD || held.inputs.length > MOST_LINES) return null;
@@ -139,7 +159,9 @@ export async function linkOf(held) {
   return packed && packed.length < bytes.length ? `${LINK_FORM}d${signsOf(packed)}` : `${LINK_FORM}s${signsOf(bytes)}`;
 }
 
-// What a link holds: an address with it, or its part after #. Blanks and line ends that a letter put into it do not matter.
+// What a link holds: an address with it, or its part after #. Blanks and line ends that a letter put into it do not
+// matter.
+/** @param {string} address */
 export async function openedLink(address) {
   const text = address.replace(/\s/g, "").replace(/^.*#/, "");
   if (/^[2-9][a-z]/.test(text)) throw new WrongLink(LINK_FAULTS.later);
@@ -154,6 +176,7 @@ export async function openedLink(address) {
   return heldInLink(text[1] === "s" ? bytes : await unpacked(bytes));
 }
 
+/** @param {Uint8Array} bytes */
 async function unpacked(bytes) {
   const stream = packing("DecompressionStream");
   if (!stream) throw new WrongLink(LINK_FAULTS.packed);

@@ -2,6 +2,7 @@
 
 // Does something with what is chosen in a list, and shows its first line again. Where arrows or letters go through the
 // list while it is closed, it is chosen by Enter.
+/** @param {HTMLSelectElement} list @param {(value: string) => void} does */
 export function startList(list, does) {
   let isMoving = false;
   const take = () => {

@@ -6,6 +6,7 @@ import { keepText, kept, THEME } from "./drafts.js";
 import { startChoosing } from "./choosing.js";
 import { byteNear, startSlider, startSwipes } from "./touch.js";
 import { startKeys } from "./keys.js";
+import { startOutput } from "./output.js";
 import { Page } from "./page.js";
 import { openAddress, startSharing } from "./share.js";
 import { DECIMALS, givenToPage } from "./given.js";
@@ -18,12 +19,15 @@ import { openGiven, startFiles } from "./programs.js";
 const NO_BYTE = "this sign is no byte any more: it was deleted, and shows where a call or an argument begins";
 
 // A click on a sign follows it.
-/** @param {import("./page.js").Page} page */
+/** @param {Page} page */
 function startFollowing(page) {
   document.addEventListener("click", (event) => {
     const who = around(elementOf(event), "[data-who]");
-    if (who) return void page.cursor.act({ does: () => page.cursor.whoChanged(who.dataset.who) });
-    if (!page.run || elementOf(event).closest("button, .link") || !getSelection().isCollapsed) return undefined;
+    const form = who?.dataset.who;
+    if (form !== undefined) {
+      return void page.cursor.act({ words: "", keys: [], does: () => page.cursor.whoChanged(form) });
+    }
+    if (!page.run || elementOf(event).closest("button, .link") || !getSelection()?.isCollapsed) return undefined;
     const found = byteNear(event.clientX, event.clientY);
     if (found) page.cursor.follow(found.holder, found.number);
     else if (elementOf(event).closest("#tape .begun")) page.view.note(NO_BYTE);
@@ -37,13 +41,14 @@ function isDark() {
 }
 
 // Has the page dark or light, whatever the system is.
+/** @param {string} theme */
 function setTheme(theme) {
   document.documentElement.dataset.theme = theme;
   byId("dark").media = theme === "dark" ? "all" : "not all";
 }
 
 // The looks that were chosen are kept for the next time.
-/** @param {import("./page.js").Page} page */
+/** @param {Page} page */
 function startLooks(page) {
   const named = () => {
     byId("theme").textContent = isDark() ? "Light" : "Dark";
@@ -52,17 +57,20 @@ function startLooks(page) {
   const theme = kept(THEME);
   if (theme === "dark" || theme === "light") setTheme(theme);
   byId("theme").addEventListener("click", () => {
-    setTheme(isDark() ? "light" : "dark");
-    keepText(THEME, document.documentElement.dataset.theme);
+    const theme = isDark() ? "light" : "dark";
+    setTheme(theme);
+    keepText(THEME, theme);
     named();
   });
-  for (const looks of ["(prefers-color-scheme: dark)", "(forced-colors: active)"]) matchMedia(looks).addEventListener("change", named);
+  for (const looks of ["(prefers-color-scheme: dark)", "(forced-colors: active)"]) {
+    matchMedia(looks).addEventListener("change", named);
+  }
   byId("help-button").addEventListener("click", () => page.view.help());
   byId("help-close").addEventListener("click", () => page.view.help(false));
   named();
 }
 
-/** @param {import("./page.js").Page} page */
+/** @param {Page} page */
 function startPage(page) {
   byId("run").addEventListener("click", () => page.runs.start());
   byId("stop").addEventListener("click", () => page.runs.stop());
@@ -83,6 +91,7 @@ function startPage(page) {
     if (event.detail > 0) around(elementOf(event), "#buttons button, #more-buttons button, #run")?.blur();
   });
   startLights();
+  startOutput();
   startKeys(page);
   startAnnouncing(page);
   startFollowing(page);
@@ -97,7 +106,7 @@ function startPage(page) {
 engineOfPage(DECIMALS).then(async (engine) => {
   const page = new Page(engine);
   startPage(page);
-  await engine.ready.catch((fault) => goWithout(page, fault));
+  await engine.ready?.catch((fault) => goWithout(page, fault));
   const given = givenToPage();
   welcome(page, given !== null);
   // (a link to the page of a program says more than that)

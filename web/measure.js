@@ -24,21 +24,26 @@ const MOST_OUTPUT = 1 << 26;
  * @typedef {object} Ended
  * @property {number} end
  * @property {string | null} why
- * @property {import("./run.js").Landmark[]} [landmarks]
- * @property {number} [read]
- * @property {number} [printed]
- * @property {import("./story.js").Window} [window]
+ * @property {Landmark[]} landmarks
+ * @property {number} read
+ * @property {number} printed
+ * @property {States} window
  */
 
+/** @typedef {Ended | { end: number, why: string | null, window: null }} Tried */
+
 /**
- * What a run comes to: how many steps it takes, why no more, the last states, what was printed, if it is not too much, and landmarks
- * on the way: how much was read and printed until then.
+ * What a run comes to: how many steps it takes, why no more, the last states, what was printed, if it is not too much,
+ * and landmarks on the way: how much was read and printed until then.
+ * @param {Asked} engine
  * @param {Uint8Array} tape
- * @returns {Promise<import("./run.js").Came>}
+ * @param {boolean} isClosed
+ * @param {number} budget
+ * @returns {Promise<Came>}
  */
 export async function measure(engine, tape, isClosed, budget, mostOutput = MOST_OUTPUT) {
   const ended = await measured(engine, tape, isClosed, budget);
-  const state = ended.window.states.at(-1);
+  const { states } = ended.window, state = states[states.length - 1];
   const isRefused = ended.why === "TooLong" || ended.why === "Memory";
   let stand = isRefused ? "refused" : standOf(state);
   if (stand === "refused" && ended.end >= budget) stand = "spent";
@@ -52,38 +57,44 @@ export async function measure(engine, tape, isClosed, budget, mostOutput = MOST_
 
 /**
  * The same without what follows from that. If no way comes to the end, what it stops before is the end.
- * @returns {Promise<Required<Ended>>}
+ * @param {Asked} engine
+ * @param {Uint8Array} tape
+ * @param {boolean} isClosed
+ * @param {number} budget
+ * @returns {Promise<Ended>}
  */
 async function measured(engine, tape, isClosed, budget) {
-  let most = budget, tried = null;
+  /** @type {{ end: number, why: string | null, stride: number }} */
+  let tried = { end: budget, why: null, stride: STRIDES[0] };
+  let most = budget;
   for (const stride of STRIDES) {
-    if (tried && most / stride > MOST_LANDMARKS) break;
+    if (stride < STRIDES[0] && most / stride > MOST_LANDMARKS) break;
     const marks = await landmarksOf(engine, tape, isClosed, most, stride);
-    most = marks.at(-1).step;
+    most = marks[marks.length - 1].step;
     const run = await endOf(engine, tape, marks);
-    if (run.window) return wayThere(run);
-    tried = { ...run, stride };
+    if (run.window) return run;
+    tried = { end: run.end, why: run.why, stride };
   }
   const run = await endOf(engine, tape, await landmarksOf(engine, tape, isClosed, tried.end, tried.stride));
   if (!run.window) throw new Refused("no memory");
-  return wayThere({ ...run, why: tried.why });
-}
-
-/**
- * The end of a run that a way leads to.
- * @param {Ended} ended
- */
-function wayThere(ended) {
-  return /** @type {Required<Ended>} */ (ended);
+  return { ...run, why: tried.why };
 }
 
 // How far it comes, and how much is read and printed there, each time that it has taken so many steps; of much output
 // more often.
+/**
+ * @param {Asked} engine
+ * @param {Uint8Array} tape
+ * @param {boolean} isClosed
+ * @param {number} most
+ * @param {number} stride
+ * @returns {Promise<Landmark[]>}
+ */
 async function landmarksOf(engine, tape, isClosed, most, stride) {
   const turns = Math.floor(most / stride), rest = most - turns * stride;
   const moves = [...Array(turns).fill(stride), ...(rest ? [rest] : [])].flatMap((steps) => [`s ${steps}`, "p"]);
   const text = await walked(engine, tape, [...endOfInput(isClosed), ...moves], (turns + 2) * SCREEN, MEASURED);
-  let mark = { step: -1, printed: 0 };
+  let mark = { step: -1, position: 0, printed: 0 };
   const marks = [];
   for (const [, step, unread, printed] of text.matchAll(REACHED)) {
     if (Number(step) === mark.step) continue;
@@ -99,12 +110,15 @@ async function landmarksOf(engine, tape, isClosed, most, stride) {
 }
 
 /**
- * The end of a run with its last states, if the way there over these landmarks comes to it; else how far that comes, and
- * why no farther.
- * @returns {Promise<Ended>}
+ * The end of a run with its last states, if the way there over these landmarks comes to it; else how far that comes,
+ * and why no farther.
+ * @param {Asked} engine
+ * @param {Uint8Array} tape
+ * @param {Landmark[]} marks
+ * @returns {Promise<Tried>}
  */
 async function endOf(engine, tape, marks) {
-  const landmarks = [...marks], { step: end, position: read, printed } = landmarks.pop();
+  const landmarks = marks.slice(0, -1), { step: end, position: read, printed } = marks[landmarks.length];
   const first = Math.max(end - 1, 0);
   const way = new Story(engine, tape, landmarks).way(first);
   const commands = `${way.commands.join("")}p\n${"s 1\np\n".repeat(end - first)}s 1\n`;
@@ -112,11 +126,11 @@ async function endOf(engine, tape, marks) {
   const { bytes } = taken(await engine.ask("debug", tape, { commands }, room));
   const replies = new Replies(bytes);
   const { step, before, why: stopped } = Story.went(replies, way);
-  if (stopped) return { end: step, why: stopped };
+  if (stopped) return { end: step, why: stopped, window: null };
   const states = [new State(replies.state(), before)];
   if (first < end) {
     const { why } = replies.moved("forward");
-    if (why) return { end: first, why };
+    if (why) return { end: first, why, window: null };
     states.push(new State(replies.state(), before));
   }
   const { why } = replies.moved("forward");
@@ -125,6 +139,7 @@ async function endOf(engine, tape, marks) {
 }
 
 // All that a run prints.
+/** @param {Asked} engine @param {Uint8Array} tape @param {Ended} ended */
 async function outputOf(engine, tape, { end, printed }) {
   if (printed === 0) return new Uint8Array(0);
   const wanted = { budget: Math.max(end, 1), most: MOST_OUTPUT + 1 };

@@ -4,6 +4,7 @@ import { currentOf, formIn } from "./parts.js";
 import { isReader } from "./branch.js";
 
 // The rule of the next step of a state, as a letter: words.js has the words of each.
+/** @param {Pick<State, "active" | "isWithin">} state */
 export function ruleOf(state) {
   const active = state.active;
   if (!active) return "i";
@@ -16,6 +17,7 @@ export function ruleOf(state) {
 }
 
 // Where the parenthesis that matches the first sign stands, or 0.
+/** @param {string} text */
 function matchOf(text) {
   const signs = /[()]/g;
   let depth = 0;
@@ -27,6 +29,7 @@ function matchOf(text) {
 }
 
 // How many bytes stand in front that are only moved, one a step.
+/** @param {string} active */
 export function plainRun(active) {
   const end = active.search(/[(),#]|\\x0[da9]/);
   return lengthOf(end < 0 ? active : active.slice(0, end));
@@ -40,27 +43,29 @@ export function plainRun(active) {
  * @property {string} put
  * @property {string} moved
  * @property {string} printed
- * @property {import("./parts.js").Begun | null} call
+ * @property {Begun | null} call
  * @property {string} grown what was put at the end of the scanned text
- * @property {string} [value]
- * @property {boolean} [scanned] whether the value is scanned
- * @property {boolean} [isLast]
+ * @property {string} value
+ * @property {boolean} scanned whether the value is scanned
+ * @property {boolean} isLast whether the call is the idle program's
  * @property {string} [form] the form that a call reads, if the call left it as it was
- * @property {{ call: import("./parts.js").Begun, index: number }} [ended]
- * @property {any[]} [words]
+ * @property {{ call: Begun, index: number }} [ended]
+ * @property {Word[]} [words]
  */
 
 /**
  * The step from a state to the next.
- * @param {import("./replies.js").State} before
- * @param {import("./replies.js").State} after
+ * @param {State} before
+ * @param {State} after
  * @returns {Move}
  */
 export function moveFrom(before, after) {
   const rule = ruleOf(before);
   const active = before.active;
   /** @type {Move} */
-  const move = { rule, taken: "", put: "", moved: "", printed: "", call: null, grown: "" };
+  const move = {
+    rule, taken: "", put: "", moved: "", printed: "", call: null, grown: "", value: "", scanned: false, isLast: false,
+  };
   if (rule === "i") move.put = after.active;
   if (rule === "(") {
     move.taken = active.slice(0, matchOf(active) + 1);
@@ -78,34 +83,39 @@ export function moveFrom(before, after) {
 }
 
 // The argument that is gathered.
+/** @param {Begun[]} calls */
 function endedBy(calls) {
   const call = calls[calls.length - 1];
   return { call, index: call.texts.length - 1 };
 }
 
 // The call that a step performs, with its value: before the active text, or at the end of the current text.
+/** @param {Move} move @param {State} before @param {State} after */
 function performed(move, before, after) {
   const [old, now] = [before.parts, after.parts];
   move.taken = ")";
   // (the last sign that is not scanned yet is always the idle program's)
   move.isLast = old.active === ")";
-  move.call = old.calls[old.calls.length - 1];
+  const call = old.calls[old.calls.length - 1];
+  move.call = call;
   move.put = now.active.slice(0, now.active.length - (old.active.length - 1));
-  move.scanned = move.put !== "" || !move.call.neutral;
+  move.scanned = move.put !== "" || !call.neutral;
   const outer = currentOf({ base: old.base, calls: old.calls.slice(0, -1) });
   move.grown = move.scanned ? "" : currentOf(now).slice(outer.length);
   move.value = move.scanned ? move.put : move.grown;
   move.printed = now.output.slice(old.output.length);
-  if (isReader(move.call)) move.form = formLeft(move.call, before, after);
+  if (isReader(call)) move.form = formLeft(call, before, after);
 }
 
 // The text of the form that a call names, if the call left it as it was.
+/** @param {Called} call @param {State} before @param {State} after */
 function formLeft({ texts }, before, after) {
   const [was, is] = [before, after].map((state) => formIn(state, texts[1] ?? ""));
   return was === is ? was : undefined;
 }
 
 // Why the debugger takes no step from a state: it waits for input, or halts, or something was refused.
+/** @param {State} state */
 export function standOf(state) {
   const { calls, active } = state.parts;
   const name = ruleOf(state) === "p" ? calls[calls.length - 1].texts[0].toLowerCase() : "";

@@ -4,9 +4,12 @@ import { addCells, placed } from "./cells.js";
 import { byId, make } from "./elements.js";
 
 const SHOWN_OUTPUT = 8192;
+// whether the end of what is shown is in view
+let isAtEnd = true;
 
-// Shows the output up to so many bytes, of which the last step has printed some. Of a long one a part is shown, which buttons
-// move.
+// Shows the output up to so many bytes, of which the last step has printed some. Of a long one a part is shown, which
+// buttons move.
+/** @param {View} view @param {Uint8Array} bytes @param {number} printed @param {number} fresh @param {number} step */
 export function showOutput(view, bytes, printed, fresh, step) {
   const last = Math.min(view.outputTo ?? printed, printed);
   const first = startOfSign(bytes, Math.max(last - SHOWN_OUTPUT, 0));
@@ -24,12 +27,30 @@ export function showOutput(view, bytes, printed, fresh, step) {
     parent.append(mark);
   }
   if (last < printed) parent.append(turnButton("later", Math.min(last + SHOWN_OUTPUT, printed), view));
-  byId("output-note").textContent = printed === 0 ? "nothing printed yet"
-    : first > 0 || last < printed ? `bytes ${grouped(first + 1)} to ${grouped(last)} of ${grouped(printed)}` : view.hint;
+  const part = `bytes ${grouped(first + 1)} to ${grouped(last)} of ${grouped(printed)}`;
+  const isWhole = first === 0 && last === printed;
+  byId("output-note").textContent = printed === 0 ? "nothing printed yet" : isWhole ? view.hint : part;
   parent.scrollTop = parent.scrollHeight;
+  isAtEnd = true;
+}
+
+// The end of the output stays in view where the box gets another height, as by a line of input under it; unless one has
+// scrolled away from there.
+export function startOutput() {
+  const box = byId("output");
+  let height = 0;
+  box.addEventListener("scroll", () => {
+    // (what comes of another height is no scrolling)
+    if (box.clientHeight === height) isAtEnd = box.scrollTop + height >= box.scrollHeight - 2;
+  });
+  new ResizeObserver(() => {
+    height = box.clientHeight;
+    if (isAtEnd) box.scrollTop = box.scrollHeight;
+  }).observe(box);
 }
 
 // A button that shows an earlier or later part, up to a byte.
+/** @param {string} word @param {number} to @param {View} view */
 function turnButton(word, to, view) {
   const button = make("button", "link", word);
   button.type = "button";
@@ -41,6 +62,7 @@ function turnButton(word, to, view) {
 }
 
 // The place of the first byte of a sign.
+/** @param {Uint8Array} bytes @param {number} at */
 export function startOfSign(bytes, at) {
   let place = at;
   while (place > 0 && at - place < 3 && (bytes[place] & 0xc0) === 0x80) place--;

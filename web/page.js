@@ -16,10 +16,14 @@ import { byId } from "./elements.js";
 import { Runs } from "./runs.js";
 
 export class Page {
+  /** @param {import("./engine.js").Engine} engine */
   constructor(engine) {
     // one processor answers at once, another tells what is beside that, and one gathers what may come later
+    /** @type {Engine} */
     this.engine = engine;
+    /** @type {Engine} */
     this.ahead = engine.twin();
+    /** @type {Engine} */
     this.background = engine.twin();
     engine.told = (count) => this.view.waits(count);
     this.editor = new Editor(() => this.changed());
@@ -29,7 +33,7 @@ export class Page {
       this.draft.changed();
       this.announcer.say("ending", `${name} is back.`);
     };
-    /** @type {import("./run.js").Run | null} the run that is shown */
+    /** @type {Run | null} the run that is shown */
     this.run = null;
     // whether the editor has another program than was run
     this.isStale = false;
@@ -50,7 +54,14 @@ export class Page {
     this.course = new Course(this);
   }
 
+  // The run that is shown, for what is done with one alone.
+  get shownRun() {
+    if (!this.run) throw new Error("no run is shown");
+    return this.run;
+  }
+
   // A panel is seen now: the calls are drawn as far as they can be seen.
+  /** @param {string} name */
   panelShown(name) {
     if (name === "tree") this.tree?.seen();
   }
@@ -60,8 +71,9 @@ export class Page {
     for (const engine of [this.engine, this.ahead, this.background]) if (engine.waiting.size) engine.stop();
   }
 
-  // Opens a program: its bytes stand in the editor, and what was run before is gone from the page. What stood in the editor can be
-  // brought back. That of a link is not kept for the next time.
+  // Opens a program: its bytes stand in the editor, and what was run before is gone from the page. What stood in the
+  // editor can be brought back. That of a link is not kept for the next time.
+  /** @param {string} name @param {Uint8Array} bytes */
   open(name, bytes, isKept = true) {
     this.editor.open(name, bytes);
     byId("welcome-about").hidden = true;

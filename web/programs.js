@@ -7,7 +7,7 @@ import { byId, make } from "./elements.js";
 // The most bytes that a program may have. A longer file is not even read: a tab has no room for any size.
 const MOST_BYTES = 33554432;
 
-/** @param {import("./page.js").Page} page */
+/** @param {Page} page @param {File | undefined} file */
 async function openFile(page, file) {
   if (!file) return;
   if (file.size > MOST_BYTES) {
@@ -23,14 +23,14 @@ async function openFile(page, file) {
 }
 
 // Says that a file is not opened.
-/** @param {import("./page.js").Page} page */
+/** @param {Page} page @param {string} words */
 function refuseFile(page, words) {
   page.view.showWords(words);
   page.announcer.say("ending", words);
 }
 
 // Writes the program to a file, by a link that is pressed.
-/** @param {import("./page.js").Page} page */
+/** @param {Page} page */
 function saveProgram(page) {
   const link = make("a");
   link.href = URL.createObjectURL(new Blob([page.editor.bytes()], { type: "application/octet-stream" }));
@@ -40,17 +40,18 @@ function saveProgram(page) {
   page.draft.isKept = true;
 }
 
-/** @param {import("./page.js").Page} page */
+/** @param {Page} page */
 export function startFiles(page) {
   const file = byId("file");
   file.addEventListener("change", async () => {
-    await openFile(page, file.files[0]);
+    await openFile(page, file.files?.[0]);
     file.value = "";
   });
   byId("save").addEventListener("click", () => saveProgram(page));
   const drop = byId("drop");
   // (a text that is dragged is no file: the editor takes it)
-  const isFile = (event) => event.dataTransfer.types.includes("Files");
+  /** @param {DragEvent} event */
+  const isFile = (event) => event.dataTransfer?.types.includes("Files") ?? false;
   addEventListener("dragover", (event) => {
     if (!isFile(event)) return;
     event.preventDefault();
@@ -63,17 +64,18 @@ export function startFiles(page) {
     if (!isFile(event)) return;
     event.preventDefault();
     drop.hidden = true;
-    openFile(page, event.dataTransfer.files[0]);
+    openFile(page, event.dataTransfer?.files[0]);
   });
 }
 
-// How many steps a run may take at least that comes to a step.
+// How many steps a run may take at least that comes to a step, if one is said.
+/** @param {number | null} step */
 export function budgetTo(step) {
-  return BUDGET * Math.max(Math.ceil(step / BUDGET), 1);
+  return BUDGET * Math.max(Math.ceil((step ?? 0) / BUDGET), 1);
 }
 
 // Runs a program, and goes to the step that a link or a page is to, if there is one.
-/** @param {import("./page.js").Page} page */
+/** @param {Page} page @param {Wanted & { step: number | null }} wanted @param {string} who */
 export async function performTo(page, { program, inputs, isClosed, step, budget }, who) {
   await page.runs.perform({ program, inputs, isClosed, budget, isNew: true });
   if (!page.run || step === null) return;
@@ -82,7 +84,7 @@ export async function performTo(page, { program, inputs, isClosed, step, budget 
 }
 
 // Runs what was put into the page, and goes to its step, or stays at the end. It is not kept for the next time.
-/** @param {import("./page.js").Page} page */
+/** @param {Page} page @param {import("./given.js").Given} given */
 export async function openGiven(page, { name, program, input, step, budget }) {
   const [bytes, read] = await Promise.all([program, input].map(unpackedText));
   const inputs = read.length ? [{ step: 0, bytes: read }] : [];

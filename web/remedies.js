@@ -11,6 +11,7 @@ const MOST_MARKED = 400;
 const [OPENS, CLOSES, COMMA, HASH, APOSTROPHE] = [..."(),#'"].map((sign) => sign.charCodeAt(0));
 
 // Whether one name becomes another by one slip: a sign that is wrong, missing or too many, or two that are swapped.
+/** @param {string} one @param {string} other */
 export function isSlip(one, other) {
   const [short, long] = one.length <= other.length ? [one, other] : [other, one];
   if (one === other || long.length - short.length > 1) return false;
@@ -18,10 +19,13 @@ export function isSlip(one, other) {
   while (at < short.length && short[at] === long[at]) at++;
   const [rest, left] = [short.slice(at), long.slice(at)];
   if (rest.length < left.length) return rest === left.slice(1);
-  return rest.slice(1) === left.slice(1) || (rest[0] === left[1] && rest[1] === left[0] && rest.slice(2) === left.slice(2));
+  const isSwapped = rest[0] === left[1] && rest[1] === left[0] && rest.slice(2) === left.slice(2);
+  return isSwapped || rest.slice(1) === left.slice(1);
 }
 
-// The primitives that a name is one slip from: of names of two signs half are near, so those that begin as it does, if some do.
+// The primitives that a name is one slip from: of names of two signs half are near, so those that begin as it does, if
+// some do.
+/** @param {string} name */
 function primitivesLike(name) {
   const small = name.toLowerCase();
   const near = Object.keys(PRIMITIVES).filter((one) => isSlip(small, one));
@@ -30,12 +34,15 @@ function primitivesLike(name) {
 }
 
 // The forms that a name is one slip from, or that differ from it by capital and small letters alone.
+/** @param {string} name @param {Set<string>} forms */
 function formsLike(name, forms) {
   const small = name.toLowerCase();
   return [...forms].filter((form) => isSlip(name, form) || (form !== name && form.toLowerCase() === small));
 }
 
-// The names of the forms that a run sets, as far as they are listed or there at its end, and have no sign that a list leaves unclear.
+// The names of the forms that a run sets, as far as they are listed or there at its end, and have no sign that a list
+// leaves unclear.
+/** @param {Run} run @param {Calls} calls */
 export function formsSet(run, calls) {
   const names = new Set();
   for (const text of calls.texts) {
@@ -48,6 +55,7 @@ export function formsSet(run, calls) {
 }
 
 // What was probably meant by a name that nothing has, as a question; nothing if no name is near.
+/** @param {string} words @param {Set<string>} forms */
 function offered(words, forms) {
   const [, kind, name] = /^no (primitive|form) is named (.*)$/s.exec(words) ?? [];
   if (!name || name.length > LONGEST) return "";
@@ -59,6 +67,7 @@ function offered(words, forms) {
 }
 
 // Where the name or the argument ends that begins at a byte of a program: at the comma or the parenthesis after it.
+/** @param {Uint8Array} program @param {number} from */
 export function endOfArgument(program, from) {
   const isProtected = program[from - 1] === OPENS && program[from - 2] !== HASH;
   const most = Math.min(program.length, from + MOST_MARKED);
@@ -66,24 +75,28 @@ export function endOfArgument(program, from) {
   for (; end < most; end++) {
     const sign = program[end];
     if (sign === OPENS) depth++;
-    else if (sign === APOSTROPHE || (sign === CLOSES && depth-- === 0) || (sign === COMMA && depth === 0 && !isProtected)) break;
+    else if (sign === CLOSES && depth-- === 0) break;
+    else if (sign === APOSTROPHE || (sign === COMMA && depth === 0 && !isProtected)) break;
   }
   while (end > from + 1 && program[end - 1] <= 32) end--;
   return Math.max(end, from + 1);
 }
 
 // A doubt with what was probably meant, why there is no result, and where what is doubted ends in the program.
+/** @param {Doubt} doubt @param {Page} page @param {Set<string>} forms @returns {Doubt} */
 export function remedied(doubt, { run, tree }, forms) {
   const { step, byte, words, notes = [] } = doubt;
   if (step === null) return doubt;
   const isOfSign = /^(?:[()] |\d+ calls? w)/.test(words);
   const told = [isDivisionByZero(words, tree.textAt(step)) ? BY_ZERO : words, ...notes].join("; ");
-  return { ...doubt, words: told + offered(words, forms), end: isOfSign ? byte + 1 : endOfArgument(run.program, byte) };
+  const { program } = /** @type {Run} */ (run);
+  return { ...doubt, words: told + offered(words, forms), end: isOfSign ? byte + 1 : endOfArgument(program, byte) };
 }
 
 const BY_ZERO = "this divides by 0, which gives nothing: a third argument is given in its place";
 
 // Whether a call, as it is listed, has no result since it divides by 0.
+/** @param {string} words */
 function isDivisionByZero(words, text = "") {
   const found = /^##?\(dv,[^,]*(?:,([^,)]*))?[,)]/i.exec(text);
   return found !== null && words.includes("does not fit") && numberAt(found[1] ?? "").digits === "";

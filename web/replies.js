@@ -11,6 +11,7 @@ const STATE_LINE = new RegExp(
 
 // Replies, read one after the other. They are kept as bytes: only what is wanted of them becomes text.
 export class Replies {
+  /** @param {Uint8Array} bytes */
   constructor(bytes) {
     this.bytes = bytes;
     this.decoder = new TextDecoder("latin1");
@@ -25,13 +26,17 @@ export class Replies {
     return this.whole;
   }
 
+  /** @param {number} from @param {number} to */
   textBetween(from, to) {
     return this.decoder.decode(this.bytes.subarray(from, to));
   }
 
   // Whether these signs stand there.
+  /** @param {string} words */
   has(words, at = this.at) {
-    for (let index = 0; index < words.length; index++) if (this.bytes[at + index] !== words.charCodeAt(index)) return false;
+    for (let index = 0; index < words.length; index++) {
+      if (this.bytes[at + index] !== words.charCodeAt(index)) return false;
+    }
     return true;
   }
 
@@ -45,6 +50,7 @@ export class Replies {
   }
 
   // How many steps a move took, and why it took no more.
+  /** @param {string} word */
   moved(word) {
     const found = /^(\w+) (\d+)(?: (\w+))?$/.exec(this.line());
     if (!found || found[1] !== word) throw new NotUnderstood(`no reply to ${word}`);
@@ -102,11 +108,19 @@ export class Replies {
   }
 }
 
+/**
+ * How much was read and printed before what the lines of a state say.
+ * @typedef {{ position: number, printed: number }} Before
+ */
+
 // A state: what the debugger prints of it, and what was read and printed before that counts.
 export class State {
+  /** @param {string} text @param {Before} before */
   constructor(text, before) {
     this.text = text;
     this.before = before;
+    /** @type {Parts | null} its parts, once they are wanted */
+    this.kept = null;
   }
 
   // Its lines, each of which is one that the debugger prints.
@@ -121,7 +135,7 @@ export class State {
 
   // Its parts; texts stand as the debugger prints them.
   get parts() {
-    if (!this.kept) this.kept = partsOf(this.lines, this.before);
+    this.kept ??= partsOf(this.lines, this.before);
     return this.kept;
   }
 

@@ -13,7 +13,11 @@
  * @property {boolean} isClosed
  * @property {number} budget
  * @property {boolean} [isNew] whether nothing of the run before holds
- * @property {Uint8Array} [tape] all input, once it is put together
+ */
+
+/**
+ * The same once all input is put together.
+ * @typedef {Wanted & { tape: Uint8Array }} Begin
  */
 
 /**
@@ -22,8 +26,8 @@
  */
 
 /**
- * What the processor says that a run comes to: where it ends and why, what it has read and printed there, the meta character, and
- * whether it reads a byte there.
+ * What the processor says that a run comes to: where it ends and why, what it has read and printed there, the meta
+ * character, and whether it reads a byte there.
  * @typedef {object} Came
  * @property {number} end
  * @property {string | null} why
@@ -34,14 +38,14 @@
  * @property {Uint8Array} output
  * @property {string} meta
  * @property {boolean} isOfByte
- * @property {import("./story.js").Window | null} window the last states
+ * @property {States | null} window the last states
  */
 
 export class Run {
   /**
-   * @param {Wanted} wanted
+   * @param {Begin} wanted
    * @param {Came} came
-   * @param {import("./story.js").Story} story
+   * @param {Story} story
    */
   constructor(wanted, came, story) {
     this.program = wanted.program;
@@ -64,18 +68,21 @@ export class Run {
   }
 
   // What of it can be run anew, with other words.
-  wanted(changes = {}) {
+  /** @param {Partial<Wanted>} changes @returns {Wanted} */
+  wanted(changes) {
     const { program, inputs, isClosed, budget } = this;
     return { program, inputs, isClosed, budget, ...changes };
   }
 
   // Whether what is not read has more than line ends and blanks.
+  /** @param {number} from */
   hasText(from) {
     return this.tape.subarray(from).some((byte) => byte > 32);
   }
 
-  // Whether input may be given at a step until which so much is read: where it can come at the end of the run, or else came after this
-  // step, or ended. `isOffered` says that more of a program that is done is to be typed.
+  // Whether input may be given at a step until which so much is read: where it can come at the end of the run, or else
+  // came after this step, or ended. `isOffered` says that more of a program that is done is to be typed.
+  /** @param {number} step @param {number} read @param {boolean} isOffered */
   takesInput(step, read, isOffered) {
     const isOpen = this.stand === "waits" || (this.stand === "done" && (isOffered || this.hasText(this.read)));
     if (!this.isClosed && isOpen) return true;

@@ -16,11 +16,12 @@ import { Run } from "./run.js";
 const STOPPED = "The run was stopped.";
 
 export class Runs {
-  /** @param {import("./page.js").Page} page */
+  /** @param {Page} page */
   constructor(page) {
     this.page = page;
-    // what is asked to be run, until it has come to an end, and how far that is known to have come
+    /** @type {Begin | null} what is asked to be run, until it has come to an end */
     this.began = null;
+    /** @type {Came | null} how far that is known to have come */
     this.partial = null;
     // whether more is to be typed of a program that is done
     this.wantsInput = false;
@@ -38,16 +39,19 @@ export class Runs {
   }
 
   // Runs the program that was run with other input, or further.
+  /** @param {Partial<Wanted>} changes */
   performAgain(changes) {
-    return this.perform(this.page.run.wanted(changes));
+    return this.perform(this.page.shownRun.wanted(changes));
   }
 
   /**
-   * Runs a program with its input, and goes to the end. Until then the run before is there, and is asked over its own input.
-   * @param {import("./run.js").Wanted} wanted
+   * Runs a program with its input, and goes to the end. Until then the run before is there, and is asked over its own
+   * input.
+   * @param {Wanted} asked
    */
-  async perform(wanted) {
+  async perform(asked) {
     const { page } = this;
+    const wanted = { ...asked, tape: tapeOf(asked) };
     page.cursor.play(0);
     page.view.note("");
     page.way.clear();
@@ -58,7 +62,6 @@ export class Runs {
     page.view.busy(true);
     const before = page.run?.story;
     if (!before?.isSmall) before?.letGo();
-    wanted.tape = tapeOf(wanted);
     this.watch(wanted);
     try {
       const came = await measure(page.engine, wanted.tape, wanted.isClosed, wanted.budget);
@@ -72,6 +75,7 @@ export class Runs {
   }
 
   // A run with its states, of which the last are there.
+  /** @param {Begin} wanted @param {Came} came */
   runOf(wanted, came) {
     const { engine, ahead } = this.page;
     const story = new Story(engine, wanted.tape, came.landmarks, ahead);
@@ -80,12 +84,14 @@ export class Runs {
     return new Run(wanted, came, story);
   }
 
-  // Looks how far a run has come that takes long, and shows what it has printed until then. So if it is stopped, that much of it is
-  // there.
+  // Looks how far a run has come that takes long, and shows what it has printed until then. So if it is stopped, that
+  // much of it is there.
+  /** @param {Begin} wanted */
   async watch(wanted) {
     await new Promise((then) => setTimeout(then, WATCHED));
     const { view, ahead } = this.page;
     const isWanted = () => wanted === this.began;
+    /** @param {Came} came */
     const come = (came) => {
       this.partial = came;
       view.showWords(`It runs: ${grouped(came.end)} steps so far.`);
@@ -96,6 +102,7 @@ export class Runs {
 
   /**
    * Takes a run in place of the one before, and shows its end, after other words, if there are any.
+   * @param {Around} states
    * @param {Run} run
    */
   take(run, states, lead = "") {
@@ -118,6 +125,7 @@ export class Runs {
   }
 
   // Takes as much of a run as is known of it.
+  /** @param {Begin} wanted @param {Came} came */
   async takePartial(wanted, came, lead = "") {
     const run = this.runOf({ ...wanted, budget: came.end }, { ...came, stand: "stopped" });
     const states = await run.story.around(run.end, run.end);
@@ -125,12 +133,13 @@ export class Runs {
   }
 
   // Says why a run came to no end. As much of it as is known is shown; if nothing is, the run before.
+  /** @param {string} words */
   fail(words) {
     const { began, partial, page } = this;
     const { view, run } = page;
     this.leave();
     view.busy(false);
-    if (partial) {
+    if (began && partial) {
       view.showWords(words);
       return void this.takePartial(began, partial, words === STOPPED ? "" : `${words} `);
     }
@@ -172,21 +181,22 @@ export class Runs {
 
   // Whether input may be given where the cursor is.
   get takesInput() {
-    const { run, cursor } = this.page;
+    const { shownRun: run, cursor } = this.page;
     return run.takesInput(cursor.step, cursor.read, this.wantsInput);
   }
 
   async goOn() {
-    const { run } = this.page;
+    const { shownRun: run } = this.page;
     const taken = Math.max(run.budget, run.end);
     await this.performAgain({ budget: taken + Math.max(taken, BUDGET) });
     if (focused() === byId("output")) byId("ending").querySelector("button")?.focus();
   }
 
-  // The lines of input that stay where other input is given at the cursor: at the end all, else those that the program has begun to
-  // read. It is asked first if others came; nothing if these are to stay.
+  // The lines of input that stay where other input is given at the cursor: at the end all, else those that the program
+  // has begun to read. It is asked first if others came; nothing if these are to stay.
+  /** @param {string} wish */
   async linesBefore(wish) {
-    const { run, cursor: { step, read } } = this.page;
+    const { shownRun: run, cursor: { step, read } } = this.page;
     if (step === run.end) return run.inputs;
     const stay = linesBegun(run.inputs, read - run.program.length);
     const later = laterSaid(countOfLines(run.inputs) - countOfLines(stay), run.isClosed, step);
@@ -194,9 +204,11 @@ export class Runs {
     return isWanted && run === this.page.run ? stay : null;
   }
 
-  // Takes a line of input at the step where the cursor is. It gets the ' that ends it, where it has none and is to be read up to that.
+  // Takes a line of input at the step where the cursor is. It gets the ' that ends it, where it has none and is to be
+  // read up to that.
+  /** @param {string} line */
   async feed(line) {
-    const { run, cursor: { step } } = this.page;
+    const { shownRun: run, cursor: { step } } = this.page;
     const before = await this.linesBefore("Take this line in place of that?");
     if (!before) return;
     const isEnded = needsEnd(run, line);
@@ -207,7 +219,7 @@ export class Runs {
 
   // Lets more of the program be typed, after its end.
   async typeMore() {
-    const { run, cursor, view } = this.page;
+    const { shownRun: run, cursor, view } = this.page;
     this.wantsInput = true;
     await cursor.go(run.end, null, null);
     view.showEnding();
@@ -215,8 +227,9 @@ export class Runs {
   }
 
   // Ends what stands there and is not read, and goes on.
+  /** @param {string} end */
   feedEnd(end) {
-    const { run } = this.page;
+    const { shownRun: run } = this.page;
     const bytes = new TextEncoder().encode(`${end}\n`);
     return this.performAgain({ inputs: [...run.inputs, { step: run.end, bytes }], isClosed: false });
   }

@@ -10,8 +10,10 @@ import { ask } from "./question.js";
 // A link's run goes no further than this step, and by itself no further than any run.
 const MOST_LINK_STEPS = 100000000;
 
+/** @typedef {import("./link.js").Linked} Linked */
+
 // What is shared: the program as it stands in the editor; and if that was run, the input and the step.
-/** @param {import("./page.js").Page} page */
+/** @param {Page} page */
 function heldByPage(page) {
   const { run, cursor, editor } = page;
   const isRun = run !== null && !page.isStale && !page.view.isBusy;
@@ -24,7 +26,7 @@ function heldByPage(page) {
 }
 
 // Opens what a link holds: the program, and if it was run, a run with the same input, at the same step.
-/** @param {import("./page.js").Page} page */
+/** @param {Page} page @param {Linked} held */
 async function openHeld(page, held) {
   page.open("shared.trac", held.program, false);
   if (held.step === null) return;
@@ -35,7 +37,7 @@ async function openHeld(page, held) {
 }
 
 // Opens the link that is the address, if there is one. If it is wrong, that is said beside an empty editor.
-/** @param {import("./page.js").Page} page */
+/** @param {Page} page */
 export async function openAddress(page) {
   if (location.hash.length < 2) return;
   try {
@@ -53,21 +55,22 @@ function isServed() {
   return location.protocol === "https:" || location.protocol === "http:";
 }
 
-/** @param {import("./page.js").Page} page */
+/** @param {Page} page */
 async function share(page) {
   const held = heldByPage(page);
   const link = await linkOf(held);
   const lines = held.inputs.length;
-  const parts = ["the program", ...(lines ? [lines === 1 ? "a line of input" : `${grouped(lines)} lines of input`] : []),
-    ...(held.step === null ? [] : [`step ${grouped(held.step)}`])];
+  const parts = ["the program"];
+  if (lines) parts.push(lines === 1 ? "a line of input" : `${grouped(lines)} lines of input`);
+  if (held.step !== null) parts.push(`step ${grouped(held.step)}`);
   const holds = `${parts.slice(0, -1).join(", ")}${parts.length > 1 ? " and " : ""}${parts[parts.length - 1]}`;
-  const text = link && (isServed() ? location.href.replace(/#.*$/, "") : "") + "#" + link;
+  const text = link === null ? "" : `${isServed() ? location.href.replace(/#.*$/, "") : ""}#${link}`;
   const lacks = DECIMALS === WIDE ? "" : ` It does not say that numbers have ${DECIMALS} bits here.`;
   byId("share-words").textContent = link === null ? "A link holds at most 1 MiB. Save the program to a file."
     : isServed() ? `This link holds ${holds}, in ${grouped(text.length)} signs.${lacks}`
       : `This text holds ${holds}, in ${grouped(text.length)} signs.${lacks} Whoever has this page opens it by Open. `
         + "This page is a file on your disk, so a link to it would open for nobody else.";
-  byId("share-text").value = text ?? "";
+  byId("share-text").value = text;
   byId("share-text").hidden = byId("share-copy").hidden = link === null;
   byId("share-note").textContent = "";
   byId("share-box").showModal();
@@ -87,7 +90,7 @@ async function copyLink() {
 }
 
 // Opens a link that was pasted. If it is wrong, that is said, and nothing else changes.
-/** @param {import("./page.js").Page} page */
+/** @param {Page} page */
 async function openPasted(page) {
   try {
     const held = await openedLink(byId("paste").value);
@@ -100,7 +103,7 @@ async function openPasted(page) {
   }
 }
 
-/** @param {import("./page.js").Page} page */
+/** @param {Page} page */
 export function startSharing(page) {
   byId("share").addEventListener("click", () => share(page));
   byId("share-copy").addEventListener("click", copyLink);

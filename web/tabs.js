@@ -2,17 +2,20 @@
 import { byId, make } from "./elements.js";
 
 const TABS = { way: "Where from", tree: "Calls", forms: "Forms", begun: "Begun", doubts: "Doubts" };
+/** @typedef {keyof typeof TABS} Tab */
 
 export class Tabs {
+  /** @param {(name: string) => void} shown */
   constructor(shown) {
     // what is told that a panel is seen now
     this.shown = shown;
-    this.names = Object.keys(TABS);
+    this.names = /** @type {Tab[]} */ (Object.keys(TABS));
     for (const name of this.names) byId("tabs").append(this.make(name));
     byId("tabs").addEventListener("keydown", (event) => this.key(event));
     this.choose("way");
   }
 
+  /** @param {Tab} name */
   make(name) {
     const tab = make("button", "", TABS[name]);
     tab.type = "button";
@@ -26,9 +29,10 @@ export class Tabs {
   }
 
   get chosen() {
-    return this.names.find((name) => !byId(`${name}-panel`).hidden);
+    return this.names.find((name) => !byId(`${name}-panel`).hidden) ?? "way";
   }
 
+  /** @param {Tab} chosen */
   choose(chosen) {
     for (const name of this.names) {
       const tab = byId(`tab-${name}`), isChosen = name === chosen;
@@ -40,19 +44,23 @@ export class Tabs {
   }
 
   // How much a panel has stands beside its name.
+  /** @param {Tab} name @param {string} text */
   count(name, text, isAlarm = false) {
-    const place = byId(`tab-${name}`).lastElementChild;
+    const tab = byId(`tab-${name}`), place = tab.lastElementChild ?? tab;
     place.textContent = text;
-    byId(`tab-${name}`).setAttribute("aria-label", text ? `${TABS[name]} ${text}` : TABS[name]);
+    tab.setAttribute("aria-label", text ? `${TABS[name]} ${text}` : TABS[name]);
     place.classList.toggle("alarm", isAlarm);
   }
 
+  /** @param {KeyboardEvent} event */
   key(event) {
     if (event.ctrlKey || event.altKey || event.metaKey || event.shiftKey) return;
     const last = this.names.length - 1, at = this.names.indexOf(this.chosen);
+    /** @type {Record<string, number | undefined>} */
     const places = { ArrowLeft: at === 0 ? last : at - 1, ArrowRight: at === last ? 0 : at + 1, Home: 0, End: last };
-    if (!(event.key in places)) return;
-    this.choose(this.names[places[event.key]]);
+    const to = places[event.key];
+    if (to === undefined) return;
+    this.choose(this.names[to]);
     byId(`tab-${this.chosen}`).focus();
     event.preventDefault();
     event.stopPropagation();

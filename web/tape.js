@@ -1,16 +1,20 @@
-// The text in reading order: what is scanned, a mark, what is not scanned yet. What `shown` says of it: the number of the
-// step, if bytes can be followed; and how many signs stand on each side.
+// The text in reading order: what is scanned, a mark, what is not scanned yet. What `shown` says of it: the number of
+// the step, if bytes can be followed; and how many signs stand on each side.
 import { addShort, boundary, grouped, lengthOf } from "./bytes.js";
 import { addTextCells, placed } from "./cells.js";
 import { addCallText, isProtected, QUOTES } from "./words.js";
 import { byId, make } from "./elements.js";
 
 /**
- * The scanned text in parts, each with its place, or a sign: base text, and the begun calls.
- * @returns {{ text?: string, place?: string, sign?: string, name?: string }[]}
+ * A part of the scanned text with its place, or a sign between such parts. And what is said of what is shown.
+ * @typedef {{ text: string, place: string } | { sign: string, name: string }} Scanned
+ * @typedef {{ step: number, side: number }} Sides
  */
+
+// The scanned text in parts: base text, and the begun calls.
+/** @param {Parts} parts @param {number} side */
 function scannedParts(parts, side) {
-  /** @type {{ text?: string, place?: string, sign?: string, name?: string }[]} */
+  /** @type {Scanned[]} */
   const list = [{ text: parts.base, place: "base" }];
   // the innermost calls are enough to fill what is shown
   let from = parts.calls.length, signs = 0;
@@ -37,15 +41,16 @@ function scannedParts(parts, side) {
 }
 
 // Adds the end of those parts to a line. Returns what the last step moved or put at its end, if it did.
+/** @param {HTMLElement} line @param {Scanned[]} list @param {Move | undefined} move @param {Sides} shown */
 function addScanned(line, list, move, { side, step }) {
   const come = move ? move.moved || move.grown : "";
   const end = list[list.length - 1];
-  const split = end.text !== undefined && come && end.text.endsWith(come) ? end.text.length - come.length : null;
+  const split = "text" in end && come && end.text.endsWith(come) ? end.text.length - come.length : null;
   let left = side;
   const shown = [];
   for (let index = list.length - 1; index >= 0 && left > 0; index--) {
     const part = list[index];
-    if (part.sign !== undefined) {
+    if ("sign" in part) {
       shown.unshift(make("span", part.name, part.sign));
       left -= part.sign.length;
       continue;
@@ -55,17 +60,18 @@ function addScanned(line, list, move, { side, step }) {
     const cut = part === end && split !== null ? Math.max(split, from) : part.text.length;
     addTextCells(holder, part.text.slice(from, cut), lengthOf(part.text.slice(0, from)));
     if (cut < part.text.length) {
-      addTextCells(holder, part.text.slice(cut), lengthOf(part.text.slice(0, cut)), move.moved ? "moved" : "put");
+      addTextCells(holder, part.text.slice(cut), lengthOf(part.text.slice(0, cut)), move?.moved ? "moved" : "put");
     }
     shown.unshift(holder);
     if (from > 0) shown.unshift(make("span", "left-out", "… "));
     left -= part.text.length;
   }
   line.append(...shown);
-  return split === null ? null : line.lastChild.lastChild;
+  return split === null ? null : line.lastElementChild?.lastElementChild ?? null;
 }
 
 // What a step deleted, which stood before what it put there; but not a call.
+/** @param {Move | undefined} move */
 function goneOf(move) {
   if (!move || move.call) return "";
   if (move.moved) return move.rule === "(" || move.rule === "u" ? "(" : "";
@@ -73,6 +79,7 @@ function goneOf(move) {
 }
 
 // A text that stands there no more: so it has no numbers.
+/** @param {string} text @param {Called | null} [call] */
 function struck(text, call) {
   const part = make("del", "gone");
   if (call) addCallText(part, call, 60);
@@ -81,17 +88,19 @@ function struck(text, call) {
 }
 
 // The sign of a begun call that stands for what a step deleted: its beginning, or the comma after an argument.
+/** @param {HTMLElement} line @param {Move} move */
 function standsFor(line, { rule }) {
   return ["a", "n", ","].includes(rule) ? [...line.querySelectorAll(".begun")].pop() : undefined;
 }
 
-// Shows the scanned text up to the mark. What was moved or put there stands after what was deleted, but for the parenthesis
-// after protected text.
+// Shows the scanned text up to the mark. What was moved or put there stands after what was deleted, but for the
+// parenthesis after protected text.
+/** @param {Parts} parts @param {Move | undefined} move @param {Sides} shown */
 export function showScanned(parts, move, shown) {
   const line = make("div", "line");
   const come = addScanned(line, scannedParts(parts, shown.side), move, shown);
   const gone = goneOf(move);
-  if (gone || move?.call) {
+  if (move && (gone || move.call)) {
     const sign = standsFor(line, move);
     if (come) come.before(struck(gone, move.call));
     else if (sign) sign.replaceWith(struck(gone));
@@ -101,8 +110,9 @@ export function showScanned(parts, move, shown) {
   byId("neutral").replaceChildren(line);
 }
 
-// Where the active text is cut, up to so many signs, and what its parts are: what the last step put there, and what the next
-// one takes.
+// Where the active text is cut, up to so many signs, and what its parts are: what the last step put there, and what the
+// next one takes.
+/** @param {string} active @param {Move | undefined} last @param {Move | undefined} next @param {Sides} shown */
 function activeParts(active, last, next, { side }) {
   const put = last ? last.put.length : 0, taken = next ? next.taken.length : 0;
   const end = boundary(active, Math.min(active.length, side));
@@ -116,6 +126,7 @@ function activeParts(active, last, next, { side }) {
 }
 
 // Shows the text that is not scanned.
+/** @param {Parts} parts @param {Move | undefined} last @param {Move | undefined} next @param {Sides} shown */
 export function showActive({ active }, last, next, shown) {
   const line = placed(make("div", "line"), "active", shown.step);
   let end = 0;

@@ -4,7 +4,7 @@ import { grouped, plainOf, showFramed } from "./bytes.js";
 import { callText } from "./words.js";
 import { nameSaid, NO_CALLS } from "./calls.js";
 import { isForming } from "./changed.js";
-import { byId, focused, make } from "./elements.js";
+import { byId, elementOf, focused, make } from "./elements.js";
 import { MOST_IDLE_STEPS } from "./tracks.js";
 
 // The kinds of marks, from above: the colour, and how high it is.
@@ -16,23 +16,47 @@ const LANES = {
 const NAMED_MARKS = 60;
 const NEAR_MARK = 14;
 
-// What can be chosen over the slider, in the order of steps. That of a form has the number of its call.
+/**
+ * What can be chosen over the slider: its step, its kind, and what it prints, or the number of its call.
+ * @typedef {{ step: number, kind: "print" | "form", words?: string, index?: number }} Mark
+ */
+
+/**
+ * What is drawn on: how many pixels of it are one of the page, its size, and its colours by their names.
+ * @typedef {object} Picture
+ * @property {CanvasRenderingContext2D} pen
+ * @property {number} scale
+ * @property {number} width
+ * @property {number} height
+ * @property {(name: string) => string} colour
+ */
+
+// What can be chosen over the slider, in the order of steps.
+/** @param {Calls} calls @returns {Mark[]} */
 function marksOf(calls) {
-  const all = calls.steps.map((step, index) => ({ step, kind: "form", index }));
-  const forms = all.filter(({ index }) => isForming(nameSaid(calls.texts[index])));
-  const prints = (calls.prints ?? []).map((print) => ({ ...print, kind: "print" }));
-  return [...forms, ...prints].sort((one, other) => one.step - other.step);
+  /** @type {Mark[]} */
+  const marks = (calls.prints ?? []).map((print) => ({ ...print, kind: "print" }));
+  calls.steps.forEach((step, index) => {
+    if (isForming(nameSaid(calls.texts[index]))) marks.push({ step, kind: "form", index });
+  });
+  return marks.sort((one, other) => one.step - other.step);
 }
 
 // The marks over the slider: a list of one line, with one stop for the Tab key.
 export class Timeline {
-  /** @param {import("./page.js").Page} page */
+  /** @param {Page} page */
   constructor(page) {
     this.page = page;
     this.box = byId("marks");
     /** @type {((indexes: number[]) => void) | undefined} what is told which calls are named */
     this.wants = undefined;
     this.label = byId("mark-label");
+    this.calls = NO_CALLS;
+    this.end = 0;
+    // the mark that is chosen
+    this.chosen = -1;
+    /** @type {Mark[]} */
+    this.marks = [];
     this.forget();
     byId("depth").addEventListener("click", ({ offsetX }) => {
       this.go(Math.round(offsetX / byId("depth").clientWidth * this.end));
@@ -52,7 +76,7 @@ export class Timeline {
 
   /**
    * Shows the calls of a run, and the marks of what is known of it.
-   * @param {import("./calls.js").Calls} calls
+   * @param {Calls} calls
    * @param {number} end
    */
   show(calls, end) {
@@ -66,17 +90,20 @@ export class Timeline {
     else this.choose(-1);
   }
 
+  /** @param {number} step */
   go(step) {
     this.page.cursor.play(0);
     this.page.cursor.visit(step);
   }
 
   // How far from the left a step is, of 1.
+  /** @param {number} step */
   across(step) {
     return step / Math.max(this.end, 1);
   }
 
   // The last mark at a step or before it, or -1.
+  /** @param {number} step */
   lastBefore(step) {
     let low = 0, high = this.marks.length;
     while (low < high) {
@@ -88,11 +115,15 @@ export class Timeline {
   }
 
   // The mark that the mouse or a finger is near to, if it is: of the lane under it, or else of any.
-  near({ target, clientX, clientY }) {
-    if (target.dataset.mark) return Number(target.dataset.mark);
+  /** @param {MouseEvent} event */
+  near(event) {
+    const { clientX, clientY } = event;
+    const own = elementOf(event).dataset.mark;
+    if (own) return Number(own);
     const frame = this.box.getBoundingClientRect();
     const step = (clientX - frame.left) / frame.width * this.end;
     const lane = clientY - frame.top < frame.height / 2 ? "print" : "form";
+    /** @param {number} index */
     const away = (index) => Math.abs(this.marks[index].step - step) / Math.max(this.end, 1) * frame.width;
     const next = this.lastBefore(step);
     const from = Math.max(next - 200, 0), to = Math.min(next + 201, this.marks.length);
@@ -104,6 +135,7 @@ export class Timeline {
     return best;
   }
 
+  /** @param {MouseEvent} event */
   click(event) {
     const index = this.near(event);
     const frame = this.box.getBoundingClientRect();
@@ -112,15 +144,18 @@ export class Timeline {
   }
 
   // Arrows choose a mark; Enter goes to its step.
+  /** @param {KeyboardEvent} event */
   key(event) {
     if (event.ctrlKey || event.altKey || event.metaKey || event.shiftKey) return;
     const last = this.marks.length - 1;
     const { chosen } = this;
+    /** @type {Record<string, number | undefined>} */
     const places = {
       ArrowLeft: chosen - 1, ArrowUp: chosen - 1, ArrowRight: chosen + 1, ArrowDown: chosen + 1,
       PageUp: chosen - 10, PageDown: chosen + 10, Home: 0, End: last,
     };
-    if (event.key in places) this.choose(Math.min(Math.max(places[event.key], 0), last));
+    const to = places[event.key];
+    if (to !== undefined) this.choose(Math.min(Math.max(to, 0), last));
     else if ((event.key === "Enter" || event.key === " ") && chosen >= 0) this.go(this.marks[chosen].step);
     else return;
     event.preventDefault();
@@ -128,6 +163,7 @@ export class Timeline {
   }
 
   // Chooses a mark, or none, and names those beside it.
+  /** @param {number} index */
   choose(index) {
     this.chosen = index < this.marks.length ? index : -1;
     const from = Math.max(this.chosen - NAMED_MARKS, 0), to = Math.min(from + 2 * NAMED_MARKS, this.marks.length);
@@ -140,12 +176,14 @@ export class Timeline {
   }
 
   // The name of a mark, for labels.
-  nameOf({ step, words, index }) {
+  /** @param {Mark} mark */
+  nameOf({ step, words, index = -1 }) {
     if (words !== undefined) return `step ${grouped(step)}: ${plainOf(words, 60)}`;
     const call = this.page.tree.exact.get(index);
     return `step ${grouped(step)}, a form: ${plainOf(call ? callText(call) : this.calls.texts[index], 60)}`;
   }
 
+  /** @param {Mark} mark @param {number} index */
   option(mark, index) {
     const { step, kind } = mark;
     const option = make("span", `tick ${kind}`);
@@ -161,6 +199,7 @@ export class Timeline {
   }
 
   // Shows the name of a mark over it, or none.
+  /** @param {number} index */
   tell(index) {
     this.label.hidden = index < 0;
     if (index < 0) return;
@@ -176,7 +215,9 @@ export class Timeline {
     const scale = devicePixelRatio || 1;
     [canvas.width, canvas.height] = [Math.max(canvas.clientWidth * scale, 1), Math.max(canvas.clientHeight * scale, 1)];
     const pen = canvas.getContext("2d");
+    if (!pen) return;
     const style = getComputedStyle(document.documentElement);
+    /** @param {string} name */
     const colour = (name) => style.getPropertyValue(name);
     const picture = { pen, scale, width: canvas.width - 2 * scale, height: canvas.height, colour };
     const deepest = this.drawDepth(picture);
@@ -193,6 +234,7 @@ export class Timeline {
   }
 
   // Draws where something is printed, as far as the run itself told it, until each print is known.
+  /** @param {Picture} picture */
   drawPrinted({ pen, width, height, colour }) {
     const { top, height: high } = LANES.print;
     let before = { step: 0, printed: 0 };
@@ -204,7 +246,9 @@ export class Timeline {
     }
   }
 
-  // Draws how many calls are begun, as soon as it is known: a stair, each tread from one step to the next. Returns the most.
+  // Draws how many calls are begun, as soon as it is known: a stair, each tread from one step to the next. Returns the
+  // most.
+  /** @param {Picture} picture */
   drawDepth({ pen, scale, width, height, colour }) {
     const { stride, depths } = this.calls.begun ?? { stride: 1, depths: [] };
     // (a step that is not looked at may have more: where all calls are listed, those that are performed there say it)
@@ -225,6 +269,7 @@ export class Timeline {
   }
 
   // Hatches the steps by which the idle program reads on.
+  /** @param {Picture} picture @param {number} from @param {number} to */
   drawIdle({ pen, scale, width, height, colour }, from, to) {
     const [left, right] = [from, to].map((step) => this.across(step) * width);
     pen.fillStyle = colour("--pale");

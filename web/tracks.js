@@ -1,4 +1,5 @@
-// What is drawn over the slider: where something is printed, where the idle program reads on, and how many calls are begun.
+// What is drawn over the slider: where something is printed, where the idle program reads on, and how many calls are
+// begun.
 import { Replies } from "./replies.js";
 import { IDLE_TEXTS } from "./stretch.js";
 import { nameSaid } from "./calls.js";
@@ -17,9 +18,11 @@ const MOST_LOOKED = 4 << 20;
 
 // The steps that printed something, and what: where ps is performed, the idle program's too, and those that print a
 // form. Of much output, the calls of ps.
+/** @param {Engine} engine @param {Uint8Array} tape @param {Calls} calls @param {Run} run */
 export async function printsOf(engine, tape, calls, { end, output }) {
   const names = calls.texts.map(nameSaid);
   const listed = calls.steps.map((step, index) => ({ step, words: calls.texts[index] }));
+  /** @param {(name: string) => boolean} wanted */
   const said = (wanted) => listed.filter((_, index) => wanted(names[index]));
   if (output.length > MOST_LOOKED) return said((name) => name === "ps" || name === "pf");
   const own = names.filter((name) => name === "ps").length;
@@ -41,6 +44,7 @@ export async function printsOf(engine, tape, calls, { end, output }) {
 
 // The steps by which the idle program reads on: before each `rs` that is none of the program's own. Of a long run,
 // none.
+/** @param {Engine} engine @param {Uint8Array} tape @param {Calls} calls @param {Run} run */
 export async function idlesOf(engine, tape, calls, { end, stand }) {
   if (end > MOST_IDLE_STEPS || calls.from > 0) return [];
   const own = new Set(calls.steps);
@@ -62,12 +66,15 @@ export async function idlesOf(engine, tape, calls, { end, stand }) {
 // At so many steps it is looked how many calls are begun.
 const MOST_DEPTHS = 1500;
 
-// How many calls are begun at steps that are equally far apart, the first one and the last one too, as trac-walk shows it.
+// How many calls are begun at steps that are equally far apart, the first one and the last one too, as trac-walk shows
+// it.
+/** @param {Engine} engine @param {Uint8Array} tape @param {Run} run @param {boolean} isClosed */
 export async function depthsOf(engine, tape, { end }, isClosed) {
   const stride = Math.max(Math.ceil(end / MOST_DEPTHS), 1);
   const turns = Math.floor(end / stride), rest = end - turns * stride;
   const moves = [...Array(turns).fill(stride), ...(rest ? [rest] : [])].flatMap((steps) => [`s ${steps}`, "p"]);
   const text = await walked(engine, tape, [...endOfInput(isClosed), "p", ...moves], (turns + 2) * SCREEN);
+  /** @type {number[]} */
   const depths = [];
   let depth = 0;
   for (const line of text.split("\n")) {

@@ -1,14 +1,15 @@
-// The calls of the run as a tree: within a call stand those that made its arguments. Only the rows that can be seen are
-// made.
+// The calls of the run as a tree. Only the rows that can be seen are made.
 import { addText, grouped } from "./bytes.js";
 import { doubtSign } from "./words.js";
-import { levelsOf, NO_CALLS } from "./calls.js";
+import { NO_CALLS } from "./calls.js";
+import { Listing } from "./listing.js";
 import { around, byId, elementOf, make } from "./elements.js";
 
 // So many milliseconds what was typed to choose a call is kept.
 const TYPING = 1000;
 
 // Has an element hold these and no others. Those that stay are not touched, so that nothing reads them anew.
+/** @param {Element} parent @param {Element[]} elements */
 function keepSame(parent, elements) {
   const wanted = new Set(elements);
   for (const old of [...parent.children]) if (!wanted.has(old)) old.remove();
@@ -17,25 +18,28 @@ function keepSame(parent, elements) {
   });
 }
 
-// Whether a call is asked for, both in small letters: by how it begins, if that is what the words are; else by words
-// anywhere.
-function isAsked(text, word) {
-  if (word.startsWith("#(")) return text.replace(/^##/, "#").startsWith(word);
-  return word.startsWith("##(") ? text.startsWith(word) : text.includes(word);
-}
-
-export class Tree {
+export class Tree extends Listing {
+  /** @param {(step: number) => void} go */
   constructor(go) {
+    super();
     this.box = byId("tree");
     this.go = go;
+    /** @type {Map<number, string>} what is doubted of calls, by their steps */
     this.doubts = new Map();
     this.note = "";
-    // the rows that are there, what was typed to choose a call, and whether keys or the mouse came last
+    // the call of the step, and the one that is chosen
+    this.current = -1;
+    this.chosen = -1;
+    /** @type {Map<number, HTMLElement>} the rows that are there */
     this.made = new Map();
     this.rows = make("div", "rows");
     this.box.append(this.rows);
+    // what was typed to choose a call, and whether keys or the mouse came last
     this.typed = "";
+    /** @type {ReturnType<typeof setTimeout> | undefined} */
+    this.forgetting = undefined;
     this.isByKeys = false;
+    this.isPointed = false;
     this.show(NO_CALLS);
     this.box.addEventListener("scroll", () => requestAnimationFrame(() => this.draw()));
     this.box.addEventListener("click", (event) => this.click(event));
@@ -46,33 +50,24 @@ export class Tree {
     // (as a description for all, it would be read aloud after the name, which is the same)
     this.box.addEventListener("pointerover", (event) => {
       const row = around(elementOf(event), ".row");
-      if (row) row.title = row.textContent;
+      if (row) row.title = row.textContent ?? "";
     });
     byId("filter").addEventListener("input", () => this.searched());
     addEventListener("resize", () => this.draw());
   }
 
   // Shows the calls of a run.
+  /** @param {Calls} calls */
   show(calls) {
-    this.calls = calls;
-    this.folded = new Set();
-    this.children = calls.steps.map(() => []);
-    this.roots = [];
-    this.ranks = calls.parents.map((_, index) => this.siblingsOf(index).push(index));
-    this.levels = levelsOf(calls.parents);
+    this.hold(calls);
     this.made.clear();
-    [this.current, this.chosen] = [-1, -1];
+    this.current = this.chosen = -1;
     this.list();
   }
 
   // Lists what is to be seen: what is not folded, or what is asked for.
   list() {
-    const word = byId("filter").value.toLowerCase();
-    this.isFlat = word !== "";
-    this.shown = [];
-    if (this.isFlat) this.shown = [...this.calls.texts.keys()].filter((index) => isAsked(this.calls.texts[index].toLowerCase(), word));
-    else this.walk();
-    this.places = new Map(this.shown.map((index, place) => [index, place]));
+    this.ask(byId("filter").value.toLowerCase());
     const count = this.calls.steps.length;
     const of = this.isFlat ? `${grouped(this.shown.length)} of ` : "";
     byId("tree-count").textContent = `${of}${grouped(count)}${this.note}`;
@@ -87,25 +82,8 @@ export class Tree {
     this.draw();
   }
 
-  // Calls before those within them, without going deeper by calling itself.
-  walk() {
-    const stack = [...this.roots].reverse();
-    while (stack.length) {
-      const index = stack.pop();
-      this.shown.push(index);
-      if (this.folded.has(index)) continue;
-      for (let child = this.children[index].length - 1; child >= 0; child--) stack.push(this.children[index][child]);
-    }
-  }
-
   get rowHeight() {
     return parseFloat(getComputedStyle(this.box).lineHeight);
-  }
-
-  // The calls within the same call.
-  siblingsOf(index) {
-    const parent = this.calls.parents[index];
-    return parent < 0 ? this.roots : this.children[parent];
   }
 
   // Makes the rows that can be seen, and that of the chosen call, which has the focus. Those that are there stay.
@@ -126,6 +104,7 @@ export class Tree {
   }
 
   // The row of a place, as it is there or new.
+  /** @param {number} place @param {number} height */
   row(place, height) {
     const index = this.shown[place];
     const attributes = this.attributes(place);
@@ -134,7 +113,7 @@ export class Tree {
     const old = this.made.get(index);
     if (old?.dataset.looks === looks) return old;
     const row = make("div");
-    for (const [name, value] of Object.entries(attributes)) row.setAttribute(name, value);
+    for (const [name, value] of Object.entries(attributes)) row.setAttribute(name, String(value));
     [row.dataset.index, row.dataset.looks] = [String(index), looks];
     row.style.top = `${place * height}px`;
     row.append(make("span", "number", grouped(this.calls.steps[index])));
@@ -149,13 +128,16 @@ export class Tree {
   }
 
   // Fills a row with what it says of its call.
+  /** @param {HTMLElement} row @param {number} index */
   fill(row, index) {
     addText(row, this.calls.texts[index]);
   }
 
   // What a row says of its call to those who do not see it, and how it looks.
+  /** @param {number} place */
   attributes(place) {
     const index = this.shown[place];
+    /** @type {Record<string, string | number | boolean>} */
     const attributes = {
       id: `call-${index}`,
       class: index === this.chosen ? "row chosen" : "row",
@@ -169,18 +151,9 @@ export class Tree {
     return attributes;
   }
 
-  // The call that is performed at a step or was last performed before it, or -1.
-  at(step) {
-    let low = 0, high = this.calls.steps.length;
-    while (low < high) {
-      const middle = (low + high) >> 1;
-      if (this.calls.steps[middle] <= step) low = middle + 1;
-      else high = middle;
-    }
-    return low - 1;
-  }
 
   // Marks the call of a step, and brings it in view.
+  /** @param {number} step */
   mark(step) {
     let index = this.at(step);
     while (index >= 0 && !this.places.has(index)) index = this.isFlat ? index - 1 : this.calls.parents[index];
@@ -189,6 +162,7 @@ export class Tree {
     this.bring(index);
   }
 
+  /** @param {number} index */
   bring(index) {
     const top = (this.places.get(index) ?? 0) * this.rowHeight;
     if (top < this.box.scrollTop || top + 2 * this.rowHeight > this.box.scrollTop + this.box.clientHeight) {
@@ -197,6 +171,7 @@ export class Tree {
     this.draw();
   }
 
+  /** @param {MouseEvent} event */
   click(event) {
     const row = around(elementOf(event), ".row");
     if (!row) return;
@@ -206,15 +181,17 @@ export class Tree {
     else this.go(this.calls.steps[index]);
   }
 
+  /** @param {number} index @param {boolean} isFolded */
   fold(index, isFolded) {
     if (isFolded) this.folded.add(index);
     else this.folded.delete(index);
     this.list();
     // (what was chosen may be folded now)
-    if (isFolded && this.chosen >= 0 && !this.places.has(this.chosen)) this.choose(this.places.get(index));
+    if (isFolded && this.chosen >= 0 && !this.places.has(this.chosen)) this.choose(this.places.get(index) ?? 0);
   }
 
   // The mouse or a finger came to a row: letters are keys of the page then, until arrows move.
+  /** @param {boolean} isPointed */
   pointed(isPointed) {
     this.isPointed = isPointed;
     if (isPointed) this.isByKeys = false;
@@ -232,13 +209,16 @@ export class Tree {
   }
 
   // Arrows choose a call, unfold and fold; letters choose the next call of that name; Enter goes there.
+  /** @param {KeyboardEvent} event */
   key(event) {
     const isCommand = event.ctrlKey || event.altKey || event.metaKey || (event.shiftKey && event.key.length > 1);
     if (isCommand || this.shown.length === 0) return;
     const { place } = this;
     const page = Math.max(Math.floor(this.box.clientHeight / this.rowHeight) - 1, 1);
+    /** @type {Record<string, number | undefined>} */
     const places = {
-      ArrowDown: place + 1, ArrowUp: place - 1, PageDown: place + page, PageUp: place - page, Home: 0, End: this.shown.length,
+      ArrowDown: place + 1, ArrowUp: place - 1, PageDown: place + page, PageUp: place - page,
+      Home: 0, End: this.shown.length,
     };
     const to = places[event.key];
     if (to !== undefined) this.choose(Math.min(Math.max(to, 0), this.shown.length - 1));
@@ -254,6 +234,7 @@ export class Tree {
   }
 
   // Unfolds a call, or goes to the first one within it.
+  /** @param {number} place */
   inwards(place) {
     const index = this.chosen = this.shown[place];
     if (this.folded.has(index)) this.fold(index, false);
@@ -261,6 +242,7 @@ export class Tree {
   }
 
   // Folds a call, or goes to the one that it is within.
+  /** @param {number} place */
   outwards(place) {
     const index = this.chosen = this.shown[place];
     if (this.isFlat) return;
@@ -269,6 +251,7 @@ export class Tree {
   }
 
   // Chooses the next call whose name begins so. What is typed soon after is more of the name.
+  /** @param {string} sign @param {number} place */
   typeahead(sign, place) {
     clearTimeout(this.forgetting);
     this.typed += sign.toLowerCase();
@@ -276,19 +259,13 @@ export class Tree {
       this.typed = "";
     }, TYPING);
     // (more of the name may be that of the same call; the same sign again is for the next one)
-    const to = this.named(this.typed, place + (this.typed.length > 1 ? 0 : 1)) ?? this.named(sign.toLowerCase(), place + 1);
+    const more = this.named(this.typed, place + (this.typed.length > 1 ? 0 : 1));
+    const to = more ?? this.named(sign.toLowerCase(), place + 1);
     if (to !== undefined) this.choose(to);
   }
 
-  // The place of the next call whose name begins so, from a place on, or nothing.
-  named(word, from) {
-    for (let ahead = 0; ahead < this.shown.length; ahead++) {
-      const to = (from + ahead) % this.shown.length;
-      if (this.calls.texts[this.shown[to]].replace(/^##?\(/, "").toLowerCase().startsWith(word)) return to;
-    }
-    return undefined;
-  }
 
+  /** @param {number} place */
   choose(place) {
     this.chosen = this.shown[place];
     this.bring(this.chosen);

@@ -1,8 +1,8 @@
-// What the page shows: a run with its output and its end, and of the step where the cursor is the sentences, the text, and what stands
-// beside it.
+// What the page shows: a run with its output and its end, and of the step where the cursor is the sentences, the text,
+// and what stands beside it.
 import { grouped, leftOut, lengthOf, lineAndColumn, showFramed } from "./bytes.js";
 import { addCells } from "./cells.js";
-import { isDoubtfulForm, SETTINGS, showBegun, showBlocks, showForms, showRest } from "./panels.js";
+import { isDoubtfulForm, showBegun, showBlocks, showForms, showRest } from "./panels.js";
 import { showActive, showScanned } from "./tape.js";
 import { endingSaid } from "./announce.js";
 import { Refused, Stopped, wordsOf } from "./engine.js";
@@ -27,7 +27,7 @@ const SAID_LATE = 1500;
 export const CHANGED = "changed since the run";
 
 export class View {
-  /** @param {import("./page.js").Page} page */
+  /** @param {Page} page */
   constructor(page) {
     this.page = page;
     // which of the output is shown: all of it up to a byte, and by what it is known whether that is there already
@@ -44,6 +44,14 @@ export class View {
     this.hasMarks = false;
     this.isBusy = false;
     this.isLighting = false;
+    // which step is to be lit
+    this.lightWanted = { step: 0 };
+    /** @type {ReturnType<typeof setTimeout> | undefined} */
+    this.late = undefined;
+    /** @type {ReturnType<typeof setTimeout> | undefined} */
+    this.saying = undefined;
+    /** @type {HTMLElement | null} what had the focus before the help */
+    this.beforeHelp = null;
   }
 
   redraw() {
@@ -52,7 +60,7 @@ export class View {
 
   // Shows what the run came to.
   shown() {
-    const { run, tree, timeline, isStale } = this.page;
+    const { shownRun: run, tree, timeline, isStale } = this.page;
     for (const id of ["player", "panels"]) byId(id).hidden = false;
     byId("welcome").hidden = true;
     const { end, output } = run;
@@ -80,15 +88,14 @@ export class View {
     for (const name of ["lit", "doubtful"]) page.editor.light(name, []);
   }
 
-  // Says how the run ended, after other words, if there are any; and where the cursor is, if that is not the end. What can be done about
-  // it stands beside it.
+  // Says how the run ended, after other words, if there are any; and where the cursor is, if that is not the end. What
+  // can be done about it stands beside it.
   showEnding(lead = "") {
     const ending = byId("ending");
     const { words, isGood, mend } = endingOf(this.page);
-    ending.textContent = lead + words;
-    ending.dataset.words = ending.textContent;
+    ending.textContent = ending.dataset.words = lead + words;
     ending.classList.toggle("good", isGood && lead === "");
-    this.page.announcer.say("ending", endingSaid(ending.textContent, this.page.run.output));
+    this.page.announcer.say("ending", endingSaid(lead + words, this.page.shownRun.output));
     if (mend) ending.append(buttonOf(mend.words, mend.does));
     this.showGiven();
   }
@@ -96,7 +103,7 @@ export class View {
   // Elsewhere than at the end of the run it is said where, too. What can be done about the end is not offered there.
   showWhere() {
     const ending = byId("ending");
-    const { run: { end }, cursor: { step } } = this.page;
+    const { shownRun: { end }, cursor: { step } } = this.page;
     if (!ending.dataset.words) return;
     const lead = step < end ? `Step ${grouped(step)} of ${grouped(end)} is shown. At the end: ` : "";
     const words = ending.dataset.words;
@@ -107,6 +114,7 @@ export class View {
   }
 
   // Says something in place of how a run ended.
+  /** @param {string} words */
   showWords(words) {
     const ending = byId("ending");
     ending.textContent = words;
@@ -116,7 +124,7 @@ export class View {
 
   // Shows the end of what came as input after the program.
   showGiven() {
-    const { tape, program } = this.page.run;
+    const { tape, program } = this.page.shownRun;
     const given = tape.subarray(program.length);
     const text = byId("given-text");
     byId("given").hidden = given.length === 0;
@@ -126,9 +134,10 @@ export class View {
   }
 
   // Shows a state, with what the last step did and the next one does.
+  /** @param {Around} states */
   draw(states) {
     const { page } = this;
-    const { run, cursor, tree, big } = page;
+    const { shownRun: run, cursor, tree, big } = page;
     const last = lastOf(page, states), next = nextOf(page, states);
     const { before, at } = states;
     const { step } = cursor;
@@ -154,7 +163,7 @@ export class View {
 
   // Shows the number of the step.
   showPlace() {
-    const { run, cursor: { step } } = this.page;
+    const { shownRun: run, cursor: { step } } = this.page;
     const place = grouped(step);
     byId("slider").value = String(step);
     byId("slider").setAttribute("aria-valuetext", `step ${place} of ${grouped(run.end)}`);
@@ -162,8 +171,10 @@ export class View {
   }
 
   // Shows what the state has beside its text, and marks what the last step changed.
+  /** @param {Parts} parts @param {Parts | undefined} before @param {number} step */
   drawPanels(parts, before, step) {
     const old = new Set(before?.lines.slice(2 + before.calls.length));
+    /** @type {import("./panels.js").Shown} */
     const shown = {
       ...MOST_SHOWN,
       step,
@@ -174,14 +185,17 @@ export class View {
     showBegun(parts.calls, shown);
     showForms(parts.forms, shown);
     showBlocks(parts.blocks, shown);
-    showRest(Object.keys(SETTINGS), parts, this.page.run.tape.length, (name) => before && before[name] !== parts[name]);
+    /** @param {import("./panels.js").Setting} name */
+    const isOther = (name) => name !== "numbers" && before?.[name] !== parts[name];
+    showRest(parts, this.page.shownRun.tape.length, (name) => before !== undefined && isOther(name));
     const { tabs } = this.page;
     tabs.count("forms", grouped(parts.forms.length));
     tabs.count("begun", grouped(parts.calls.length));
   }
 
-  // Lights the place in the program where what comes next was written. While that is looked for, only the last step is kept in
-  // mind.
+  // Lights the place in the program where what comes next was written. While that is looked for, only the last step is
+  // kept in mind.
+  /** @param {number} step */
   async light(step) {
     const { page } = this;
     this.lightWanted = { step };
@@ -191,7 +205,7 @@ export class View {
       for (let at = null; at !== this.lightWanted && page.run;) {
         at = this.lightWanted;
         const place = await placeInProgram(page, at.step).catch(() => null);
-        if (at === this.lightWanted) this.lit(place);
+        if (at === this.lightWanted) this.lit(place ?? null);
       }
     } finally {
       this.isLighting = false;
@@ -199,11 +213,12 @@ export class View {
   }
 
   // Lights a byte of the program, or none.
+  /** @param {number | null} place */
   lit(place) {
     const { run, isStale, editor } = this.page;
     if (isStale || !run) return;
     const isInProgram = place !== null && place < run.program.length;
-    editor.light("lit", isInProgram ? [place] : []);
+    editor.light("lit", isInProgram ? [[place, place + 1]] : []);
     const where = isInProgram ? lineAndColumn(run.program, place) : "in the input";
     byId("program-note").textContent = place === null ? "" : `here: ${where}`;
   }
@@ -225,6 +240,7 @@ export class View {
   }
 
   // Stop is there where an answer takes long, too.
+  /** @param {number} count */
   waits(count) {
     clearTimeout(this.late);
     if (count === 0 && !this.isBusy) keepFocus(() => {
@@ -237,6 +253,7 @@ export class View {
     }
   }
 
+  /** @param {boolean} isBusy */
   busy(isBusy) {
     this.isBusy = isBusy;
     clearTimeout(this.saying);
@@ -244,15 +261,18 @@ export class View {
       byId("stop").hidden = !isBusy;
       if (isBusy) this.showWords("It runs.");
     });
-    if (isBusy) this.saying = setTimeout(() => this.page.announcer.say("ending", "It runs. Escape stops it."), SAID_LATE);
+    const say = () => this.page.announcer.say("ending", "It runs. Escape stops it.");
+    if (isBusy) this.saying = setTimeout(say, SAID_LATE);
   }
 
+  /** @param {string} words */
   note(words) {
     showFramed(byId("note"), words);
     this.page.announcer.say("note", words);
   }
 
   // Says what went wrong. The page goes on.
+  /** @param {unknown} fault */
   say(fault) {
     if (fault instanceof Stopped) return;
     this.note(wordsOf(fault));
@@ -260,10 +280,11 @@ export class View {
   }
 }
 
-// Where what comes next was written: a byte of all input, or nothing. (It is not followed on from before the steps that are kept.)
-/** @param {import("./page.js").Page} page */
+// Where what comes next was written: a byte of all input, or nothing. (It is not followed on from before the steps that
+// are kept.)
+/** @param {Page} page @param {number} step */
 async function placeInProgram(page, step) {
-  const state = page.run.story.kept(step);
+  const state = page.shownRun.story.kept(step);
   if (!state) return null;
   const places = [];
   if (state.active) places.push("active");

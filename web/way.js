@@ -9,17 +9,26 @@ import { followed } from "./follow.js";
 import { keepFocus } from "./focus.js";
 import { around, buttonOf, byId, elementOf, make } from "./elements.js";
 
-const DEEDS = { prints: "prints it", sets: "sets it", gives: "gives it", makes: "makes it", there: "it is there already" };
+/** @type {Record<string, string>} */
+const DEEDS = {
+  prints: "prints it", sets: "sets it", gives: "gives it", makes: "makes it", there: "it is there already",
+};
 // So often a byte that a call made is followed on by itself, through the same argument of calls of the same name.
 const MOST_HOPS = 200;
 const SHOWN_ROWS = 30;
 // What is said after a place in a program that was changed since the run.
 const OF_OLD = " of the program as it was run";
 
+/**
+ * A byte of a text that is shown at a step: the place of that, and its number there.
+ * @typedef {{ place: string, step: number, number: number }} Spot
+ */
+
 export class Way {
-  /** @param {import("./page.js").Page} page */
+  /** @param {Page} page */
   constructor(page) {
     this.page = page;
+    /** @type {Row[]} */
     this.rows = [];
     this.turn = 0;
     byId("way-list").addEventListener("click", (event) => {
@@ -39,8 +48,9 @@ export class Way {
     this.page.editor.light("read", []);
   }
 
-  // Follows a byte of a text that is shown. From an argument of a call on the way, it goes on from there. Where a call made the
-  // byte of an argument that was followed, the same argument of the next such call is followed too.
+  // Follows a byte of a text that is shown. From an argument of a call on the way, it goes on from there. Where a call
+  // made the byte of an argument that was followed, the same argument of the next such call is followed too.
+  /** @param {HTMLElement} holder @param {number} number */
   async follow(holder, number) {
     const turn = ++this.turn;
     const row = around(holder, ".way-row");
@@ -48,7 +58,8 @@ export class Way {
     const range = rangeOfByte(holder, number);
     setLight("followed", range ? [range] : []);
     this.page.tabs.choose("way");
-    let from = { place: holder.dataset.place, step: Number(holder.dataset.step), number };
+    /** @type {Spot | null} */
+    let from = { place: holder.dataset.place ?? "", step: Number(holder.dataset.step), number };
     for (let hop = 0; from && hop < MOST_HOPS && turn === this.turn; hop++) from = await this.hop(from, turn);
     if (turn !== this.turn) return;
     // (the large view leaves out the list, so there it is shown what is said of it)
@@ -59,27 +70,32 @@ export class Way {
   // What is said of the way: of a short one each call, of a long one how many there are, and the last.
   said() {
     const { rows } = this;
+    /** @param {Row} row */
     const told = (row) => [`step ${grouped(row.step)}:`, plainOf(this.textOf(row), 60), this.words(row)].join(" ");
     const count = rows.reduce((sum, { left }) => sum + (left ?? 1), 0);
-    const all = rows.length < 4 ? rows.map(told).join("; ") : `${grouped(count)} calls, the last is ${told(rows[rows.length - 1])}`;
+    const all = rows.length < 4 ? rows.map(told).join("; ")
+      : `${grouped(count)} calls, the last is ${told(rows[rows.length - 1])}`;
     return `Where it comes from: ${all}`;
   }
 
   // The call of a row, as it was performed or as it is listed; else the idle program was loaded.
+  /** @param {Row} row */
   textOf(row) {
     const call = callOf(row);
     return call ? callText(call) : this.page.tree.textAt(row.step) ?? "the idle program";
   }
 
-  // One way of a byte. It is shown as soon as it is known, and its calls once they are. Returns from where to go on, if from
-  // anywhere.
+  // One way of a byte. It is shown as soon as it is known, and its calls once they are. Returns from where to go on, if
+  // from anywhere.
+  /** @param {Spot} from @param {number} turn @returns {Promise<Spot | null>} */
   async hop(from, turn) {
     const isWanted = () => turn === this.turn;
     const found = shortened(await followed(this.page, from.place, from.step, from.number, this.page.engine, isWanted));
     if (!isWanted()) return null;
     this.rows.push(...found);
     this.draw();
-    const states = await this.page.run.story.at([from.step, ...found.map((row) => row.step).filter((step) => step >= 0)]);
+    const { story } = this.page.shownRun;
+    const states = await story.at([from.step, ...found.map((row) => row.step).filter((step) => step >= 0)]);
     if (turn !== this.turn) return null;
     for (const row of found) row.state = states.get(row.step);
     this.draw();
@@ -90,7 +106,7 @@ export class Way {
   focus() {
     const last = byId("way-list").lastElementChild;
     const texts = [...last?.querySelectorAll("[data-place][tabindex]") ?? []];
-    around(texts.at(-1) ?? last?.querySelector("button"), "[tabindex], button")?.focus();
+    around(texts.at(-1) ?? last?.querySelector("button") ?? null, "[tabindex], button")?.focus();
   }
 
   draw() {
@@ -99,19 +115,21 @@ export class Way {
     this.page.tabs.count("way", grouped(this.rows.reduce((sum, { left }) => sum + (left ?? 1), 0)));
     keepFocus(() => list.replaceChildren(...this.rows.map((row, index) => this.row(row, index))));
     const last = this.rows[this.rows.length - 1];
-    this.light(last?.deed === "reads" ? last.byte : null);
+    this.light(last?.deed === "reads" ? last.byte ?? null : null);
     list.lastElementChild?.scrollIntoView({ block: "nearest" });
   }
 
   // Lights the byte that was read, in the program or in what came after it.
+  /** @param {number | null} byte */
   light(byte) {
-    const { editor, run, isStale } = this.page;
-    const isInput = byte !== null && byte >= run.program.length;
-    editor.light("read", byte === null || isInput || isStale ? [] : [byte]);
-    const range = isInput && rangeOfByte(byId("given-text"), byte - run.program.length);
+    const { editor, shownRun: { program }, isStale } = this.page;
+    const isInput = byte !== null && byte >= program.length;
+    editor.light("read", byte === null || isInput || isStale ? [] : [[byte, byte + 1]]);
+    const range = isInput ? rangeOfByte(byId("given-text"), byte - program.length) : null;
     if (range) addLight("followed", range);
   }
 
+  /** @param {Row} row @param {number} index */
   row(row, index) {
     const line = make("div", "way-row");
     line.dataset.row = String(index);
@@ -129,42 +147,49 @@ export class Way {
     const own = callOf(row);
     if (own) {
       const call = make("span", "code");
-      addCall(call, own, row.state.parts.calls.length - 1, row.step, 60, false);
-      if (row.deed === "makes") {
-        call.querySelectorAll(".argument:not(.name)").forEach((text, at) => reachable(text, `argument ${at + 1}`));
-      } else reachable(call, "call");
+      addCall(call, own, (row.state?.parts.calls.length ?? 0) - 1, row.step, 60, false);
+      /** @type {NodeListOf<HTMLElement>} */
+      const texts = call.querySelectorAll(".argument:not(.name)");
+      if (row.deed === "makes") texts.forEach((text, at) => reachable(text, `argument ${at + 1}`));
+      else reachable(call, "call");
       line.append(call);
     }
-    const isRead = row.deed === "reads" && row.byte < this.page.run.program.length;
-    const deed = make("span", row === this.rows[this.rows.length - 1] ? "deed way-end" : "deed", isRead ? "reads it: " : this.words(row));
-    if (isRead) deed.append(placeOf(this.page, row.byte));
+    const read = row.deed === "reads" ? row.byte ?? 0 : Infinity;
+    const isRead = read < this.page.shownRun.program.length;
+    const name = row === this.rows[this.rows.length - 1] ? "deed way-end" : "deed";
+    const deed = make("span", name, isRead ? "reads it: " : this.words(row));
+    if (isRead) deed.append(placeOf(this.page, read));
     line.append(deed);
     return line;
   }
 
   // What the call did with the byte.
+  /** @param {Row} row */
   words(row) {
     const isLast = row === this.rows[this.rows.length - 1];
-    if (row.deed === "makes" && isLast && callOf(row)?.texts.length > 1) return "makes it: follow one of its arguments";
+    const { texts } = callOf(row) ?? { texts: [] };
+    if (row.deed === "makes" && isLast && texts.length > 1) return "makes it: follow one of its arguments";
     if (row.deed !== "reads") return DEEDS[row.deed];
-    const { program } = this.page.run;
-    if (row.byte < program.length) return `reads it: ${placeSaid(this.page, row.byte)}`;
-    return `reads it: byte ${grouped(row.byte - program.length + 1)} of the input after the program`;
+    const { shownRun: { program } } = this.page, { byte = 0 } = row;
+    if (byte < program.length) return `reads it: ${placeSaid(this.page, byte)}`;
+    return `reads it: byte ${grouped(byte - program.length + 1)} of the input after the program`;
   }
 }
 
 // The call that is performed at a row of a way, if its state is known.
+/** @param {Row} row */
 function callOf({ state }) {
   return state && ruleOf(state) === "p" ? state.parts.calls[state.parts.calls.length - 1] : null;
 }
 
 // What a place in the program is called.
-function placeSaid({ run, isStale }, byte) {
-  return lineAndColumn(run.program, byte) + (isStale ? OF_OLD : "");
+/** @param {Page} page @param {number} byte */
+function placeSaid({ shownRun, isStale }, byte) {
+  return lineAndColumn(shownRun.program, byte) + (isStale ? OF_OLD : "");
 }
 
 // A place in the program, which leads there: that byte is chosen in the editor, unless that has another text now.
-/** @param {import("./page.js").Page} page */
+/** @param {Page} page @param {number} byte */
 export function placeOf(page, byte) {
   const words = placeSaid(page, byte);
   if (page.isStale) return make("span", "", words);
@@ -176,11 +201,14 @@ export function placeOf(page, byte) {
 // The editor has another text now: no place leads there any more.
 export function unlinkPlaces() {
   keepFocus(() => {
-    for (const button of document.querySelectorAll("button.place")) button.replaceWith(make("span", "", button.textContent + OF_OLD));
+    for (const button of document.querySelectorAll("button.place")) {
+      button.replaceWith(make("span", "", button.textContent + OF_OLD));
+    }
   });
 }
 
 // Lets a text be reached by keys, under a name.
+/** @param {HTMLElement} element @param {string} label */
 function reachable(element, label) {
   element.tabIndex = 0;
   element.setAttribute("role", "group");
@@ -188,16 +216,25 @@ function reachable(element, label) {
 }
 
 // Of a long way the latest calls, how many more there are, and the last one.
+/** @param {Row[]} rows @returns {Row[]} */
 function shortened(rows) {
   if (rows.length <= SHOWN_ROWS) return rows;
-  return [...rows.slice(0, SHOWN_ROWS - 2), { left: rows.length - SHOWN_ROWS + 1, step: -1 }, rows[rows.length - 1]];
+  const left = { left: rows.length - SHOWN_ROWS + 1, step: -1, deed: "" };
+  return [...rows.slice(0, SHOWN_ROWS - 2), left, rows[rows.length - 1]];
 }
 
 // From where a made byte is followed on: the same argument, if it was one of a call of the same name.
+/**
+ * @param {Spot} from
+ * @param {Map<number, State | undefined>} states
+ * @param {Row | undefined} last
+ * @returns {Spot | null}
+ */
 function onward(from, states, last) {
   const found = /^argument \d+ (\d+)$/.exec(from.place);
   const state = states.get(from.step);
-  if (!found || last?.deed !== "makes" || !last.state || ruleOf(state) !== "p" || ruleOf(last.state) !== "p") return null;
+  if (!found || !state || last?.deed !== "makes" || !last.state) return null;
+  if (ruleOf(state) !== "p" || ruleOf(last.state) !== "p") return null;
   const [old, now] = [state, last.state].map(({ parts }) => parts.calls[parts.calls.length - 1]);
   const text = now.texts[Number(found[1])];
   if (old.texts[0] !== now.texts[0] || !text || last.step >= from.step) return null;

@@ -1,17 +1,25 @@
-// The first minute: a program to run, what to do with it, and some others to try. And the list of all programs that come with the page.
+// The first minute: a program to run, what to do with it, and some others to try. And the list of all programs that
+// come with the page.
 import { bytesOfSigns, textOf } from "./bytes.js";
-import { buttonOf, byId, make } from "./elements.js";
+import { buttonOf, byId, make, textIn } from "./elements.js";
 import { startList } from "./lists.js";
 
 // What is there at first, and what else is offered beside that.
 const FIRST = "wrong-factorial.trac";
 const TRIES = ["hello.trac", "guess.trac", "hanoi.trac"];
 
+/**
+ * A program that comes with the page: where it is listed, its file, what it is called and what it shows, and its bytes
+ * in base64.
+ * @typedef {{ group: string, name: string, title: string, line: string, text: string }} Program
+ */
+
 export class Library {
-  /** @param {import("./page.js").Page} page */
+  /** @param {Page} page */
   constructor(page) {
     this.page = page;
-    this.programs = JSON.parse(byId("library-data").textContent);
+    /** @type {Program[]} */
+    this.programs = JSON.parse(textIn("library-data"));
     const list = byId("library");
     list.append(new Option("Examples", ""));
     for (const group of new Set(this.programs.map((program) => program.group))) {
@@ -28,25 +36,28 @@ export class Library {
     startList(list, (index) => this.open(this.programs[Number(index)]));
   }
 
+  /** @param {Program} program */
   open(program) {
     this.page.open(program.name, bytesOfSigns(program.text));
     this.page.view.showWords(`${program.title}: ${program.line}. Press Run.`);
   }
 
+  /** @param {string} name */
   named(name) {
-    return this.programs.find((program) => program.name === name);
+    return /** @type {Program} */ (this.programs.find((program) => program.name === name));
   }
 }
 
-// Shows what a newcomer meets: the program that was typed last, or a first one, and what to do. Whoever opens the page of
-// a program meets that.
-/** @param {import("./page.js").Page} page */
+// Shows what a newcomer meets: the program that was typed last, or a first one, and what to do. Whoever opens the page
+// of a program meets that.
+/** @param {Page} page @param {boolean} isGiven */
 export function welcome(page, isGiven) {
   const { library } = page;
   const first = library.named(FIRST);
   const isBack = page.draft.restore();
   if (!isBack && !isGiven) page.editor.put({ name: first.name, bytes: bytesOfSigns(first.text) });
-  byId("welcome-about").hidden = page.editor.name !== FIRST || page.editor.box.value !== textOf(bytesOfSigns(first.text));
+  const isFirst = page.editor.name === FIRST && page.editor.box.value === textOf(bytesOfSigns(first.text));
+  byId("welcome-about").hidden = !isFirst;
   for (const program of TRIES.map((name) => library.named(name))) {
     addTry(program.title, program.line, () => library.open(program));
   }
@@ -54,6 +65,7 @@ export function welcome(page, isGiven) {
   byId("welcome").hidden = isGiven;
 }
 
+/** @param {string} title @param {string} line @param {() => void} does */
 function addTry(title, line, does) {
   const button = buttonOf("", does);
   button.append(make("b", "", title), line);

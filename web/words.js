@@ -4,15 +4,19 @@ import { addShort, grouped } from "./bytes.js";
 import { reasonOf } from "./branch.js";
 import { make } from "./elements.js";
 
+/** @type {Word[]} */
 const UNPROTECTED = [" that is not protected by ", ["( )"]];
+// What ends a line or sets it in.
+/** @type {Record<string, string>} */
+const MARGINS = { "\\x0d": "a carriage return", "\\x0a": "a line feed", "\\x09": "a tab" };
 
+/** @type {Record<string, (move: Move) => Word[]>} */
 export const RULES = {
   i: () => ["nothing is left: base text and begun functions are emptied, and the idle program is loaded"],
   "(": (move) => [["("], " and its matching ", [")"],
     " are deleted, and what they protect goes to the current text unchanged", protectedWords(move.moved)],
   u: () => [["("], " has no match: it is deleted, and all the rest goes to the current text"],
-  w: (move) => [[move.taken], " is deleted: ",
-    { "\\x0d": "a carriage return", "\\x0a": "a line feed", "\\x09": "a tab" }[move.taken], ...UNPROTECTED],
+  w: (move) => [[move.taken], " is deleted: ", MARGINS[move.taken], ...UNPROTECTED],
   ",": (move) => wordsOfComma(move.ended),
   ";": () => ["a ", [","], " outside any function is deleted"],
   a: () => [["#("], " begins an active function: its value will be scanned"],
@@ -28,6 +32,7 @@ export const RULES = {
 const EMPTY = "‹empty›";
 export const QUOTES = ["“", "”"];
 
+/** @type {Record<string, string>} */
 export const PRIMITIVES = {
   ps: "prints its argument",
   rs: "reads a text of the input, up to the meta character",
@@ -65,17 +70,20 @@ export const PRIMITIVES = {
 };
 
 // What the idle program is.
+/** @type {Word[]} */
 export const IDLE_WORDS = ["It is ", ["#(ps,#(rs))"], ", there at the start and whenever nothing is left: ", ["rs"],
   " reads a text of the input, up to the meta character; that is scanned as the argument of ", ["ps"],
   ", which prints what is left of it"];
 
 // What is moved: blanks have a word, since nobody hears them.
+/** @param {string} text @returns {Word} */
 export function movedWords(text) {
   if (!/^ +$/.test(text)) return [text];
   return text.length === 1 ? "a blank" : `${grouped(text.length)} blanks`;
 }
 
 // What it means that a text was protected.
+/** @param {string} text */
 function protectedWords(text) {
   const comma = text.includes(",") && "no comma in it ends an argument";
   const call = text.includes("#(") && "no call in it is begun";
@@ -84,52 +92,64 @@ function protectedWords(text) {
 }
 
 // What a comma does: the argument that it ends, of which call and which one it is, where that is known.
+/** @param {Move["ended"]} ended @returns {Word[]} */
 function wordsOfComma(ended) {
+  /** @type {Word[]} */
   const comma = ["a ", [","], ...UNPROTECTED, " ends "];
   if (!ended) return [...comma, "the argument, and an empty one is begun"];
   const { call, index } = ended;
   const text = call.texts[index];
+  /** @type {Word[]} */
   const which = index === 0 ? ["the name of the function, "] : [`argument ${index} of `, [call.texts[0], "text"], ": "];
   return [...comma, ...which, [text, "text"], `; argument ${index + 1} is begun`];
 }
 
 // What a function does, by its name. Letters of either case name a primitive.
+/** @param {string} name @returns {Word[]} */
 function deedOf(name) {
   const known = PRIMITIVES[/^[A-Za-z]{2}$/.test(name) ? name.toLowerCase() : ""];
   return known ? [[name, "text"], " ", known] : ["no primitive is named ", [name, "text"], ", so nothing is done"];
 }
 
 // A call in words: why its value is what it is, or what it is for and what it printed; and its value.
+/** @param {Move} move @returns {Word[]} */
 function wordsOfCall(move) {
+  const call = /** @type {Begun} */ (move.call);
   const whose = move.isLast ? " of the idle program" : "";
-  const words = [[")"], `${whose} ends the function, and `, [callText(move.call), "call", move.call], " is performed: ",
-    ...(reasonOf(move) ?? deedOf(move.call.texts[0]))];
+  /** @type {Word[]} */
+  const words = [[")"], `${whose} ends the function, and `, [callText(call), "call", call], " is performed: ",
+    ...(reasonOf({ ...move, call }) ?? deedOf(call.texts[0]))];
   if (move.printed) words.push("; printed is ", [move.printed]);
   const last = words[words.length - 1];
   if (typeof last !== "string" || !last.endsWith(": ")) words.push("; its value is ");
-  words.push([move.value, move.scanned ? "value" : "value text"], ...(move.value === "" ? [] : fateOf(move)));
+  words.push([move.value, move.scanned ? "value" : "value text"], ...(move.value === "" ? [] : fateOf(move, call)));
   return words;
 }
 
 // What becomes of a value, and why.
-function fateOf(move) {
-  const sign = [move.call.neutral ? "##(" : "#("];
+/** @param {Move} move @param {Called} call @returns {Word[]} */
+function fateOf(move, call) {
+  /** @type {Word} */
+  const sign = [call.neutral ? "##(" : "#("];
   if (!move.scanned) return [", which is not scanned, since ", sign, " began a neutral function"];
-  if (!move.call.neutral) return [", which is scanned next, since ", sign, " began an active function"];
+  if (!call.neutral) return [", which is scanned next, since ", sign, " began an active function"];
   return [", which is scanned next: it is the default, although ", sign, " began a neutral function"];
 }
 
 // Whether an argument could be taken for several, or for a call.
+/** @param {string} text */
 export function isProtected(text) {
   return /[(),]/.test(text);
 }
 
 // An argument as it stands in a list or a label: in quotes where it is protected.
+/** @param {string} text */
 function argumentText(text) {
   return text === "" ? EMPTY : isProtected(text) ? `${QUOTES[0]}${text}${QUOTES[1]}` : text;
 }
 
 // A call as it is written, in one text.
+/** @param {Called} call */
 export function callText(call) {
   const texts = call.texts.map((text) => (text === "" ? "" : argumentText(text)));
   return `${call.neutral ? "##(" : "#("}${texts.join(",")})`;
@@ -144,6 +164,7 @@ function emptySign() {
 }
 
 // What is doubted. For those who do not see the sign before it there is a word.
+/** @param {string} words */
 export function doubtSign(words) {
   const sign = make("span", "doubt");
   sign.append(make("span", "unseen", ". Doubt: "), words);
@@ -152,6 +173,7 @@ export function doubtSign(words) {
 
 // Adds an argument, of which `add` adds the text and returns its element: where it is protected it stands in quotes,
 // and where it is empty there is the sign for that. One that is gathered still is open at its end.
+/** @param {Element} parent @param {string} text @param {() => Element} add */
 export function addArgument(parent, text, add, isOpen = false) {
   const isQuoted = isProtected(text);
   if (isQuoted) parent.append(make("span", "quote", QUOTES[0]));
@@ -163,7 +185,9 @@ export function addArgument(parent, text, add, isOpen = false) {
 // So many texts of a call are shown: its name, and arguments.
 const MOST_TEXTS = 400;
 
-// Adds the texts of a call, with commas between them, each by `add`. Where there are many, those in the middle are left out.
+// Adds the texts of a call, with commas between them, each by `add`. Where there are many, those in the middle are left
+// out.
+/** @param {Element} parent @param {Called} call @param {(text: string, index: number, isEnd: boolean) => void} add */
 export function addTexts(parent, call, add) {
   // (a call takes its line apart each time that it is asked)
   const { texts } = call;
@@ -177,6 +201,7 @@ export function addTexts(parent, call, add) {
 }
 
 // Adds a call as it is written; of a long argument its middle is left out.
+/** @param {Element} parent @param {Called} call @param {number} most */
 export function addCallText(parent, call, most) {
   const code = make("span", "code");
   code.append(make("span", "kind", call.neutral ? "##(" : "#("));
@@ -189,15 +214,19 @@ export function addCallText(parent, call, most) {
 }
 
 // Adds a word of a sentence: what stands first in a list is a text of the program.
+/** @param {Element} parent @param {Word} word */
 export function addWord(parent, word) {
-  if (!Array.isArray(word)) parent.append(word);
-  else if (word[1] === "call") addCallText(parent, word[2], 60);
-  else if (/text/.test(word[1])) addArgument(parent, word[0], () => addShort(parent, word[0], "code", 72));
-  else if (word[0] === "") parent.append(emptySign());
-  else addShort(parent, word[0], "code", 72);
+  if (!Array.isArray(word)) return void parent.append(word);
+  const [text, kind = "", call] = word;
+  if (call) addCallText(parent, call, 60);
+  else if (kind.includes("text")) addArgument(parent, text, () => addShort(parent, text, "code", 72));
+  else if (text === "") parent.append(emptySign());
+  else addShort(parent, text, "code", 72);
+  return undefined;
 }
 
 // Shows words in an element.
+/** @param {Element} parent @param {string} lead @param {Word[]} words */
 export function showWords(parent, lead, words) {
   parent.replaceChildren(make("b", "", lead));
   for (const word of words) addWord(parent, word);

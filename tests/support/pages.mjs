@@ -87,12 +87,16 @@ class Shown {
         this.runs.perform = (wanted) => this.perform(wanted)
     }
 
+    get shownRun() {
+        return this.run
+    }
+
     open(name, bytes) {
         opened.push({ name, bytes })
     }
 
-    async perform(wanted) {
-        wanted.tape = tapeOf(wanted)
+    async perform(asked) {
+        const wanted = { ...asked, tape: tapeOf(asked) }
         const came = await measure(this.engine, wanted.tape, wanted.isClosed, wanted.budget)
         this.run = this.runs.runOf(wanted, came)
         this.visit(this.run.end)

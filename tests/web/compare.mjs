@@ -1,7 +1,7 @@
-// Compares the module with the built programs: bytes that runs print, replies of the debugger, states, dialogues, ways of bytes, and
-// doubts.
+// Compares the module with the built programs: bytes that runs print, replies of the debugger, states, dialogues, ways
+// of bytes, and doubts.
 //
-//     node compare.mjs PAGE TRAC TRAC_WALK PROGRAMS WALKS     PAGE is trac.html, or a module; PROGRAMS and WALKS are folders
+//     node compare.mjs PAGE TRAC TRAC_WALK PROGRAMS WALKS     PAGE is trac.html, or a module; the last two are folders
 //
 // The last line is `N passed, M failed`.
 import { spawnSync } from 'node:child_process'
@@ -69,7 +69,8 @@ function hostile() {
     same('a form that doubles itself', engine.run(doubling), LIMIT, Buffer.of())
     const printing = Buffer.from("#(ds,D,x)'" + "#(ds,D,##(cl,D)##(cl,D))'".repeat(22) + "#(ps,##(cl,D))'".repeat(5))
     same('20 MiB of output', engine.run(printing, 1_000_000, 128, 1 << 24), ENDED, Buffer.alloc(20971520, 'x'))
-    same('numerals of 1,000 digits', engine.run(Buffer.from(`#(gr,1${'0'.repeat(1000)},${'9'.repeat(1000)},y,n)'`)), ENDED, Buffer.from('y'))
+    const numerals = Buffer.from(`#(gr,1${'0'.repeat(1000)},${'9'.repeat(1000)},y,n)'`)
+    same('numerals of 1,000 digits', engine.run(numerals), ENDED, Buffer.from('y'))
     for (let byte = 0; byte < 256; byte++) {
         const text = byte === 48 || byte === 49 ? 'xy' : '01', it = Buffer.of(byte)
         const bytes = Buffer.concat([Buffer.from("#(cm,##(rc))'"), it, Buffer.from(text), it])
@@ -84,7 +85,9 @@ function hostile() {
 function wrongNumbers() {
     const text = Buffer.from("#(ps,A)'"), none = Buffer.of()
     for (const budget of [0n, 1_000_000_000_001n, 2n ** 64n - 1n]) {
-        for (const name of ['run', 'doubts']) same(`a budget of ${budget}, ${name}`, engine.ask(name, [text, budget, 128], 64, 1), 10, none)
+        for (const name of ['run', 'doubts']) {
+            same(`a budget of ${budget}, ${name}`, engine.ask(name, [text, budget, 128], 64, 1), 10, none)
+        }
     }
     for (const decimals of [0, 63, 65, 127, 129, 2n ** 64n - 1n]) {
         same(`decimals of ${decimals}, doubts`, engine.ask('doubts', [text, 100, decimals], 64, 1), 12, none)
@@ -111,7 +114,10 @@ function rooms() {
     }
     same('5 bytes in a buffer of 5', engine.ask('run', [text, 1000, 128], 5, 1), ENDED, Buffer.from('ABCDE'))
     const wrong = Buffer.from("#(pr,a)'"), row = Buffer.from(':1:3: no primitive is named pr (step 13)\n')
-    for (const size of [0, 1, row.length - 1]) same(`a row in a buffer of ${size}`, engine.once('doubts', [wrong, 1000, 128], size, 1), TOO_LONG, row.subarray(0, size))
+    for (const size of [0, 1, row.length - 1]) {
+        const front = engine.once('doubts', [wrong, 1000, 128], size, 1)
+        same(`a row in a buffer of ${size}`, front, TOO_LONG, row.subarray(0, size))
+    }
     same('a row in a buffer for it', engine.once('doubts', [wrong, 1000, 128], row.length, 1), ENDED, row)
 }
 
@@ -128,7 +134,7 @@ function memory() {
     holds(`${taken} blocks of 16 MiB are there`, taken >= 28 && taken < 32)
     holds('no more is taken than is declared', exports.memory.buffer.byteLength <= 2 ** 29)
     const text = Buffer.from("#(ds,E,(#(ds,D,##(cl,D)##(cl,D))#(cl,E)))'#(ds,D,x)#(cl,E)'")
-    const place = exports.trac_web_allocate(BigInt(text.length)), output = exports.trac_web_allocate(64n), count = exports.trac_web_allocate(16n)
+    const [place, output, count] = [text.length, 64, 16].map((size) => exports.trac_web_allocate(BigInt(size)))
     new Uint8Array(exports.memory.buffer).set(text, Number(place))
     const status = exports.trac_web_run(place, BigInt(text.length), 1_000_000n, 128n, output, 64n, count, count + 8n)
     holds(`a run without memory: status ${status}, and not ${MEMORY}`, status === MEMORY)
@@ -138,7 +144,8 @@ function memory() {
 // Blocks of random sizes that are taken and freed: none lies in another. What is free and touches is one block.
 function blocks() {
     const { exports } = new WebAssembly.Instance(engine.module, {}), next = random.numbers(77)
-    const take = (size) => Number(exports.trac_web_allocate(BigInt(size))), free = (place) => exports.trac_web_release(BigInt(place))
+    const take = (size) => Number(exports.trac_web_allocate(BigInt(size)))
+    const free = (place) => exports.trac_web_release(BigInt(place))
     const at = (place, size) => Buffer.from(exports.memory.buffer, place, size)
     exports.trac_web_begin(2n ** 26n)
     const held = []
@@ -162,7 +169,8 @@ function blocks() {
     const rows = Array.from({ length: 20 }, () => take(2 ** 20)), least = rows[0], most = rows[19] + 2 ** 20
     for (const order of [1, 0, 3, 2]) rows.filter((_, index) => index % 4 === order).forEach(free)
     const one = take(20 * 2 ** 20)
-    holds('20 blocks that touch become one', one >= least && one + 20 * 2 ** 20 <= most + 320 && exports.trac_web_refusals() === 0n)
+    const isOne = one >= least && one + 20 * 2 ** 20 <= most + 320
+    holds('20 blocks that touch become one', isOne && exports.trac_web_refusals() === 0n)
 }
 
 // Random programs: what they print and how they end.
@@ -183,7 +191,8 @@ function scripts() {
         same(`script ${seed}`, answer, wanted.status, wanted.output)
         if (wanted.status !== 0) holds(`script ${seed}: status`, wanted.status === NOT_UNDERSTOOD)
         const step = random.numbers(seed)(300), one = `s ${step}\np\n`
-        same(`state ${seed}, after ${step} steps`, engine.debug(text, one), 0, native(trac, ['debug', inFile(text)], one).output)
+        const { output } = native(trac, ['debug', inFile(text)], one)
+        same(`state ${seed}, after ${step} steps`, engine.debug(text, one), 0, output)
     }
 }
 
@@ -198,11 +207,15 @@ function dialogues() {
     }
 }
 
-const DEEDS = { 'prints it': 'prints', 'sets it': 'sets', 'gives it': 'gives', 'makes it': 'made', 'it is there already': 'earlier' }
+const DEEDS = {
+    'prints it': 'prints', 'sets it': 'sets', 'gives it': 'gives', 'makes it': 'made', 'it is there already': 'earlier',
+}
+const ROW = new RegExp('^(\\d+) .*? {2,}(prints it|sets it|gives it|makes it|it is there already'
+    + '|reads it: line (\\d+), column (\\d+)|reads it: byte (\\d+) after FILE)$')
 
 // What a line of `y` says: the step, and what it did, with line and column.
 function said(line) {
-    const found = /^(\d+) .*? {2,}(prints it|sets it|gives it|makes it|it is there already|reads it: line (\d+), column (\d+)|reads it: byte (\d+) after FILE)$/.exec(line)
+    const found = ROW.exec(line)
     if (!found) return undefined
     if (found[3]) return `${found[1]} read ${found[3]} ${found[4]}`
     return `${found[1]} ${DEEDS[found[2]]}`
@@ -214,6 +227,10 @@ function told(row) {
     return deed === 'read' ? `${step} read ${line} ${column}` : `${step} ${deed}`
 }
 
+// What is said to one `y`, up to where it stands then.
+const REPLY = new RegExp('(?:^\\d+  .*  (?:prints|sets|gives|makes|reads) it.*\\n|^\\.\\. \\d+ more \\.\\.\\n'
+    + '|^FILE    .*\\n *\\^\\n)*^here: .*\\n', 'gm')
+
 // Each byte that the programs print: its way, as `y` says it.
 function ways() {
     for (const file of fs.readdirSync(programs).filter((it) => it.endsWith('.trac'))) {
@@ -222,8 +239,9 @@ function ways() {
         if (status !== ENDED || steps > 1_000_000) continue
         const lines = ['s end', 'e', 's end']
         for (let k = 1; k <= reply.length; k++) lines.push(`y #${k}`, 'e', 's end')
-        const walked = native(tracWalk, ['--journal', '1048576', name], lines.join('\n') + '\n').output.toString('latin1')
-        const replies = walked.match(/(?:^\d+  .*  (?:prints|sets|gives|makes|reads) it.*\n|^\.\. \d+ more \.\.\n|^FILE    .*\n *\^\n)*^here: .*\n/gm) ?? []
+        const typed = lines.join('\n') + '\n'
+        const walked = native(tracWalk, ['--journal', '1048576', name], typed).output.toString('latin1')
+        const replies = walked.match(REPLY) ?? []
         holds(`${file}: ${replies.length} replies to ${reply.length} questions`, replies.length === reply.length)
         replies.forEach((text_, k) => {
             const wanted = text_.split('\n').map(said).filter((it) => it)
@@ -233,7 +251,8 @@ function ways() {
             // of a long way trac-walk shows the first calls and the last
             const seen = more ? [...rows.slice(0, wanted.length - 1), ...rows.slice(-1)] : rows
             holds(`${file}, byte ${k}: ${seen.join('; ')}, and not ${wanted.join('; ')}`,
-                answer.status === ENDED && seen.join() === wanted.join() && (!more || rows.length === wanted.length + Number(more[1])))
+                answer.status === ENDED && seen.join() === wanted.join()
+                && (!more || rows.length === wanted.length + Number(more[1])))
         })
     }
 }
@@ -245,29 +264,41 @@ function searchStatus(status, said) {
     return said === '' && status < 2 ? ENDED : undefined
 }
 
-// The doubts of all programs that are here: the lines of trac-lint, for the program and what it reads in one file, without its name.
+const LINTED = 'tests/data/lint'
+
+// The doubts of all programs that are here: the lines of trac-lint, for the program and what it reads in one file,
+// without its name.
 function doubts() {
     const top = path.join(programs, '..', '..', '..')
-    for (const folder of ['tests/data/lint', 'tests/data/lint/mistakes', 'tests/data/lint/parentheses', 'tests/data/programs', 'programs/examples']) {
+    const linted = [LINTED, `${LINTED}/mistakes`, `${LINTED}/parentheses`]
+    for (const folder of [...linted, 'tests/data/programs', 'programs/examples']) {
         const names = fs.readdirSync(path.join(top, folder)).filter((it) => it.endsWith('.trac'))
         holds(`${folder} has programs`, names.length > 0)
         for (const name of names) {
             const it = path.join(top, folder, name.slice(0, -5)), options = read(`${it}.options`, '').toString()
             const input = /--input (\S+)/.exec(options), decimals = /--decimals (\d+)/.exec(options)
-            const tape = Buffer.concat([fs.readFileSync(`${it}.trac`), input && folder === 'tests/data/lint' ? fs.readFileSync(path.join(top, folder, input[1])) : Buffer.of()])
+            const hasInput = input && folder === LINTED
+            const given = hasInput ? fs.readFileSync(path.join(top, folder, input[1])) : Buffer.of()
+            const tape = Buffer.concat([fs.readFileSync(`${it}.trac`), given])
             const file = inFile(tape), width = decimals ? decimals[1] : '128'
-            const linted = spawnSync(tracWalk, ['--lint', '--decimals', width, file], { encoding: 'latin1', maxBuffer: 1 << 28 })
-            const lines = linted.stdout.split('\n').map((line) => (line.startsWith(`${file}:`) ? line.slice(file.length) : line))
+            const words = ['--lint', '--decimals', width, file]
+            const found = spawnSync(tracWalk, words, { encoding: 'latin1', maxBuffer: 1 << 28 })
+            const bare = (line) => (line.startsWith(`${file}:`) ? line.slice(file.length) : line)
+            const lines = found.stdout.split('\n').map(bare)
             const answer = engine.doubts(tape, 10_000_000, Number(width))
-            same(`doubts of ${folder}/${name}`, answer, searchStatus(linted.status, linted.stderr), Buffer.from(lines.join('\n'), 'latin1'))
+            const status = searchStatus(found.status, found.stderr)
+            same(`doubts of ${folder}/${name}`, answer, status, Buffer.from(lines.join('\n'), 'latin1'))
             const told = lines.filter((line) => line.startsWith(':') && !/^:\d+:\d+: note: /.test(line)).length
             holds(`doubts of ${folder}/${name}: ${answer.others[0]} places, and not ${told}`, answer.others[0] === told)
         }
     }
 }
 
-const parts = { wholePrograms, hostile, wrongNumbers, rooms, memory, randomPrograms, scripts, dialogues, ways, doubts, story: () => story(holds), worker: () => worker(engine, holds),
-    modules: () => modules(engine, holds) }
+const parts = {
+    wholePrograms, hostile, wrongNumbers, rooms, memory, randomPrograms, scripts, dialogues, ways, doubts,
+    story: () => story(holds), worker: () => worker(engine, holds),
+    modules: () => modules(engine, holds),
+}
 try {
     for (const [name, part] of Object.entries(parts)) {
         const from = process.hrtime.bigint()

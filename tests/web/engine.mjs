@@ -8,7 +8,8 @@ export const ENDED = 0, BUDGET = 3, LIMIT = 4, MEMORY = 5, NOT_UNDERSTOOD = 8, T
 export function moduleIn(path) {
     const bytes = fs.readFileSync(path)
     if (bytes.subarray(0, 4).equals(Buffer.from('\0asm'))) return bytes
-    const found = /<script type="application\/octet-stream" id="module">([A-Za-z0-9+/=\s]*)<\/script>/.exec(bytes.toString('latin1'))
+    const text = bytes.toString('latin1')
+    const found = /<script type="application\/octet-stream" id="module">([A-Za-z0-9+/=\s]*)<\/script>/.exec(text)
     if (!found) throw new Error(`${path} holds no module`)
     return zlib.inflateSync(Buffer.from(found[1], 'base64'))
 }
@@ -35,13 +36,15 @@ class Request {
         return Number(new DataView(this.exports.memory.buffer).getBigUint64(Number(place), true))
     }
 
-    // Calls an export. Arguments are texts (Uint8Array) and numbers; after them it has a buffer of this size, and `more` numbers beside its length.
+    // Calls an export. Arguments are texts (Uint8Array) and numbers; after them it has a buffer of this size, and
+    // `more` numbers beside its length.
     call(name, args, size, more = 0) {
         const words = args.flatMap((it) => (it instanceof Uint8Array ? this.text(it) : [BigInt(it)]))
         const output = this.room(size), counts = [...Array(1 + more)].map(() => this.room(8))
         const status = this.exports[`trac_web_${name}`](...words, output, BigInt(size), ...counts)
         const [written, ...others] = counts.map((it) => this.number(it))
-        return { status, reply: Buffer.from(this.exports.memory.buffer.slice(Number(output), Number(output) + written)), others }
+        const { buffer } = this.exports.memory
+        return { status, reply: Buffer.from(buffer.slice(Number(output), Number(output) + written)), others }
     }
 }
 

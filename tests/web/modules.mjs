@@ -7,22 +7,30 @@ const { measure } = await import('../../web/measure.js')
 const { endOfArgument, formsSet, isSlip, remedied } = await import('../../web/remedies.js')
 const { Story } = await import('../../web/story.js')
 
-// What the page asks its Worker, asked of the module; of the steps that a move or a way goes back over, it keeps so many.
+// What the page asks its Worker, asked of the module; of the steps that a move or a way goes back over, it keeps so
+// many.
 const asked = (engine, kept = 1048576) => ({
-    ask: async (call, tape, { commands, journal = 1048576, keep = 268435456, budget, most = Infinity, step, kind, numbers, name }) => {
+    ask: async (call, tape, words) => {
+        const { commands, journal = 1048576, keep = 268435456, budget, most = Infinity } = words
+        const { step, kind, numbers, name } = words
         const { status, reply } = call === 'run' ? engine.run(tape, budget)
             : call === 'way' ? engine.way(tape, step, kind, numbers, name, kept)
-            : call === 'walk' ? engine.walk(tape, commands, Math.min(journal, kept), keep) : engine.debug(tape, commands, journal)
+            : call === 'walk' ? engine.walk(tape, commands, Math.min(journal, kept), keep)
+            : engine.debug(tape, commands, journal)
         return reply.length > most ? { status: 9, bytes: reply.subarray(0, most) } : { status, bytes: reply }
     },
 })
 
 // Names that are one slip from another, and that are not: by counting.
 function slips(holds) {
-    const near = ['pr ps', 'psx ps', 'p ps', 'sp ps', 'greting greeting', 'greetings greeting', 'gteeting greeting', 'greetign greeting']
+    const near = ['pr ps', 'psx ps', 'p ps', 'sp ps', 'greting greeting', 'greetings greeting', 'gteeting greeting',
+        'greetign greeting']
     const far = ['ps ps', 'greitign greeting', 'abc cba', 'p psx', 'ab cd', 'abcd badc']
     for (const row of near) holds(`${row}: one slip`, isSlip(...row.split(' ')) && isSlip(...row.split(' ').reverse()))
-    for (const row of far) holds(`${row}: not one slip`, !isSlip(...row.split(' ')) && !isSlip(...row.split(' ').reverse()))
+    for (const row of far) {
+        const names = row.split(' ')
+        holds(`${row}: not one slip`, !isSlip(...names) && !isSlip(...names.reverse()))
+    }
     holds('a blank too many', isSlip(' ps', 'ps') && isSlip('ps ', 'ps'))
 }
 
@@ -32,12 +40,16 @@ function remedies(holds) {
     const bytes = Buffer.from(program)
     const marked = (text) => program.slice(program.indexOf(text), endOfArgument(bytes, program.indexOf(text)))
     const wanted = ['pr', ' big world', 'a,b', 'x(y,z)']
-    for (const text of wanted) holds(`marked is ${JSON.stringify(marked(text))}, and not ${JSON.stringify(text)}`, marked(text) === text)
+    for (const text of wanted) {
+        const [is, should] = [marked(text), text].map((one) => JSON.stringify(one))
+        holds(`marked is ${is}, and not ${should}`, is === should)
+    }
     const story = { isSmall: true, kept: () => ({ parts: { forms: [{ name: 'Hall' }, { name: 'a\\x2c' }] } }) }
     const run = { program: bytes, end: 9, story }
     const forms = formsSet(run, { texts: ['#(ds,Factorial,(x))', '##(DS,greeting,hi)', '#(ds,(a,b),c)', '#(ps,x)'] })
     holds(`the forms: ${[...forms]}`, [...forms].join() === 'Factorial,greeting,Hall')
-    const said = (words, call = '#(x)') => remedied({ step: 1, byte: 2, words }, { run, tree: { textAt: () => call } }, forms).words
+    const page = (call) => ({ run, tree: { textAt: () => call } })
+    const said = (words, call = '#(x)') => remedied({ step: 1, byte: 2, words }, page(call), forms).words
     const rows = [
         ['no primitive is named pr', 'no primitive is named pr: did you mean ps or pf?'],
         ['no primitive is named  ps', 'no primitive is named  ps: did you mean ps?'],
@@ -86,24 +98,34 @@ async function runOf(engine, text) {
 }
 
 // A form that calls itself, and then a form that was set before: its name, its gap and its text are read long before.
-const TURNING = "#(ds,name,(Ann))#(ds,L,(#(eq,N,0,,(#(cl,L,#(su,N,1))))))'#(ss,L,N)'#(ps,(x)##(cl,name))#(cl,L,9)#(ps,##(cl,name)!)'"
+const TURNING = "#(ds,name,(Ann))#(ds,L,(#(eq,N,0,,(#(cl,L,#(su,N,1))))))'#(ss,L,N)'"
+    + "#(ps,(x)##(cl,name))#(cl,L,9)#(ps,##(cl,name)!)'"
 
-// Moves over a call, and ways: if 16 steps are kept, they come to the same as if all are, which is what the processor is proved to say.
+// Moves over a call, and ways: if 16 steps are kept, they come to the same as if all are, which is what the processor
+// is proved to say.
 async function keptAnew(engine, holds) {
     const run = await runOf(engine, TURNING), few = asked(engine, 16)
     for (let from = run.end; from > 0; from -= 31) {
-        const [one, other] = [await movedAnew(asked(engine), run, from, 'N', false), await movedAnew(few, run, from, 'N', false)]
+        const one = await movedAnew(asked(engine), run, from, 'N', false)
+        const other = await movedAnew(few, run, from, 'N', false)
         const [wanted, found] = [one, other].map(({ step, said }) => `to ${step}, ${said}`)
         holds(`N from ${from}: ${found}, and not ${wanted}`, found === wanted)
     }
-    const ways = { ends: 0, said: (rows) => rows.map(({ step, deed, byte }) => [step, deed, byte].join(' ')).join('; ') }
+    const rowSaid = ({ step, deed, byte }) => [step, deed, byte].join(' ')
+    const ways = { ends: 0, said: (rows) => rows.map(rowSaid).join('; ') }
     for (const step of [run.end - 9, 200]) {
         const { parts } = (await run.story.at([step])).get(step), name = new Uint8Array(0)
-        const spots = [...Array(Math.ceil(parts.active.length / 9))].map((_, at) => ({ kind: 1, numbers: [9 * at], name }))
-        parts.calls.forEach(({ texts }, depth) => texts.forEach((text, at) => text && spots.push({ kind: 3, numbers: [depth, at, 0], name })))
-        parts.forms.forEach((form) => spots.push({ kind: 4, numbers: [1], name: new Uint8Array(Buffer.from(form.name)) }))
+        const count = Math.ceil(parts.active.length / 9)
+        const spots = Array.from({ length: count }, (_, at) => ({ kind: 1, numbers: [9 * at], name }))
+        parts.calls.forEach(({ texts }, depth) => texts.forEach((text, at) => {
+            if (text) spots.push({ kind: 3, numbers: [depth, at, 0], name })
+        }))
+        for (const form of parts.forms) {
+            spots.push({ kind: 4, numbers: [1], name: new Uint8Array(Buffer.from(form.name)) })
+        }
         for (const spot of spots) {
-            const [one, other] = [await wayFrom(asked(engine), run, step, spot), await wayFrom(few, run, step, spot)].map(ways.said)
+            const one = ways.said(await wayFrom(asked(engine), run, step, spot))
+            const other = ways.said(await wayFrom(few, run, step, spot))
             if (/read/.test(one)) ways.ends++
             holds(`${JSON.stringify(spot)} at ${step}: ${other}, and not ${one}`, one === other)
         }

@@ -11,8 +11,10 @@ export function numbers(seed) {
     }
 }
 
-const NAMES = 'ps ds ss cl cs cc cn in cr dd da eq gr ad su ml dv bu bi bc bs br ln pf sb fb eb tn tf cm rs rc hl'.split(' ')
-const WORDS = ['a', 'b', 'ab', 'abc', 'aba', '1', '2', '-3', '7', '17', '0', '', '(a,b)', '#', "x", '\n', '10', 'F', 'G', '<', '\\', ']', '\xe9']
+const NAMES = ('ps ds ss cl cs cc cn in cr dd da eq gr ad su ml dv bu bi bc bs br ln pf sb fb eb tn tf cm rs rc hl')
+    .split(' ')
+const WORDS = ['a', 'b', 'ab', 'abc', 'aba', '1', '2', '-3', '7', '17', '0', '', '(a,b)', '#', 'x', '\n', '10', 'F',
+    'G', '<', '\\', ']', '\xe9']
 
 // A program: texts of calls, most of which use forms F and G, and what they read.
 export function program(seed) {

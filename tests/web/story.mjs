@@ -23,7 +23,8 @@ export function story(holds) {
     const kept = steps.filter((step) => states.kept(step))
     holds(`of 40 windows of 3 MiB the last 21 are kept: ${kept}`, kept.join() === steps.slice(-21).join())
     visit(50, 1 << 20)
-    holds('those that are farthest from the cursor go first', states.kept(2000) !== undefined && states.kept(3900) === undefined)
+    const isNearKept = states.kept(2000) !== undefined && states.kept(3900) === undefined
+    holds('those that are farthest from the cursor go first', isNearKept)
     visit(60, 21 << 20)
     holds('large ones leave little room', states.kept(3800) === undefined && length() >= 63 << 20)
 }

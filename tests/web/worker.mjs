@@ -1,5 +1,5 @@
-// The Worker of the page, run in Node over the same module: each try of a request begins with no block, and a reply that is too long
-// for its room is asked for again, with twice the room or more.
+// The Worker of the page, run in Node over the same module: each try of a request begins with no block, and a reply
+// that is too long for its room is asked for again, with twice the room or more.
 import fs from 'node:fs'
 import vm from 'node:vm'
 
@@ -51,7 +51,8 @@ export async function worker(engine, holds) {
     await tried('one that has not', print(100), 1000, [1000, 1 << 22])
     const long = await tried('a long one', print(90000), 1 << 20, [1 << 20, 1 << 22, 1 << 23, 1 << 24])
     holds('its bytes, all of them', long.status === 0 && Buffer.from(long.bytes).equals(reply))
-    const front = await tried('one of which the front is enough', { ...print(90000), most: 1 << 21 }, 1 << 20, [1 << 20, 1 << 21])
+    const ofFront = { ...print(90000), most: 1 << 21 }
+    const front = await tried('one of which the front is enough', ofFront, 1 << 20, [1 << 20, 1 << 21])
     holds('its front', front.status === 9 && Buffer.from(front.bytes).equals(reply.subarray(0, front.bytes.length)))
     holds(`one instance, and not ${instances.length}`, instances.length === 1)
     const much = instances[0].memory.buffer.byteLength
@@ -62,11 +63,13 @@ export async function worker(engine, holds) {
     // (one that prints 8 MiB takes more than 32 MiB)
     const large = Buffer.from("#(ds,D,x)'" + "#(ds,D,##(cl,D)##(cl,D))'".repeat(23) + "#(ps,##(cl,D))'")
     const short = await ask({ call: 'run', tape: large, budget: 100000, room: 1 << 24, memory: 1 << 25 })
-    holds(`memory that it may have alone: ${JSON.stringify(short)}`, short.isShort === true && short.refused === 'no memory')
+    const isShort = short.isShort === true && short.refused === 'no memory'
+    holds(`memory that it may have alone: ${JSON.stringify(short)}`, isShort)
     const alone = await ask({ call: 'run', tape: large, budget: 100000, room: 1 << 24 })
     holds('alone it has that', alone.status === 0 && alone.bytes.length === 1 << 23)
     const refused = await ask({ call: 'debug', tape: new Uint8Array(1 << 29), room: 1000, commands: 'p\n' })
     holds(`no room for the input: ${refused.refused}`, refused.refused === 'no memory' && refused.isShort === false)
     holds('after that it answers', (await ask({ call: 'run', tape, budget: 1000, room: 1000 })).status === 0)
-    holds(`no memory past 512 MiB: ${instances[0].memory.buffer.byteLength}`, instances[0].memory.buffer.byteLength <= 2 ** 29)
+    const { byteLength } = instances[0].memory.buffer
+    holds(`no memory past 512 MiB: ${byteLength}`, byteLength <= 2 ** 29)
 }

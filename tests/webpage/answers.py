@@ -1,5 +1,5 @@
-"""What the page asks of the processor: whole programs, runs that are stopped, answers that come late, and forms under any
-names."""
+"""What the page asks of the processor: whole programs, runs that are stopped, answers that come late, and forms under
+any names."""
 from __future__ import annotations
 
 import base64
@@ -35,13 +35,15 @@ SHOWN = """(() => {
 })()"""
 # Forms under names that no command line takes, and the call that changed each last.
 CHANGED = (
-    ("a b", "#(CC,a b)"), ("c,\"d", "#(ss,“c,\"d”,1)"), ("", "#(ds,empty,5)"), ("#8 \\", "#(in,#8 \\,8)"), ("LF", "#(fb,B)"),
+    ("a b", "#(CC,a b)"), ("c,\"d", "#(ss,“c,\"d”,1)"), ("", "#(ds,empty,5)"), ("#8 \\", "#(in,#8 \\,8)"),
+    ("LF", "#(fb,B)"),
 )
 CHANGING = ("#(ds,a b,xyz)#(ds,(c,\"d),1)#(ds,(#8 \\),98765)#(ds,(\n),line)#(CC,a b)#(ss,(c,\"d),1)#(ds,,5)'"
             "#(ds,a b c,2)#(cl,a b)#(sb,B,(\n))#(fb,B)#(in,(#8 \\),8)#(cc,a)#(in,(#8 \\),8)'")
 # Runs the module as the page's Worker does, without it.
 MODULE = """(async () => {
-  const bytes = Uint8Array.from(atob(document.getElementById('module').textContent.trim()), (sign) => sign.charCodeAt(0));
+  const signs = atob(document.getElementById('module').textContent.trim());
+  const bytes = Uint8Array.from(signs, (sign) => sign.charCodeAt(0));
   const stream = new Blob([bytes]).stream().pipeThrough(new DecompressionStream('deflate'));
   const module = await WebAssembly.compile(await new Response(stream).arrayBuffer());
   window.ranAs = (text, decimals) => {
@@ -97,8 +99,10 @@ def check_stop(page: Deeds) -> None:
     page.type("#(ps,again)'")
     page.run()
     page.until("window.late > 0", "a late answer comes")
-    said = [page.text(name) for name in ("output", "ending", "place")] + [page.script("document.getElementById('slider').max")]
-    check(said[0] == "again" and said[1].startswith("Done after 2") and said[3] == "27", "a late answer is dropped: {}".format(said))
+    said = [page.text(name)
+            for name in ("output", "ending", "place")] + [page.script("document.getElementById('slider').max")]
+    check(said[0] == "again" and said[1].startswith("Done after 2") and said[3] == "27",
+          "a late answer is dropped: {}".format(said))
 
 
 def check_jumps(page: Deeds) -> None:
@@ -113,7 +117,8 @@ def check_jumps(page: Deeds) -> None:
     page.go(8)
     shown = page.script("window.shown")
     check(shown[-2:] == ["7", "8"], "after the last jump no other is shown: {}".format(shown))
-    page.script("(() => { const box = document.getElementById('place'); box.value = '900000'; box.dispatchEvent(new Event('change')); "
+    page.script("(() => { const box = document.getElementById('place'); box.value = '900000'; "
+                "box.dispatchEvent(new Event('change')); "
                 "document.getElementById('stop').click(); })()")
     shown = page.script("['place', 'slider'].map((id) => document.getElementById(id).value).join()")
     check(shown == "8,8", "where it stands after a jump that is stopped: {}".format(shown))
@@ -126,7 +131,8 @@ def check_changes(page: Deeds) -> None:
     end = page.script("document.getElementById('slider').value")
     for name, call in CHANGED:
         page.go(end)
-        page.script("[...document.querySelectorAll('#forms tr')].find((row) => row.querySelector('th span').textContent === {})"
+        page.script("[...document.querySelectorAll('#forms tr')]"
+                    ".find((row) => row.querySelector('th span').textContent === {})"
                     ".querySelector('[data-who]').click()".format(json.dumps(name)))
         page.until("document.getElementById('slider').value !== '{}'".format(end), "who changed {!r}".format(name))
         check(call in page.text("next"), "{!r} was changed by {}: {}".format(name, call, page.text("next")))

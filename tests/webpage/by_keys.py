@@ -1,5 +1,5 @@
-"""The page by keys alone: the order of the focus, every control, the tree of calls, keys that are switched off, and a focus that
-stays where it is."""
+"""The page by keys alone: the order of the focus, every control, the tree of calls, keys that are switched off, and a
+focus that stays where it is."""
 import os
 
 from webpage.pages import FACTORIAL, IS_FOLLOWED, IS_GATHERED, TOP, Deeds, check
@@ -7,15 +7,20 @@ from webpage.rows import rows
 
 ENDLESS = os.path.join(TOP, "programs", "examples", "endless.trac")
 # A program that takes long.
-SLOW = ("#(ds,A,0123456789abcdef)'#(ds,D,(#(ds,A,##(cl,A)##(cl,A))))'" + "#(cl,D)" * 15 + "#(ds,L,(#(ds,B,##(cl,A)##(cl,A))#(cl,L)))'"
+SLOW = ("#(ds,A,0123456789abcdef)'#(ds,D,(#(ds,A,##(cl,A)##(cl,A))))'" + "#(cl,D)" * 15
+        + "#(ds,L,(#(ds,B,##(cl,A)##(cl,A))#(cl,L)))'"
         "#(cl,L)'")
 
 # What has the focus: its id, or what it is called and where it stands.
-FOCUS = ("(() => { const it = document.activeElement; const within = it.closest('[id]'); return it === document.body ? '' : it.id || "
+FOCUS = ("(() => { const it = document.activeElement; const within = it.closest('[id]'); "
+         "return it === document.body ? '' : it.id || "
          "`${within.id}: ${it.getAttribute('aria-label') ?? it.textContent}`; })()")
-# Every stop of the Tab key that can be seen, in the order of the page; controls that stand side by side are one where the browser says so.
-STOPS = ("[...document.querySelectorAll('button, select, input, textarea, [tabindex]')].filter((it) => it.checkVisibility() && it.tabIndex >= 0 "
-         "&& !it.disabled && it.type !== 'file').map((it) => it.id || `${it.closest('[id]').id}: ${it.getAttribute('aria-label') ?? it.textContent}`)")
+# Every stop of the Tab key that can be seen, in the order of the page; controls that stand side by side are one where
+# the browser says so.
+STOPS = ("[...document.querySelectorAll('button, select, input, textarea, [tabindex]')]"
+         ".filter((it) => it.checkVisibility() && it.tabIndex >= 0 "
+         "&& !it.disabled && it.type !== 'file').map((it) => it.id "
+         "|| `${it.closest('[id]').id}: ${it.getAttribute('aria-label') ?? it.textContent}`)")
 STEP = "document.getElementById('slider').value"
 IN_WAY = "document.activeElement.closest('.way-row') !== null"
 CHOSEN = "document.getElementById(document.getElementById('tree').getAttribute('aria-activedescendant'))"
@@ -40,24 +45,30 @@ def start(page: Deeds) -> None:
 
 
 def check_order(page: Deeds) -> None:
-    """Tab goes over every control in the order in which the page is read; the tree of calls is one stop, and so are the tabs."""
+    """Tab goes over every control in the order in which the page is read; the tree of calls is one stop, and so are the
+    tabs."""
     page.tab("tree")
-    page.script("document.getElementById('help-button').getAttribute('aria-expanded') === 'true' || document.getElementById('help-button').click()")
+    page.script("document.getElementById('help-button').getAttribute('aria-expanded') === 'true' "
+                "|| document.getElementById('help-button').click()")
     wanted = page.script(STOPS)
-    page.script("(document.activeElement.blur(), getSelection().removeAllRanges(), document.querySelector('h1').tabIndex = -1, "
+    page.script("(document.activeElement.blur(), getSelection().removeAllRanges(), "
+                "document.querySelector('h1').tabIndex = -1, "
                 "document.querySelector('h1').focus())")
     seen: list[str] = []
     for _ in range(len(wanted)):
         # (the program takes Tab, unless Esc came before; here that would close the help, too)
         if seen[-1:] == ["source"]:
-            page.script("document.getElementById('source').dispatchEvent(new KeyboardEvent('keydown', { key: 'Escape' }))")
+            page.script("document.getElementById('source')"
+                        ".dispatchEvent(new KeyboardEvent('keydown', { key: 'Escape' }))")
         page.press("Tab")
         seen.append(page.script(FOCUS))
     page.script("document.querySelector('h1').removeAttribute('tabindex')")
-    check(seen == wanted, "the order of the focus: {}".format([pair for pair in zip(seen, wanted) if pair[0] != pair[1]][:3]))
+    check(seen == wanted,
+          "the order of the focus: {}".format([pair for pair in zip(seen, wanted) if pair[0] != pair[1]][:3]))
     check(sum(name == "tree" for name in seen) == 1, "the tree is one stop: {}".format(seen))
     check(sum(name.startswith("tab-") for name in seen) == 1, "the tabs are one stop: {}".format(seen))
-    places = page.script("[...document.querySelectorAll('header, #help, #program-section, #result, #rules, #tape, #timeline, #buttons, #tabs')]"
+    places = page.script("[...document.querySelectorAll('header, #help, #program-section, #result, #rules, #tape, "
+                         "#timeline, #buttons, #tabs')]"
                          ".map((it) => it.compareDocumentPosition(document.getElementById('tabs')))")
     check(all(place & 4 or place == 0 for place in places), "the tabs are read last: {}".format(places))
     page.script("document.getElementById('help-button').click()")
@@ -68,12 +79,14 @@ def check_buttons(page: Deeds) -> None:
     for name, unit, before, after in (
         ("start", "token", 100, 0), ("end", "token", 100, 276), ("back", "byte", 78, 77), ("forward", "byte", 77, 78),
         ("forward", "token", 0, 8), ("back", "token", 138, 137), ("forward", "call", 0, 23), ("back", "call", 265, 263),
-        ("over", "token", 77, 267), ("over-back", "token", 263, 138), ("out", "token", 138, 263), ("begin", "token", 263, 132),
+        ("over", "token", 77, 267), ("over-back", "token", 263, 138), ("out", "token", 138, 263),
+        ("begin", "token", 263, 132),
     ):
         page.go(before)
         focus(page, unit)
         page.press("Enter")
-        check(page.script("document.getElementById('{}').getAttribute('aria-pressed')".format(unit)) == "true", "the switch: " + unit)
+        check(page.script("document.getElementById('{}').getAttribute('aria-pressed')".format(unit)) == "true",
+              "the switch: " + unit)
         focus(page, name)
         page.press("Enter")
         page.at(after, "the button {} from {}".format(name, before))
@@ -115,7 +128,8 @@ def check_others(page: Deeds) -> None:
     focus(page, "library")
     name = page.text("program-name")
     page.press("H")
-    check(page.text("program-name") == name, "going through a closed list opens nothing yet: " + page.text("program-name"))
+    check(page.text("program-name") == name,
+          "going through a closed list opens nothing yet: " + page.text("program-name"))
     page.press("Enter")
     page.until("document.getElementById('program-name').textContent === 'first.trac'", "first.trac is opened")
     again(page, "#(pr,a)#(ps,({}))'".format("long " * 2000))
@@ -125,7 +139,8 @@ def check_others(page: Deeds) -> None:
     page.press("Enter")
     page.at(13, "a doubt")
     page.press("End")
-    page.until("document.getElementById('output-note').textContent.startsWith('bytes 1,809 to 10,000')", "the end of the output")
+    page.until("document.getElementById('output-note').textContent.startsWith('bytes 1,809 to 10,000')",
+               "the end of the output")
     page.script("document.querySelector('#output button').focus()")
     page.press("Enter")
     page.until("document.getElementById('output-note').textContent.startsWith('bytes 1 to 1,808')", "earlier output")
@@ -140,7 +155,8 @@ def again(page: Deeds, text: str) -> None:
     page.script("document.getElementById('source').select()")
     page.insert(text)
     page.press("Enter", control=True)
-    page.until("document.activeElement.id === 'output' && /^(Done|A)/.test(document.getElementById('ending').textContent)", "it is run")
+    page.until("document.activeElement.id === 'output' "
+               "&& /^(Done|A)/.test(document.getElementById('ending').textContent)", "it is run")
 
 
 def check_texts(page: Deeds) -> None:
@@ -170,12 +186,14 @@ def check_texts(page: Deeds) -> None:
 def check_focus_stays(page: Deeds) -> None:
     """What has the focus has it after a step: it is there, or what stands in its place is."""
     page.go(100)
-    stops = page.script("[...document.querySelectorAll('#player [tabindex], #player button, #panels [tabindex], #panels button')]"
+    stops = page.script("[...document.querySelectorAll('#player [tabindex], #player button, #panels [tabindex], "
+                        "#panels button')]"
                         ".filter((it) => it.checkVisibility()).length")
     dropped = []
     page.tab("forms")
     for index in range(stops):
-        page.script("[...document.querySelectorAll('#player [tabindex], #player button, #panels [tabindex], #panels button')]"
+        page.script("[...document.querySelectorAll('#player [tabindex], #player button, #panels [tabindex], "
+                    "#panels button')]"
                     ".filter((it) => it.checkVisibility())[{}]?.focus()".format(index))
         held = page.script(FOCUS)
         for step in (101, 99, 276, 100):
@@ -184,20 +202,23 @@ def check_focus_stays(page: Deeds) -> None:
             dropped.append((held, page.script(FOCUS)))
     page.script("document.querySelector('#forms [data-place]').focus()")
     page.go(0)
-    check(page.script(FOCUS) == "active", "a form that is not there any more leaves the focus to the text: " + page.script(FOCUS))
+    check(page.script(FOCUS) == "active",
+          "a form that is not there any more leaves the focus to the text: " + page.script(FOCUS))
     check(stops > 15 and not dropped, "the focus was dropped by a step: {}".format(dropped))
 
 
 def check_tree(page: Deeds) -> None:
-    """Arrows, Home, End and letters within the tree; places among the calls of the same call; a focus that scrolling keeps."""
+    """Arrows, Home, End and letters within the tree; places among the calls of the same call; a focus that scrolling
+    keeps."""
     page.go(90)
     page.tab("tree")
     page.script("document.getElementById('filter').focus()")
     page.press("Tab")
     check(page.script(FOCUS) == "tree", "the tree has the focus: " + page.script(FOCUS))
     number = CHOSEN + ".querySelector('.number').textContent"
-    for key, step in (("Home", "23"), ("ArrowDown", "50"), ("ArrowUp", "23"), ("m", "265"), ("ArrowRight", "119"), ("ArrowRight", "117"),
-                      ("ArrowLeft", "119"), ("ArrowLeft", "119"), ("ArrowDown", "131"), ("ArrowLeft", "265"), ("End", "257")):
+    for key, step in (("Home", "23"), ("ArrowDown", "50"), ("ArrowUp", "23"), ("m", "265"), ("ArrowRight", "119"),
+                      ("ArrowRight", "117"), ("ArrowLeft", "119"), ("ArrowLeft", "119"), ("ArrowDown", "131"),
+                      ("ArrowLeft", "265"), ("End", "257")):
         page.press(key)
         shown = page.script(number)
         check(shown == step, "{} chooses the call at {}, not {}".format(key, step, shown))
@@ -215,7 +236,8 @@ def check_tree(page: Deeds) -> None:
     check(page.script(FOCUS) == "tree", "the tree has the focus after that: " + page.script(FOCUS))
     page.script("document.getElementById('tree').scrollTop = 100000")
     page.frames()
-    check(page.script(FOCUS) == "tree" and page.script(number) == "119", "scrolling keeps the focus and the chosen call")
+    check(page.script(FOCUS) == "tree" and page.script(number) == "119",
+          "scrolling keeps the focus and the chosen call")
     page.press("Home")
 
 
@@ -236,7 +258,8 @@ def check_switch(page: Deeds) -> None:
     check(page.script(STEP) == "101", "no key of one sign is a step: " + page.script(STEP))
     page.press("Home")
     page.at(0, "Home, while they are off")
-    check(page.text("play") == "play" and page.script(FOCUS) == "", "no key of one sign did anything: " + page.script(FOCUS))
+    check(page.text("play") == "play" and page.script(FOCUS) == "",
+          "no key of one sign did anything: " + page.script(FOCUS))
     focus(page, "single-keys")
     page.press(" ")
     page.press("Escape")
@@ -264,7 +287,8 @@ def check_input(page: Deeds) -> None:
     page.press("Enter")
     page.until("document.getElementById('question').open", "it asks")
     page.press("Escape")
-    page.until("!document.getElementById('question').open && document.activeElement.id === 'input'", "Escape is no, and the focus is back")
+    page.until("!document.getElementById('question').open && document.activeElement.id === 'input'",
+               "Escape is no, and the focus is back")
     page.press("Escape")
     page.press("End")
     page.at(page.script("document.getElementById('slider').max"), "End")
@@ -278,7 +302,8 @@ def check_input(page: Deeds) -> None:
 
 
 def check_comes_back(page: Deeds) -> None:
-    """The focus goes to the help and comes back; it stays where a way is shown anew, at `go on`, and where Escape stops a run."""
+    """The focus goes to the help and comes back; it stays where a way is shown anew, at `go on`, and where Escape stops
+    a run."""
     again(page, open(FACTORIAL).read())
     page.go(100)
     focus(page, "rules")
@@ -291,7 +316,8 @@ def check_comes_back(page: Deeds) -> None:
     is_said = "document.getElementById('said').textContent.includes('Where it comes from: ')"
     page.press("y")
     page.until(is_said, "the name of a call is followed, and that is said")
-    page.script("(document.getElementById('said').replaceChildren(), document.querySelector('#way-list [data-go]').focus())")
+    page.script("(document.getElementById('said').replaceChildren(), "
+                "document.querySelector('#way-list [data-go]').focus())")
     page.press("y")
     page.until(is_said, "it is followed again")
     check(page.script(FOCUS) != "", "a way that is shown anew keeps the focus")

@@ -2,11 +2,14 @@
 import glob
 import json
 import os
+import re
 
 from webpage.pages import TOP, Deeds, check
 from webpage.rows import ONE, rows
 
 COURSE = os.path.join(TOP, "programs", "course")
+# What a lesson says of a terminal: the page says something else.
+OF_TERMINAL = re.compile(r"\./trac|^trac:|Ctrl-C|\bshell\b")
 # A check that is stopped after a minute tells no more than how slow the machine is: so it may take an hour.
 PATIENT = """(() => {
   const set = window.setTimeout;
@@ -53,7 +56,8 @@ def judged(page: Deeds, program: str) -> str:
     page.put(program)
     page.script("document.querySelector('.judged').replaceChildren()")
     press(page, "Check")
-    page.until("!['', 'It is checked ..'].includes(document.querySelector('.judged').textContent)", "a check says something")
+    page.until("!['', 'It is checked ..'].includes(document.querySelector('.judged').textContent)",
+               "a check says something")
     said: str = page.script("document.querySelector('.judged').textContent")
     return said
 
@@ -63,22 +67,30 @@ def check_lessons(page: Deeds) -> None:
     for path in sorted(glob.glob(os.path.join(COURSE, "[0-9]*", "lesson.md"))):
         text = read(path)
         shows(page, text.split("\n")[0].lstrip("# "))
-        names = page.script("[...document.querySelectorAll('#lesson-text .program button')].map((it) => it.textContent)")
+        names = page.script("[...document.querySelectorAll('#lesson-text .program button')]"
+                            ".map((it) => it.textContent)")
         there = [os.path.basename(file) for file in glob.glob(os.path.join(os.path.dirname(path), "*.trac"))]
         check(sorted(names) == sorted("Open " + name for name in there), "{} has its programs: {}".format(path, names))
         shown = page.text("lesson-text").replace("\n", " ")
-        last = [line for line in text.split("\n## Exercises\n")[0].split("\n") if line and line[0].isalpha()][-1]
+        own = [line for line in text.split("\n## Exercises\n")[0].split("\n") if not OF_TERMINAL.search(line)]
+        last = [line for line in own if line and line[0].isalpha()][-1]
         check(has_words(shown, last), "{} is shown to its end".format(path))
+        is_broken = page.script("[...document.querySelectorAll('#lesson-text code.short')]"
+                                ".some((it) => it.getClientRects().length > 1)")
+        check(not is_broken, "{}: short code is not broken".format(path))
         check("```" not in shown, "{}: each block is one".format(path))
-        check("./trac run <" not in shown and "./trac course" not in shown, "{} takes no terminal for what Run does".format(path))
+        check("./trac" not in shown and "shell" not in shown,
+              "{} takes no terminal for what the page does".format(path))
     shows(page, "3. Forms")
     page.put("")
     press(page, "Open scan.trac")
-    page.until("document.getElementById('program-name').textContent === 'scan.trac'", "a program of the lesson is opened")
+    page.until("document.getElementById('program-name').textContent === 'scan.trac'",
+               "a program of the lesson is opened")
     page.run()
     check(page.text("output").strip() == "5 is #(ad,2,3)", "what it prints: " + page.text("output"))
     page.click("document.getElementById('lesson-next')")
-    check(page.text("lesson-title").startswith("Exercise 3.1 "), "after a lesson its exercise: " + page.text("lesson-title"))
+    check(page.text("lesson-title").startswith("Exercise 3.1 "),
+          "after a lesson its exercise: " + page.text("lesson-title"))
 
 
 def check_exercises(page: Deeds) -> None:
@@ -94,7 +106,10 @@ def check_exercises(page: Deeds) -> None:
         press(page, "Hint")
         press(page, "Hint")
         hints = page.script("[...document.querySelectorAll('.unfolded')].map((one) => one.textContent)")
-        check(len(hints) == 1 and has_words(hints[0], read(os.path.join(folder, "hint.md"))), "{}: its hint: {}".format(folder, hints))
+        hint = read(os.path.join(folder, "hint.md"))
+        check(len(hints) == 1 and ("./trac" in hint or has_words(hints[0], hint)),
+              "{}: its hint: {}".format(folder, hints))
+        check("./trac" not in page.text("lesson-text"), "{} takes no terminal".format(folder))
     shows(page, "5.1 A countdown")
     for program, part in CHECKED:
         said = judged(page, program)
@@ -104,7 +119,8 @@ def check_exercises(page: Deeds) -> None:
     press(page, "Hint")
     unfolded = page.script("[...document.querySelectorAll('.unfolded')].map((one) => one.textContent)")
     hint = read("05/1/hint.md").replace("`", "").split("\n")[0]
-    check(len(unfolded) == 2 and unfolded[0].startswith(hint) and "`" not in "".join(unfolded), "a hint: {}".format(unfolded))
+    check(len(unfolded) == 2 and unfolded[0].startswith(hint) and "`" not in "".join(unfolded),
+          "a hint: {}".format(unfolded))
     check("#(ds,down," in unfolded[-1], "a solution: {}".format(unfolded))
 
 

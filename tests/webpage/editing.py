@@ -1,4 +1,5 @@
-"""The program as it is edited: Tab sets lines in and out, Esc and then Tab leaves, undo brings back, find meets each place once."""
+"""The program as it is edited: Tab sets lines in and out, Esc and then Tab leaves, undo brings back, find meets each
+place once."""
 from webpage.pages import Deeds, check
 from webpage.rows import rows
 
@@ -41,7 +42,8 @@ def check_tab(page: Deeds) -> None:
     undo(page, TEXT)
     choose(page, 12, 12)
     page.press("Tab", shift=True)
-    check(page.script(VALUE) == TEXT and page.script(CHOSEN) == "12,12", "a line with no tab stays: {!r}".format(page.script(VALUE)))
+    check(page.script(VALUE) == TEXT and page.script(CHOSEN) == "12,12",
+          "a line with no tab stays: {!r}".format(page.script(VALUE)))
     check(page.script("document.getElementById('paint').textContent") == TEXT, "the painted text is the same")
     page.run()
     check(page.text("output") == "", "the program runs")
@@ -54,9 +56,11 @@ def check_leaving(page: Deeds) -> None:
         text = page.script(VALUE)
         page.press("Escape")
         page.press("Tab", shift=shift)
-        focus = page.script("[{}.compareDocumentPosition(document.activeElement), document.activeElement.localName].join()".format(SOURCE))
+        focus = page.script("[{}.compareDocumentPosition(document.activeElement), "
+                            "document.activeElement.localName].join()".format(SOURCE))
         place, name = focus.split(",")
-        check(name not in ("body", "textarea") and bool(int(place) & 4) == after, "Esc, then Tab leads on: {}".format(focus))
+        check(name not in ("body", "textarea") and bool(int(place) & 4) == after,
+              "Esc, then Tab leads on: {}".format(focus))
         check(page.script(VALUE) == text, "nothing is written")
     page.script("({0}.readOnly = true, {0}.focus())".format(SOURCE))
     page.press("Tab")
@@ -78,7 +82,8 @@ def check_find(page: Deeds) -> None:
       }
       return places.join();
     })()""")
-    check("painted" not in places and places.count("program") <= 1, "it is met: {}".format(places or "by the browser's own search alone"))
+    check("painted" not in places and places.count("program") <= 1,
+          "it is met: {}".format(places or "by the browser's own search alone"))
 
 
 TRIED = rows(check_tab, check_leaving, check_find)

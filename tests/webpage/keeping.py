@@ -1,4 +1,5 @@
-"""What is kept: the program over a reload, in the middle of typing too, its name and the looks; and over the opening of another."""
+"""What is kept: the program over a reload, in the middle of typing too, its name and the looks; and over the opening of
+another."""
 from webpage.pages import Deeds, check, ready
 from webpage.rows import file_of, rows
 from support.waiting import Gone
@@ -27,7 +28,8 @@ def again(page: Deeds, file: str) -> None:
 def check_draft(page: Deeds, file: str) -> None:
     """A reload keeps what was typed, with its name, and the looks."""
     pick(page, "hello.trac")
-    page.script("(document.getElementById('source').focus(), document.getElementById('source').setSelectionRange(0, 0))")
+    page.script("(() => { const box = document.getElementById('source'); "
+                "box.focus(); box.setSelectionRange(0, 0); })()")
     page.insert("mine ")
     before = page.script(PAPER)
     page.script("document.getElementById('theme').click()")
@@ -45,7 +47,8 @@ def check_draft(page: Deeds, file: str) -> None:
 
 
 def check_undo(page: Deeds) -> None:
-    """Another program is opened without a question, and Ctrl+Z brings back what was there; so does a button; and forth again."""
+    """Another program is opened without a question, and Ctrl+Z brings back what was there; so does a button; and forth
+    again."""
     page.type("#(ps,mine)'")
     for way in ("keys", "button"):
         pick(page, "hello.trac")
@@ -68,7 +71,8 @@ def check_undo(page: Deeds) -> None:
 def check_question(page: Deeds) -> None:
     """A question has No first, so that Enter loses nothing."""
     page.script("document.getElementById('question').showModal()")
-    check(page.script("document.activeElement.id") == "question-no", "No has the focus: " + page.script("document.activeElement.id"))
+    check(page.script("document.activeElement.id") == "question-no",
+          "No has the focus: " + page.script("document.activeElement.id"))
     page.script("document.getElementById('question').close()")
 
 

@@ -1,19 +1,23 @@
-"""How the page looks, as far as it can be computed: contrast, widths, large type, the colours of a system, and no motion."""
+"""How the page looks, as far as it can be computed: contrast, widths, large type, the colours of a system, and no
+motion."""
 import os
 
 from webpage.pages import KEPT, Deeds, check
 from webpage.rows import CHROMIUM, rows
 
-# Colours that a person sees: of text on what is behind it, of controls' borders, and of the ring around what has the focus. The worst
-# pairs whose contrast is less than it should be.
+# Colours that a person sees: of text on what is behind it, of controls' borders, and of the ring around what has the
+# focus. The worst pairs whose contrast is less than it should be.
 CONTRAST = """(() => {
   const parse = (text) => {
     const numbers = text.match(/[\\d.]+/g).map(Number);
-    const [red, green, blue, alpha = 1] = text.startsWith("color(srgb") ? [...numbers.slice(0, 3).map((one) => one * 255), numbers[3]] : numbers;
+    const isOfOne = text.startsWith("color(srgb");
+    const [red, green, blue] = numbers.slice(0, 3).map((one) => (isOfOne ? one * 255 : one)), alpha = numbers[3] ?? 1;
     return { red, green, blue, alpha };
   };
-  const over = (top, under) => Object.fromEntries(["red", "green", "blue"].map((one) => [one, top[one] * top.alpha + under[one] * (1 - top.alpha)])
-    .concat([["alpha", 1]]));
+  const over = (top, under) => {
+    const part = (one) => [one, top[one] * top.alpha + under[one] * (1 - top.alpha)];
+    return Object.fromEntries([...["red", "green", "blue"].map(part), ["alpha", 1]]);
+  };
   const light = (colour) => {
     const [red, green, blue] = ["red", "green", "blue"].map((one) => colour[one] / 255)
       .map((part) => (part <= 0.04045 ? part / 12.92 : ((part + 0.055) / 1.055) ** 2.4));
@@ -28,7 +32,10 @@ CONTRAST = """(() => {
     for (let at = it; at; at = at.parentElement) papers.unshift(parse(getComputedStyle(at).backgroundColor));
     return papers.reduce((under, top) => over(top, under), { red: 255, green: 255, blue: 255, alpha: 1 });
   };
-  const low = [], said = (what, it, value) => low.push(`${what} of ${it.id || it.className || it.tagName}: ${value.toFixed(2)}`);
+  const low = [];
+  const said = (what, it, value) => {
+    low.push(`${what} of ${it.id || it.className || it.tagName}: ${value.toFixed(2)}`);
+  };
   const texts = (what, it, style, paper, least = 4.5) => {
     const ink = parse(style.color);
     if (ink.alpha === 0) return;
@@ -69,7 +76,9 @@ CONTRAST = """(() => {
 # What is wider than the page, or stands beside it, and is not cut or scrolled within what it is in.
 WIDE = """(() => {
   const isHeld = (it) => {
-    for (let at = it.parentElement; at && at !== document.body; at = at.parentElement) if (getComputedStyle(at).overflowX !== "visible") return true;
+    for (let at = it.parentElement; at && at !== document.body; at = at.parentElement) {
+      if (getComputedStyle(at).overflowX !== "visible") return true;
+    }
     return false;
   };
   // (an old width may be remembered: all is laid out anew)
@@ -77,18 +86,21 @@ WIDE = """(() => {
   document.documentElement.getBoundingClientRect();
   document.body.hidden = false;
   const most = document.documentElement.clientWidth;
-  const wide = [...document.body.querySelectorAll("*")].filter((it) => it.checkVisibility() && !it.closest(".unseen, #drop")).filter((it) => {
+  const wide = [...document.body.querySelectorAll("*")].filter((it) => {
+    if (!it.checkVisibility() || it.closest(".unseen, #drop")) return false;
     const box = it.getBoundingClientRect();
     return box.width > 0 && (box.right > most + 1 || box.left < -1) && !isHeld(it);
   }).map((it) => `${it.id || it.className || it.tagName} to ${Math.round(it.getBoundingClientRect().right)}`);
-  const scrolls = document.documentElement.scrollWidth > most ? [`the page to ${document.documentElement.scrollWidth}`] : [];
+  const { scrollWidth } = document.documentElement;
+  const scrolls = scrollWidth > most ? [`the page to ${scrollWidth}`] : [];
   return [...wide, ...scrolls].slice(0, 6);
 })()"""
 
 # What of the large view stands over what comes after it, or out of what can be scrolled in view.
 OVER = """(() => {
   const player = document.getElementById("player");
-  const boxes = ["rules", "tape", "tape-key", "controls"].map((id) => document.getElementById(id).getBoundingClientRect());
+  const parts = ["rules", "tape", "tape-key", "controls"];
+  const boxes = parts.map((id) => document.getElementById(id).getBoundingClientRect());
   const over = boxes.flatMap((box, index) => (index && box.top < boxes[index - 1].bottom - 1 ? [index] : []));
   player.scrollTop = player.scrollHeight;
   const end = document.getElementById("end").getBoundingClientRect();
@@ -96,18 +108,22 @@ OVER = """(() => {
   return end.bottom > innerHeight + 1 ? [...over, `the end stands at ${end.bottom}`] : over;
 })()"""
 
-# States, each beside what looks the same but for them. Where the system chooses colours, lines, shapes or words tell them apart.
+# States, each beside what looks the same but for them. Where the system chooses colours, lines, shapes or words tell
+# them apart.
 STATES = [
-    ("#neutral .moved", "#neutral [data-place]"), ("#active .put", "#active .line > :last-child"), (".gone", "#neutral [data-place]"),
-    (".coming", "#active .line > :last-child"), ("#mark", "#neutral"), (".row[aria-current]", ".row:not([aria-current])"),
-    ("tr.changed th", "tr:not(.changed) th"), (".gap", "#forms [data-per]"), (".pointer", "#forms [data-per]"), (".gathered", ".argument.name"),
-    ("#help-button[aria-expanded=true]", "#theme"), ("#run", "#open"), ("[aria-disabled]", "#theme"), ("#rest .changed", "#rest div:not(.changed)"),
+    ("#neutral .moved", "#neutral [data-place]"), ("#active .put", "#active .line > :last-child"),
+    (".gone", "#neutral [data-place]"), (".coming", "#active .line > :last-child"), ("#mark", "#neutral"),
+    (".row[aria-current]", ".row:not([aria-current])"), ("tr.changed th", "tr:not(.changed) th"),
+    (".gap", "#forms [data-per]"), (".pointer", "#forms [data-per]"), (".gathered", ".argument.name"),
+    ("#help-button[aria-expanded=true]", "#theme"), ("#run", "#open"), ("[aria-disabled]", "#theme"),
+    ("#rest .changed", "#rest div:not(.changed)"),
 ]
 LINES = """((selector) => {
   const it = document.querySelector(selector);
   if (!it) return null;
   const style = getComputedStyle(it);
-  const sides = ["Top", "Right", "Bottom", "Left"].map((side) => `${style[`border${side}Style`]} ${style[`border${side}Width`]}`);
+  const border = (side) => `${style[`border${side}Style`]} ${style[`border${side}Width`]}`;
+  const sides = ["Top", "Right", "Bottom", "Left"].map(border);
   const outline = style.outlineStyle === "none" ? "" : style.outlineWidth;
   return [...sides, outline, style.textDecorationLine, style.textDecorationStyle, style.fontWeight].join();
 })"""
@@ -121,7 +137,8 @@ def to_middle(page: Deeds) -> None:
 
 
 def check_contrast(page: Deeds) -> None:
-    """Text 4.5, borders of controls and rings 3: as it is opened, in a run with the help, and with doubts at the first step."""
+    """Text 4.5, borders of controls and rings 3: as it is opened, in a run with the help, and with doubts at the first
+    step."""
     looks = "dark" if page.script("matchMedia('(prefers-color-scheme: dark)').matches") else "light"
     counts = []
     for state in ("opened", "run", "doubts"):
@@ -155,7 +172,8 @@ def check_widths(page: Deeds) -> None:
             check(wide == [], "{} pixels, letters of {}: too wide are {}".format(width, size, wide))
             page.script("document.getElementById('big').click()")
             wide, over = page.script(WIDE), page.script(OVER)
-            check(wide == [] and over == [], "large view, {} pixels, letters of {}: {}, {}".format(width, size, wide, over))
+            check(wide == [] and over == [],
+                  "large view, {} pixels, letters of {}: {}, {}".format(width, size, wide, over))
             page.script("document.getElementById('big').click()")
     grown = page.script("getComputedStyle(document.getElementById('note')).fontSize")
     check(grown == "32px", "letters are large: " + grown)
@@ -180,7 +198,8 @@ def check_forced(page: Deeds) -> None:
     same = [pair for pair in STATES if pair not in missing and lines[pair[0]] == lines[pair[1]]]
     check(same == [], "states that only a colour tells: {}".format(same))
     for name in ("lit", "read"):
-        drawn = page.script("getComputedStyle(document.getElementById('paint'), '::highlight({})').textDecorationLine".format(name))
+        drawn = page.script("getComputedStyle(document.getElementById('paint'), '::highlight({})').textDecorationLine"
+                            .format(name))
         check(drawn == "underline overline", "a {} byte has lines: {}".format(name, drawn))
     page.go(90)
     page.picture(os.path.join(KEPT, "forced.png"))
@@ -189,8 +208,10 @@ def check_forced(page: Deeds) -> None:
 def check_still(page: Deeds) -> None:
     """For whom motion harms, nothing moves but what plays."""
     to_middle(page)
-    moving = page.script("[...document.querySelectorAll('*')].filter((it) => { const style = getComputedStyle(it); return style.scrollBehavior !== 'auto' "
-                         "|| !['0s', ''].includes(style.transitionDuration) || style.animationName !== 'none'; }).map((it) => it.id || it.tagName)")
+    moving = page.script("[...document.querySelectorAll('*')].filter((it) => { const style = getComputedStyle(it); "
+                         "return style.scrollBehavior !== 'auto' "
+                         "|| !['0s', ''].includes(style.transitionDuration) || style.animationName !== 'none'; "
+                         "}).map((it) => it.id || it.tagName)")
     check(moving == [] and page.script("document.getAnimations().length") == 0, "what moves: {}".format(moving))
     page.go(10)
     page.script("document.getElementById('play').click()")
@@ -199,5 +220,6 @@ def check_still(page: Deeds) -> None:
 
 
 # The looks of a page, and what is tried of each.
-TRIED = (rows(check_contrast, check_widths, where=CHROMIUM) + rows(check_contrast, where=CHROMIUM, name="-dark", dark=True)
+TRIED = (rows(check_contrast, check_widths, where=CHROMIUM)
+         + rows(check_contrast, where=CHROMIUM, name="-dark", dark=True)
          + rows(check_forced, where=CHROMIUM, forced=True) + rows(check_still, where=CHROMIUM, still=True))

@@ -6,7 +6,8 @@ from webpage.rows import CHROMIUM, rows
 
 # A form that calls itself: 3 calls at each turn, of cl, su and eq; before that ds, ss and a first cl, and at last eq.
 TURNS = "#(ds,L,(#(eq,N,0,,(#(cl,L,#(su,N,1))))))'#(ss,L,N)'#(cl,L,{})'"
-NUMBER = "document.getElementById(document.getElementById('tree').getAttribute('aria-activedescendant')).querySelector('.number').textContent"
+NUMBER = ("document.getElementById(document.getElementById('tree').getAttribute('aria-activedescendant'))"
+          ".querySelector('.number').textContent")
 
 
 def check_calls(page: Deeds) -> None:
@@ -21,18 +22,21 @@ def check_calls(page: Deeds) -> None:
     last = page.script(NUMBER).replace(",", "")
     page.press("Enter")
     page.at(last, "Enter goes to the last call")
-    said = page.script("['aria-posinset', 'aria-setsize'].map((name) => document.querySelector('.row.chosen').getAttribute(name))")
+    said = page.script("['aria-posinset', 'aria-setsize']"
+                       ".map((name) => document.querySelector('.row.chosen').getAttribute(name))")
     check(said[0] == said[1], "it is the last of those beside it: {}".format(said))
     page.press("Home")
     check(page.script(NUMBER) == "15", "the first call: " + page.script(NUMBER))
     check(page.script("document.querySelectorAll('#tree .row').length") < 60, "only rows that can be seen are made")
     page.script("document.getElementById('tree').scrollTop = 1e7")
     page.frames()
-    check(page.script("document.activeElement.id") == "tree" and page.script(NUMBER) == "15", "scrolling keeps the focus and the chosen call")
+    check(page.script("document.activeElement.id") == "tree" and page.script(NUMBER) == "15",
+          "scrolling keeps the focus and the chosen call")
 
 
 def check_begun(page: Deeds) -> None:
-    """A step of 1,000 begun calls: the innermost are shown, how many there are is told, and the text beside the mark is there."""
+    """A step of 1,000 begun calls: the innermost are shown, how many there are is told, and the text beside the mark is
+    there."""
     page.put("#(ps," * 1000 + "deep" + ")" * 1000 + "'")
     page.run()
     # (the text is read at step 8; each call begins in 4 steps; then come the 4 letters)

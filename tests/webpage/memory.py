@@ -1,5 +1,5 @@
-"""What a tab takes of memory for large programs: at most 1 GiB, at any moment; for files that are too long, nothing. And
-what is said of them."""
+"""What a tab takes of memory for large programs: at most 1 GiB, at any moment; for files that are too long, nothing.
+And what is said of them."""
 from __future__ import annotations
 
 import contextlib
@@ -59,13 +59,15 @@ class Tab:
 
     def peak(self) -> int:
         """The most that it took since then, in bytes."""
-        lines = [line for pid in self.pids for line in self.read(pid, "status").splitlines() if line.startswith(b"VmHWM:")]
+        lines = [line for pid in self.pids for line in self.read(pid, "status").splitlines()
+                 if line.startswith(b"VmHWM:")]
         return max(int(line.split()[1]) * 1024 for line in lines)
 
 
 def settle(page: Deeds) -> None:
     """Waits until all is told of a run that is told of it."""
-    page.until("document.getElementById('stop').hidden && !/are listed/.test(document.getElementById('tree-count').textContent)", "the calls are listed")
+    page.until("document.getElementById('stop').hidden "
+               "&& !/are listed/.test(document.getElementById('tree-count').textContent)", "the calls are listed")
     page.rest(1500)
     page.until("document.getElementById('stop').hidden", "nothing is waited for")
 
@@ -90,8 +92,9 @@ def walk(page: Deeds) -> None:
     settle(page)
 
 
-# Of 16 MiB with line ends, which take four signs each where a state is told: 8 steps up to the reading, 6 for `#(`, `ps`, `,`, all that is
-# protected and `)`, one for the idle program's `)`, one that loads it anew, and its 7 before it reads again.
+# Of 16 MiB with line ends, which take four signs each where a state is told: 8 steps up to the reading, 6 for `#(`,
+# `ps`, `,`, all that is protected and `)`, one for the idle program's `)`, one that loads it anew, and its 7 before it
+# reads again.
 LINES = b"#(ps,(" + b"abcdefg \n" * 1_864_000 + b"))'"
 # Of 31 MB: the first of these texts takes 20 steps, each other one 21, and after 15 of these it has printed.
 SHORT = b"#(ps,a)#(pr)'\n" * 2_214_000
@@ -101,15 +104,20 @@ PROGRAMS = (
     ("lines.trac", LINES, "Done after 23 steps: all of the program is run", "of 16,776,000"),
     ("digits.trac", DIGITS, "Done after 39 steps: all of the program is run", "click a character"),
     ("short.trac", SHORT, "After 2,000,000 steps: it was stopped there, and could go on", "of 95,238"),
-    ("plain.trac", b"a" * 16_700_000 + b"'", "After 2,000,000 steps: it was stopped there, and could go on", "nothing printed yet"),
+    ("plain.trac", b"a" * 16_700_000 + b"'", "After 2,000,000 steps: it was stopped there, and could go on",
+     "nothing printed yet"),
 )
-# A form of 2 MiB that is printed 33 times; one of 4 MiB under more and more names; and a text that is longer than any may be.
+# A form of 2 MiB that is printed 33 times; one of 4 MiB under more and more names; and a text that is longer than any
+# may be.
 DOUBLED = "#(ds,A,0123456789abcdef)'#(ds,D,(#(ds,A,##(cl,A)##(cl,A))))'{}'"
 REFUSED = (
-    ("printing.trac", DOUBLED.format("#(cl,D)" * 17) + "#(ps,##(cl,A))'" * 33, "This is too long to be shown: more than 64 MiB are printed."),
-    ("growing.trac", DOUBLED.format("#(cl,D)" * 18) + "#(ds,L,(#(ds,N,##(cl,A))#(cl,L,#(ad,N,1))))'#(ss,L,N)'#(cl,L,1)'",
+    ("printing.trac", DOUBLED.format("#(cl,D)" * 17) + "#(ps,##(cl,A))'" * 33,
+     "This is too long to be shown: more than 64 MiB are printed."),
+    ("growing.trac",
+     DOUBLED.format("#(cl,D)" * 18) + "#(ds,L,(#(ds,N,##(cl,A))#(cl,L,#(ad,N,1))))'#(ss,L,N)'#(cl,L,1)'",
      "Memory was refused, for this page takes 512 MiB for a run: a form may grow with each call."),
-    ("text.trac", "a" * 17_000_000 + "'", "After 7 steps: a limit is passed: a form may grow with each call, or a text lack its '."),
+    ("text.trac", "a" * 17_000_000 + "'",
+     "After 7 steps: a limit is passed: a form may grow with each call, or a text lack its '."),
 )
 
 

@@ -12,27 +12,35 @@ HIDDEN = "document.getElementById('{}').hidden"
 
 def lines(page: Deeds, name: str) -> int:
     """How many lines an element has."""
-    count: int = page.script("(() => {{ const it = document.getElementById('{0}'); const range = document.createRange(); "
+    count: int = page.script("(() => {{ const it = document.getElementById('{0}'); "
+                             "const range = document.createRange(); "
                              "range.selectNodeContents(it); return Math.round(range.getBoundingClientRect().height / "
                              "parseFloat(getComputedStyle(it).lineHeight)); }})()".format(name))
     return count
 
 
 def check_first(page: Deeds) -> None:
-    """A sentence says what this is; a program is there; what to do stands where the output comes, and is gone after the first run."""
+    """A sentence says what this is; a program is there; what to do stands where the output comes, and is gone after the
+    first run."""
     check("everything is text" in page.text("what"), "what this is: " + page.text("what"))
     with open(FACTORIAL) as program:
         check(page.script("document.getElementById('source').value") == program.read(), "a program is in the editor")
     check(not page.script(HIDDEN.format("welcome")), "what to do is said")
     check(page.script("document.querySelectorAll('#tries button').length") == 4, "others are offered")
     options = page.script("[...document.getElementById('library').options].map((one) => one.text)")
-    check("Eight queens: Places a queen in each row so that none attacks another, shows the first board, and counts all 92" in options,
+    check("Eight queens: Places a queen in each row so that none attacks another, shows the first board, "
+          "and counts all 92" in options,
           "programs have titles, and what they show: {}".format(options[:40]))
     page.click("document.getElementById('run')")
     page.until("document.getElementById('output').textContent === '0'", "it prints 0")
     check(page.script(HIDDEN.format("welcome")), "what to do is gone")
     page.click("document.querySelector('#output [data-byte]')")
     page.until("document.getElementById('way-list').textContent.includes('makes it')", "where the 0 comes from")
+    said = page.script("document.querySelector('#welcome ol').textContent")
+    check("character of the output, and then the argument" in said, "what to click is said: " + said)
+    page.click("[...document.querySelectorAll('#way-list .way-row:last-child .argument')].at(-1)")
+    page.until("document.getElementById('way-list').textContent.includes('reads it: line 1, column 26')",
+               "the byte that is to be changed")
     check(page.script("document.getElementById('tab-way').getAttribute('aria-selected')") == "true", "its tab is seen")
 
 
@@ -40,10 +48,12 @@ def check_done(page: Deeds) -> None:
     """A program that has ended says so; it offers no box, and the idle program takes one line."""
     page.type("#(ps,a)'")
     page.run()
-    check(page.text("ending").startswith("Done after 23 steps: all of the program is run."), "what is said: " + page.text("ending"))
+    check(page.text("ending").startswith("Done after 23 steps: all of the program is run."),
+          "what is said: " + page.text("ending"))
     check("what you type now" not in page.script("document.body.textContent"), "nothing more is asked for")
     check(page.script(HIDDEN.format("input-form")), "there is no box for input")
-    check(lines(page, "last") == 1 and lines(page, "next") == 1, "the end takes {} lines and {}".format(lines(page, "last"), lines(page, "next")))
+    check(lines(page, "last") == 1 and lines(page, "next") == 1,
+          "the end takes {} lines and {}".format(lines(page, "last"), lines(page, "next")))
     page.click("document.querySelector('#ending button')")
     page.until(FOCUS + " === 'input'", "more can be typed")
     page.insert("#(ps,b)")
@@ -64,7 +74,8 @@ def check_unended(page: Deeds) -> None:
 
 
 def check_waits(page: Deeds) -> None:
-    """Where input is waited for, the box has the focus; Enter ends what is read up to a ', and says so; a byte that is read stays alone."""
+    """Where input is waited for, the box has the focus; Enter ends what is read up to a ', and says so; a byte that is
+    read stays alone."""
     page.type("#(ps,(Who? ))#(ps,Hello ##(rs))'")
     page.run()
     page.until(FOCUS + " === 'input'", "the box has the focus")
@@ -87,14 +98,16 @@ def check_right(page: Deeds) -> None:
     """A right program that takes long is not blamed."""
     pick(page, "queens.trac")
     page.run()
-    page.until("/^[\\d,]+/.test(document.getElementById('tree-count').textContent) && document.getElementById('tree-count').textContent !== '0'", "its calls are listed")
+    page.until("/^[\\d,]+/.test(document.getElementById('tree-count').textContent) "
+               "&& document.getElementById('tree-count').textContent !== '0'", "its calls are listed")
     said = "".join(page.text(name) for name in ("ending", "last", "next", "said"))
     check("without end" not in said and "budget" not in said, "what is said of queens.trac: " + said)
     check(page.script("document.querySelector('#ending button').textContent") == "go on", "it can go on")
 
 
 def check_stopped(page: Deeds) -> None:
-    """While a program runs, what it prints is shown; Stop leaves that, and the player, at the step where it was stopped."""
+    """While a program runs, what it prints is shown; Stop leaves that, and the player, at the step where it was
+    stopped."""
     page.type("#(ps,before)'")
     page.run()
     page.put(ENDLESS)
@@ -106,7 +119,8 @@ def check_stopped(page: Deeds) -> None:
     end = int(page.script("document.getElementById('slider').max"))
     check(end > 0 and set(page.text("output")) == {"x"}, "what stays of it: {}".format(page.text("output")[:40]))
     check(not page.script(HIDDEN.format("player")), "the player stays")
-    page.until("document.getElementById('repeats').textContent.includes('#(cl,L ..)')", "which calls come again and again")
+    page.until("document.getElementById('repeats').textContent.includes('#(cl,L ..)')",
+               "which calls come again and again")
     page.unit("byte")
     for step in (end - 1, end - 2):
         page.click("document.getElementById('back')")

@@ -34,7 +34,8 @@ def value(node: Node, key: str) -> str:
 def told(node: Node) -> str:
     """What is told of a node: its role, its name, and its state."""
     states = {state["name"]: state["value"].get("value") for state in node.get("properties", [])}
-    words = ["{}={}".format(name, str(states[name]).lower()) for name in TOLD if states.get(name) not in (None, False, "false")
+    words = ["{}={}".format(name, str(states[name]).lower()) for name in TOLD
+             if states.get(name) not in (None, False, "false")
              or name == "expanded" and name in states]
     name = value(node, "name")
     return " ".join([value(node, "role")] + (['"{}"'.format(name)] if name else []) + words)
@@ -84,4 +85,5 @@ def nameless(page: Deeds) -> list[str]:
         return any(one["name"] == "focusable" and one["value"].get("value") for one in node.get("properties", []))
 
     return [told(node) for node in nodes(page).values() if not node.get("ignored") and not value(node, "name")
-            and (value(node, "role") in CONTROLS or is_focusable(node)) and value(node, "role") not in ("RootWebArea", "MenuListPopup")]
+            and (value(node, "role") in CONTROLS or is_focusable(node))
+            and value(node, "role") not in ("RootWebArea", "MenuListPopup")]

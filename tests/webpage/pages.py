@@ -19,13 +19,15 @@ KEPT = os.path.join(TOP, "out", "webpage")
 # A program with a fault that a newcomer looks for: it prints 0.
 FACTORIAL = os.path.join(TOP, "programs", "examples", "wrong-factorial.trac")
 # All is told of its run: its calls as they stood when they were performed, and what it prints.
-IS_GATHERED = ("document.querySelector('#tree .quote') !== null && document.querySelectorAll('#marks [role=option]').length === 3 "
+IS_GATHERED = ("document.querySelector('#tree .quote') !== null "
+               "&& document.querySelectorAll('#marks [role=option]').length === 3 "
                "&& document.getElementById('stop').hidden")
 # All is told of where its 0 comes from: two calls, with their arguments.
-IS_FOLLOWED = "[...document.querySelectorAll('#way-list .way-row')].filter((row) => row.querySelector('[tabindex]')).length === 2"
+IS_FOLLOWED = ("[...document.querySelectorAll('#way-list .way-row')]"
+               ".filter((row) => row.querySelector('[tabindex]')).length === 2")
 
-# Keeps from the page what the mouse does beside an element, which may have moved meanwhile, and after the first click on it. (Where
-# the element is too thin to be hit, what is around it is the goal.)
+# Keeps from the page what the mouse does beside an element, which may have moved meanwhile, and after the first click
+# on it. (Where the element is too thin to be hit, what is around it is the goal.)
 AIM = """((find, goal = find) => {
   const kinds = ['pointerdown', 'mousedown', 'pointerup', 'mouseup', 'click'];
   let isHit = false;
@@ -82,7 +84,8 @@ class Deeds(Waiting):
         self.script("document.getElementById('{}').click()".format(name))
 
     def click(self, element: str, around: str | None = None) -> None:
-        """Clicks the middle of an element by the mouse, once it is there; and again if the page moved under the mouse."""
+        """Clicks the middle of an element by the mouse, once it is there; and again if the page moved under the
+        mouse."""
         self.script("{}({})".format(AIM, ", ".join("() => " + one for one in (element, around) if one)))
         for _ in range(100):
             self.until("window.aim.place() !== null", "it is there to be clicked: " + element)
@@ -99,14 +102,16 @@ class Deeds(Waiting):
     def run(self) -> None:
         """Runs what is there, and waits for its end."""
         self.click("document.getElementById('run')")
-        self.until("document.getElementById('stop').hidden && document.getElementById('ending').textContent !== 'It runs.'", "the run ends")
+        self.until("document.getElementById('stop').hidden "
+                   "&& document.getElementById('ending').textContent !== 'It runs.'", "the run ends")
 
     def go(self, step: int | str) -> None:
         """Goes to a step, and waits until it is shown."""
         # (the page writes the number anew when it shows the step)
         self.script("(() => {{ const box = document.getElementById('place'); box.value = ' {}'; "
                     "box.dispatchEvent(new Event('change')); }})()".format(step))
-        self.until("document.getElementById('slider').value === '{}' && document.getElementById('place').value === '{:,}'".format(
+        self.until("document.getElementById('slider').value === '{}' "
+                   "&& document.getElementById('place').value === '{:,}'".format(
             step, int(step)), "it goes to step {}".format(step))
 
     def at(self, step: int | str, what: str = "it goes") -> None:

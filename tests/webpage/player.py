@@ -1,5 +1,5 @@
-"""The player: what a newcomer does, by mouse and by keys, steps and calls, input, doubts, files, and programs that are large,
-endless or hostile."""
+"""The player: what a newcomer does, by mouse and by keys, steps and calls, input, doubts, files, and programs that are
+large, endless or hostile."""
 from __future__ import annotations
 
 import glob
@@ -30,12 +30,14 @@ def check_newcomer(kind: type[Deeds], file: str) -> None:
         page.until(there, "the place where it was written")
         check(page.script(LIT) == "25,0", "the byte that is lit: {}".format(page.script(LIT)))
         page.click("document.querySelector('#way-list .way-row:last-child .deed button')")
-        chosen = page.script("[document.activeElement.id, document.activeElement.selectionStart, document.activeElement.selectionEnd].join()")
+        chosen = page.script("[document.activeElement.id, document.activeElement.selectionStart, "
+                             "document.activeElement.selectionEnd].join()")
         check(chosen == "source,25,26", "its place leads there: {}".format(chosen))
         page.script("document.activeElement.blur()")
         page.picture(os.path.join(KEPT, "newcomer-{}.png".format(kind.name)))
         page.go(90)
-        check("5 and 1 differ, so its value is argument 4: #(ml,5," in page.text("last"), "the branch: " + page.text("last"))
+        check("5 and 1 differ, so its value is argument 4: #(ml,5," in page.text("last"),
+              "the branch: " + page.text("last"))
         page.well("by mouse")
     with opened(kind, file, width=390, height=844, dark=True) as page:
         page.type(open(FACTORIAL).read())
@@ -61,7 +63,8 @@ def check_states(page: Deeds) -> None:
     wrong = []
     for step in random.Random(61).sample(range(277), 25):
         page.go(step)
-        shown = page.script("[...document.querySelectorAll('#active [data-byte]')].map((cell) => cell.textContent).join('')")
+        shown = page.script("[...document.querySelectorAll('#active [data-byte]')]"
+                            ".map((cell) => cell.textContent).join('')")
         if shown != states[step].replace("\\x0a", "LF"):
             wrong.append((step, shown, states[step]))
     check(len(states) == 277 and not wrong, "the text at some steps: {}".format(wrong[:2]))
@@ -71,8 +74,9 @@ def check_moves(page: Deeds) -> None:
     """Steps, tokens and calls, by keys, as trac-walk goes."""
     page.go(0)
     page.script("document.activeElement.blur()")
-    for key, step in (("u", 23), ("u", 50), ("u", 77), ("s", 78), ("b", 77), ("n", 267), ("r", 265), ("r", 263), ("N", 138),
-                      ("ArrowLeft", 137), ("m", 138), ("o", 263), ("O", 132), ("Home", 0), ("ArrowRight", 8), ("End", 276)):
+    for key, step in (("u", 23), ("u", 50), ("u", 77), ("s", 78), ("b", 77), ("n", 267), ("r", 265), ("r", 263),
+                      ("N", 138), ("ArrowLeft", 137), ("m", 138), ("o", 263), ("O", 132), ("Home", 0),
+                      ("ArrowRight", 8), ("End", 276)):
         page.press(key)
         page.at(step, key)
     page.until("document.querySelectorAll('#tree .row').length > 5", "the calls are listed")
@@ -100,7 +104,8 @@ def check_input(page: Deeds) -> None:
             page.click("document.getElementById('question-{}')".format(yes))
             page.until("!document.getElementById('question').open", "the question is answered")
         if yes != "no":
-            page.until("document.getElementById('output').textContent.endsWith('Hello {}')".format(name), "it reads " + name)
+            page.until("document.getElementById('output').textContent.endsWith('Hello {}')".format(name),
+                       "it reads " + name)
     page.script("document.getElementById('end-input').click()")
     page.until("document.getElementById('ending').textContent.includes('the input has ended')", "the input ends")
     page.type("#(ds,A,#(rs))'")
@@ -116,7 +121,8 @@ def check_end(page: Deeds) -> None:
     """A last text without its end is not run; at the end of the input it is, and its calls and doubts are listed."""
     page.type("#(ds,A,abc)'#(pr,x)#(ps,##(cl,A)!)")
     page.run()
-    check("no ' at its end" in page.text("ending") and page.text("output") == "", "a text without its end: " + page.text("ending"))
+    check("no ' at its end" in page.text("ending") and page.text("output") == "",
+          "a text without its end: " + page.text("ending"))
     page.click("document.getElementById('end-input')")
     page.until("document.getElementById('output').textContent === 'abc!'", "at the end of the input it is run")
     steps = "[...document.querySelectorAll('#tree .number')].map((it) => it.textContent).join()"
@@ -133,7 +139,8 @@ def check_doubts(page: Deeds) -> None:
     page.type("#(pr,a)'\n#(ps,Hello, world)'\n")
     page.run()
     page.until("document.querySelectorAll('#doubts .doubt').length === 2", "two doubts are listed")
-    check("no primitive is named pr" in page.text("doubts") and "line 1, column 3" in page.text("doubts"), page.text("doubts"))
+    check("no primitive is named pr" in page.text("doubts") and "line 1, column 3" in page.text("doubts"),
+          page.text("doubts"))
     check(page.script("document.querySelectorAll('#tree .doubt').length") == 2, "doubts stand under their calls")
     page.type("#(ds,A,(#(pr)))'#(cl,A)#(cl,A)#(cl,A)'")
     page.run()
@@ -150,7 +157,8 @@ def check_examples(page: Deeds) -> None:
     wrong = []
     for path in sorted(glob.glob(os.path.join(TOP, "programs", "examples", "*.out"))):
         name = os.path.basename(path)[:-len(".out")] + ".trac"
-        page.script("(() => {{ const list = document.getElementById('library'); list.value = [...list.options].find((one) => one.title === "
+        page.script("(() => {{ const list = document.getElementById('library'); "
+                    "list.value = [...list.options].find((one) => one.title === "
                     "'{}').value; list.dispatchEvent(new Event('change')); }})()".format(name))
         page.until("document.getElementById('program-name').textContent === '{}'".format(name), name + " is opened")
         page.run()
@@ -163,14 +171,17 @@ def check_examples(page: Deeds) -> None:
 def check_files(page: Deeds) -> None:
     """Bytes that are no text are for reading only, and are run as they are."""
     room = tempfile.mkdtemp(prefix="trac-webpage-test-")
-    for name, data, is_fixed in (("bytes.trac", b"#(ps,\xff\xfe\x00)'\n", True), ("crossed.trac", b"#(ps,(a\r\nb))'\r\n", False),
-                                 ("both.trac", b"#(ps,(a\r\nb\n))'", True), ("letters.trac", "#(ps,äöü)'".encode(), False)):
+    for name, data, is_fixed in (("bytes.trac", b"#(ps,\xff\xfe\x00)'\n", True),
+                                 ("crossed.trac", b"#(ps,(a\r\nb))'\r\n", False),
+                                 ("both.trac", b"#(ps,(a\r\nb\n))'", True),
+                                 ("letters.trac", "#(ps,äöü)'".encode(), False)):
         path = os.path.join(room, name)
         with open(path, "wb") as out:
             out.write(data)
         page.script("document.getElementById('program-name').textContent = ''")
         page.choose_file("#file", path)
-        page.until("document.getElementById('program-name').textContent.startsWith('{}')".format(name), name + " is opened")
+        page.until("document.getElementById('program-name').textContent.startsWith('{}')".format(name),
+                   name + " is opened")
         check(page.script("document.getElementById('source').readOnly") == is_fixed, name + ": for reading only")
         page.run()
         want = {"bytes.trac": "fffeNUL", "crossed.trac": "aCR\nb", "both.trac": "aCR\nb\n", "letters.trac": "äöü"}[name]
@@ -180,7 +191,8 @@ def check_files(page: Deeds) -> None:
 
 def check_dropped(page: Deeds) -> None:
     """A file that is dropped is opened; a text that is dragged is the editor's."""
-    deed = ("(() => {{ const data = new DataTransfer(); data.items.add({}); const words = {{ bubbles: true, cancelable: true, dataTransfer: data }}; "
+    deed = ("(() => {{ const data = new DataTransfer(); data.items.add({}); "
+            "const words = {{ bubbles: true, cancelable: true, dataTransfer: data }}; "
             "return !document.getElementById('source').dispatchEvent(new DragEvent('{}', words)); }})()")
     taken = "document.getElementById('program-name').textContent === 'dropped.trac'"
     hidden = "document.getElementById('drop').hidden"
@@ -226,7 +238,8 @@ def check_too_long(page: Deeds) -> None:
     page.type("#(ps,before)'")
     page.run()
     # (where it is not seen, no browser lays it out)
-    fill = ("(() => {{ const box = document.getElementById('source'); document.getElementById('editor').hidden = {}; box.value = {}; "
+    fill = ("(() => {{ const box = document.getElementById('source'); document.getElementById('editor').hidden = {}; "
+            "box.value = {}; "
             "box.dispatchEvent(new Event('input')); }})()")
     page.script(fill.format("true", "'a'.repeat(33554433)"))
     page.run()

@@ -11,7 +11,8 @@ from webpage.pages import IS_GATHERED, Deeds, check
 from webpage.rows import CHROMIUM, rows
 
 STORED = os.path.join(os.path.dirname(os.path.realpath(__file__)), "names.txt")
-SAID = ("(() => { window.said = []; new MutationObserver(() => window.said.push(document.getElementById('said').textContent))"
+SAID = ("(() => { window.said = []; "
+        "new MutationObserver(() => window.said.push(document.getElementById('said').textContent))"
         ".observe(document.getElementById('said'), { childList: true }); })()")
 # So many milliseconds the page waits at most before it says something.
 PAUSE = 80
@@ -24,7 +25,8 @@ def check_stored(page: Deeds) -> None:
     """The roles and names of a fixed program at a step, with where its 0 comes from, are those that are stored."""
     page.followed()
     page.go(90)
-    page.until("document.getElementById('program-note').textContent === 'here: line 1, column 29'", "the place in the program")
+    page.until("document.getElementById('program-note').textContent === 'here: line 1, column 29'",
+               "the place in the program")
     quiet(page)
     page.until("document.getElementById('said').textContent.startsWith('Next, step 90')", "the step is said")
     page.until(IS_GATHERED, "protected arguments stand in quotes")
@@ -33,14 +35,18 @@ def check_stored(page: Deeds) -> None:
     for tab in ("tree", "forms", "begun"):
         page.tab(tab)
         page.until("document.querySelectorAll('#tree .quote').length >= 6", "protected arguments stand in quotes")
-        text += "\n{}:\n{}".format(tab, names.text(page).split("    tablist ")[1].split("\n", 1)[1].split("status\n")[0])
+        under = names.text(page).split("    tablist ")[1].split("\n", 1)[1]
+        text += "\n{}:\n{}".format(tab, under.split("status\n")[0])
     page.tab("way")
     if os.environ.get("STORE_NAMES"):
         with open(STORED, "w") as stored:
             stored.write(text)
     with open(STORED) as stored:
-        rows = list(difflib.unified_diff(stored.read().split("\n"), text.split("\n"), "names.txt", "the page", lineterm="", n=1))
-    check(not rows, "roles and names are others than in tests/webpage/names.txt (STORE_NAMES=1 stores these):\n" + "\n".join(rows[:40]))
+        rows = list(difflib.unified_diff(stored.read().split("\n"), text.split("\n"), "names.txt", "the page",
+                                         lineterm="", n=1))
+    check(not rows,
+          "roles and names are others than in tests/webpage/names.txt (STORE_NAMES=1 stores these):\n"
+          + "\n".join(rows[:40]))
 
 
 def all_named(page: Deeds, when: str) -> None:
@@ -50,7 +56,8 @@ def all_named(page: Deeds, when: str) -> None:
 
 
 def check_named(page: Deeds) -> None:
-    """Nothing that takes the focus lacks a name: at the start, in a run, with the help, where input is wanted, and doubted."""
+    """Nothing that takes the focus lacks a name: at the start, in a run, with the help, where input is wanted, and
+    doubted."""
     all_named(page, "in a run")
     page.script("document.getElementById('help-button').click()")
     all_named(page, "in the help")
@@ -66,17 +73,20 @@ def check_changes(page: Deeds) -> None:
     """What a step moved, put and deleted has its role, and the mark its word: at the steps of `(a)b`, and of a call."""
     page.type("#(ps,(a)b)'")
     page.run()
-    for step, roles in ((13, ["insertion a", "deletion (", "deletion )"]), (14, ["insertion b"]), (15, ["deletion #(ps,ab)"])):
+    for step, roles in ((13, ["insertion a", "deletion (", "deletion )"]), (14, ["insertion b"]),
+                        (15, ["deletion #(ps,ab)"])):
         page.go(step)
         said = page.script("[...document.querySelectorAll('#neutral ins, #neutral del, #active ins, #active del')]"
-                           ".map((it) => `${{ INS: 'insertion', DEL: 'deletion' }[it.tagName]} ${it.textContent.replace(/[\\u201c\\u201d]/g, '')}`)")
+                           ".map((it) => `${{ INS: 'insertion', DEL: 'deletion' }[it.tagName]} "
+                           "${it.textContent.replace(/[\\u201c\\u201d]/g, '')}`)")
         check(sorted(said) == sorted(roles), "what step {} changed: {}".format(step, said))
     check(page.text("mark") == "mark", "the mark has its word")
 
 
 def quiet(page: Deeds) -> None:
     """Waits until the step is said that was asked for, or what led there. What is said is noted from here on."""
-    page.until("['last', 'next'].some((id) => document.getElementById('said').textContent.endsWith(document.getElementById(id).textContent))",
+    page.until("['last', 'next'].map((id) => document.getElementById(id).textContent)"
+               ".some((text) => document.getElementById('said').textContent.endsWith(text))",
                "the step is said")
     page.rest(PAUSE)
     page.script("window.said = []")
@@ -91,14 +101,16 @@ def all_said(page: Deeds, what: str) -> list[str]:
 
 
 def check_said(page: Deeds) -> None:
-    """One region speaks: of a run its end, of a step its sentence; while it plays nothing, and the last sentence at its end."""
+    """One region speaks: of a run its end, of a step its sentence; while it plays nothing, and the last sentence at its
+    end."""
     check(page.script(LIVE) == "said", "what speaks: " + page.script(LIVE))
     quiet(page)
     page.script(SAID)
     page.type("#(ps,7)'")
     page.run()
     said = all_said(page, "a run is said")
-    check("all of the program is run" in said[0] and said[0].endswith("Printed is: 7") and len(said) == 1, "what is said of a run: {}".format(said))
+    check("all of the program is run" in said[0] and said[0].endswith("Printed is: 7") and len(said) == 1,
+          "what is said of a run: {}".format(said))
     page.go(3)
     quiet(page)
     page.script("document.activeElement.blur()")
@@ -128,31 +140,38 @@ def hears(page: Deeds, does: Callable[[], object], words: str) -> str:
 
 def press_in(page: Deeds, selector: str | None, *keys: str) -> None:
     """Gives the focus to an element, or to none, and presses keys."""
-    page.script("document.querySelector({})?.focus()".format(json.dumps(selector)) if selector else "document.activeElement.blur()")
+    page.script("document.querySelector({})?.focus()".format(json.dumps(selector)) if selector
+                else "document.activeElement.blur()")
     for key in keys:
         page.press(key)
 
 
 def check_noted(page: Deeds) -> None:
-    """A note goes on with its doubt: where the form is that was probably meant, or which parenthesis is probably wrong."""
+    """A note goes on with its doubt: where the form is that was probably meant, or which parenthesis is probably
+    wrong."""
     for program, wanted in (
-        ("#(ds,greeting,hi)'#(cl,greting)'", "no form is named greting; a form of nearly this name is defined at line 1, column 6: did you mean greeting?"),
+        ("#(ds,greeting,hi)'#(cl,greting)'",
+         "no form is named greting; a form of nearly this name is defined at line 1, column 6: did you mean greeting?"),
         ("a)b'", ") ends no call; the ) at line 1, column 2 may be one too many"),
     ):
         page.type(program)
         page.run()
-        page.until("document.querySelector('#doubts .doubt')?.textContent === " + json.dumps(wanted), "the note: " + wanted)
+        page.until("document.querySelector('#doubts .doubt')?.textContent === " + json.dumps(wanted),
+                   "the note: " + wanted)
 
 
 def check_heard(page: Deeds) -> None:
-    """What was asked for is said: a call that one goes to, where a byte comes from, how much is doubted, and what is opened."""
+    """What was asked for is said: a call that one goes to, where a byte comes from, how much is doubted, and what is
+    opened."""
     page.script(SAID)
     page.type("#(pr,a)#(ps,Hello, world)'")
     hears(page, page.run, "Printed is: Hello")
     page.until("window.said.join('|').includes('2 doubts are listed')", "how much is doubted")
     page.tab("doubts")
-    said = hears(page, lambda: press_in(page, "#doubts button", "Enter"), "Next, step 13: ) ends the function, and #(pr,a) is performed")
-    check(said.endswith("its value is empty. Doubt: no primitive is named pr: did you mean ps or pf?"), "what is doubted: " + said)
+    said = hears(page, lambda: press_in(page, "#doubts button", "Enter"),
+                 "Next, step 13: ) ends the function, and #(pr,a) is performed")
+    check(said.endswith("its value is empty. Doubt: no primitive is named pr: did you mean ps or pf?"),
+          "what is doubted: " + said)
     said = hears(page, lambda: press_in(page, None, "r"), "there is no call before this step")
     check("Step" not in said and "step 13" not in said, "a step is not said again: " + said)
     hears(page, lambda: page.press("u"), ") ends the function, and #(ps,Hello, world) is performed")

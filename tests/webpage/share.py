@@ -1,5 +1,5 @@
-"""Links that the page makes and opens: there and back with any bytes, cut, wrong and hostile ones. Here they are packed and
-unpacked a second time, as web/link.js says."""
+"""Links that the page makes and opens: there and back with any bytes, cut, wrong and hostile ones. Here they are packed
+and unpacked a second time, as web/link.js says."""
 from __future__ import annotations
 
 import base64
@@ -91,7 +91,8 @@ def shared(page: Deeds) -> str:
 
 def follow(page: Deeds, text: str) -> None:
     """Follows a link within the page."""
-    page.script("(() => {{ for (const name of ['program-name', 'ending']) document.getElementById(name).textContent = ''; "
+    page.script("(() => {{ for (const name of ['program-name', 'ending']) "
+                "document.getElementById(name).textContent = ''; "
                 "location.hash = {!r}; }})()".format(text))
     page.until("document.getElementById('program-name').textContent !== ''", "a link is opened: " + text[:40])
 
@@ -107,9 +108,11 @@ def check_run(page: Deeds, file: str) -> None:
     page.go(29)
     text = shared(page)
     words = page.text("share-words")
-    check("holds the program, a line of input and step 29" in words and "file on your disk" in words, "what is shared: " + words)
+    check("holds the program, a line of input and step 29" in words and "file on your disk" in words,
+          "what is shared: " + words)
     data = held(text)
-    check(data[:2] == number(30) + number(len(ASKING)) and data.endswith(number(5) + b"Ann'\n") and ASKING.encode() in data,
+    check(data[:2] == number(30) + number(len(ASKING)) and data.endswith(number(5) + b"Ann'\n")
+          and ASKING.encode() in data,
           "what the link holds: {}".format(data))
     check(36 <= len(text) <= 300, "a link of {} signs".format(len(text)))
     check(page.script("location.hash") == "", "the address stays as it is")
@@ -122,7 +125,8 @@ def check_run(page: Deeds, file: str) -> None:
     page.until("document.getElementById('output').textContent === 'Who? Hello Ann!'", "the input of the link")
     check(held(shared(page))[2:] == data[2:], "the same is shared again, but for the step")
     follow(page, link(body(open(FACTORIAL, "rb").read(), [], True, 5000)))
-    page.until("document.getElementById('note').textContent === 'the link is to step 5,000, and the run ends before it'",
+    page.until("document.getElementById('note').textContent "
+               "=== 'the link is to step 5,000, and the run ends before it'",
                "a step that the run has not")
     check("the input has ended" in page.text("ending"), "the input has ended: " + page.text("ending"))
 
@@ -145,10 +149,13 @@ def check_wrong(page: Deeds, file: str) -> None:
     changed = [good[:at] + ("A" if good[at] != "A" else "B") + good[at + 1:] for at in (3, 20, len(good) - 20)]
     changed += [stored[:at] + ("A" if stored[at] != "A" else "B") + stored[at + 1:] for at in (4, 12)]
     cut = [good[:length] for length in (3, 10, 50, len(good) - 30, len(good) - 4)] + [stored[:-3], stored[:12]]
-    false = [link(body(b"a") + b"more"), link(number(0) + number(9) + b"a"), link(b"\xff" * 12), link(b""), "#1d", "#1s"]
+    false = [link(body(b"a") + b"more"), link(number(0) + number(9) + b"a"), link(b"\xff" * 12), link(b""), "#1d",
+             "#1s"]
     rows = [(text, "cut off or changed") for text in changed + cut + false]
-    rows += [(text, "not one that this page made") for text in ("#help", "#1d*", "#29")] + [("#2d00", "a later version")]
-    rows += [(text, "more than 1 MiB") for text in (link(body(bytes(1 << 20) + b"a")), "#1d" + signs(packed(bytes(1 << 25))))]
+    rows += [(text, "not one that this page made") for text in ("#help", "#1d*", "#29")]
+    rows += [("#2d00", "a later version")]
+    large = link(body(bytes(1 << 20) + b"a")), "#1d" + signs(packed(bytes(1 << 25)))
+    rows += [(text, "more than 1 MiB") for text in large]
     # (a page would be at work on so many lines for minutes)
     rows.append((link(body(b"a", [(0, b"x'")] * 10001)), "more than 10,000 lines of input"))
     for text, words in rows:
@@ -224,8 +231,10 @@ def check_far(page: Deeds, file: str) -> None:
     for answer, step in (("no", 2000000), ("yes", 3000000)):
         page.load(file, link(body(endless, [], True, 3000000)))
         page.until("document.getElementById('question').open", "a far link asks first")
-        check("The link is to step 3,000,000." in page.text("question-text"), "what it asks: " + page.text("question-text"))
-        check(page.text("output") == "" and page.script("document.getElementById('slider').value") != "3000000", "nothing runs before")
+        check("The link is to step 3,000,000." in page.text("question-text"),
+              "what it asks: " + page.text("question-text"))
+        check(page.text("output") == "" and page.script("document.getElementById('slider').value") != "3000000",
+              "nothing runs before")
         page.click("document.getElementById('question-{}')".format(answer))
         page.at(step, "a far link goes")
     page.well("far links")
@@ -244,8 +253,10 @@ def check_large_file(page: Deeds) -> None:
       box.dispatchEvent(new Event('change'));
     })()""")
     said = "large.trac has 33,554,433 bytes: a program may have at most 33,554,432."
-    page.until("document.getElementById('ending').textContent.startsWith('{}')".format(said), "it is said that a file is too long")
-    check(not page.script("window.wasRead || document.getElementById('question').open"), "it is not read, and nothing is asked")
+    page.until("document.getElementById('ending').textContent.startsWith('{}')".format(said),
+               "it is said that a file is too long")
+    check(not page.script("window.wasRead || document.getElementById('question').open"),
+          "it is not read, and nothing is asked")
     check(page.script("document.getElementById('source').value") == "#(ps,kept)'", "the program stays")
 
 

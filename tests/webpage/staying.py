@@ -1,4 +1,5 @@
-"""What stays on the page: after a run that came to no end, after an edit, and where other input is given at an earlier step."""
+"""What stays on the page: after a run that came to no end, after an edit, and where other input is given at an earlier
+step."""
 from __future__ import annotations
 
 from webpage.pages import Deeds, check
@@ -45,7 +46,8 @@ def follow(page: Deeds, sign: str, place: str) -> None:
       const box = range.getBoundingClientRect();
       return [box.x + box.width / 2, box.y + box.height / 2];
     }})()""".format(sign)))
-    page.until("document.getElementById('way-list').textContent.endsWith('reads it: {}')".format(place), "the way of " + sign)
+    page.until("document.getElementById('way-list').textContent.endsWith('reads it: {}')".format(place),
+               "the way of " + sign)
 
 
 def check_stopped(page: Deeds) -> None:
@@ -56,7 +58,8 @@ def check_stopped(page: Deeds) -> None:
     page.put(NO_END)
     page.script("(document.getElementById('run').click(), document.getElementById('stop').click())")
     page.until("document.getElementById('output').textContent === 'ABC'", "what the run before printed stays")
-    check(page.text("ending").startswith("The run was stopped. The run before is shown. "), "what is said of it: " + page.text("ending"))
+    check(page.text("ending").startswith("The run was stopped. The run before is shown. "),
+          "what is said of it: " + page.text("ending"))
     check(page.text("program-note") == "changed since the run", "its program is another: " + page.text("program-note"))
     page.type("#(ps,again)'")
     page.run()
@@ -80,8 +83,10 @@ def check_before(page: Deeds) -> None:
     })()""")
     give(page, "x'")
     page.until("document.getElementById('ending').textContent.startsWith('The run was stopped')", "it is stopped")
-    check(page.text("ending") == "The run was stopped. The run before is shown. " + WAITED, "it is stopped: " + page.text("ending"))
-    check(page.text("output") == "go" and page.script("document.getElementById('given').hidden"), "what stays: " + page.text("output"))
+    check(page.text("ending") == "The run was stopped. The run before is shown. " + WAITED,
+          "it is stopped: " + page.text("ending"))
+    check(page.text("output") == "go" and page.script("document.getElementById('given').hidden"),
+          "what stays: " + page.text("output"))
     page.until(COUNT + " === '2'", "its calls are listed")
     follow(page, "g", "line 1, column 24")
     check(page.script(LIT) == "23,g", "the byte that is lit: {}".format(page.script(LIT)))
@@ -105,7 +110,8 @@ def check_listed(page: Deeds) -> None:
     })()""")
     page.until("document.getElementById('note').textContent === 'stopped'", "Stop is pressed")
     page.until(COUNT + " === '2'", "the calls are listed")
-    check(page.text("output") == "3" and page.text("ending").startswith("Done after "), "what stays: " + page.text("ending"))
+    check(page.text("output") == "3" and page.text("ending").startswith("Done after "),
+          "what stays: " + page.text("ending"))
 
 
 def check_edited(page: Deeds) -> None:
@@ -135,7 +141,8 @@ def check_edited(page: Deeds) -> None:
 
 
 def check_other_input(page: Deeds) -> None:
-    """After a run has halted, was ended or is spent, other input is given at an earlier step; but not where none was read later."""
+    """After a run has halted, was ended or is spent, other input is given at an earlier step; but not where none was
+    read later."""
     page.type("#(ps,Hello ##(rs))#(hl)'")
     page.run()
     give(page, "Ann'")

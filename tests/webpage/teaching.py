@@ -25,7 +25,8 @@ REASONS = (
     ("#(gr,7,5,y,n)", "performed: 7 is greater than 5, so its value is argument 3: y" + NEXT),
     ("#(gr,5,5,y,n)", "performed: 5 is not greater than 5, so its value is argument 4: n" + NEXT),
     ("#(gr,a10,b9,y,n)",
-     "of a10 only the end counts, 10; of b9 only the end counts, 9; 10 is greater than 9, so its value is argument 3: "),
+     "of a10 only the end counts, 10; of b9 only the end counts, 9; "
+     "10 is greater than 9, so its value is argument 3: "),
     ("#(gr,-0,0,y,n)", "-0 counts as 0; 0 is not greater than 0, so its value is argument 4: n"),
     ("#(gr,--4,5-,y,n)",
      "of --4 only the end counts, -4; 5- ends in no digit and counts as 0; -4 is not greater than 0, so its value is "
@@ -80,7 +81,8 @@ def says(page: Deeds, name: str, words: str) -> None:
 
 def check_reasons(page: Deeds) -> None:
     """Sentences of decisions and decimals; the number of the list is that of the sentence, the slider and the box."""
-    check_sentences(page, "".join(call for call, _ in REASONS[:12]) + "'" + "".join(call for call, _ in REASONS[12:]) + "'", REASONS)
+    calls = [call for call, _ in REASONS]
+    check_sentences(page, "".join(calls[:12]) + "'" + "".join(calls[12:]) + "'", REASONS)
     # (why the default of a call that reads a form)
     check_sentences(page, PROGRAM, READERS)
 
@@ -128,7 +130,8 @@ def check_protected(page: Deeds) -> None:
     page.go(42)
     struck = page.script("document.querySelector('#neutral .gone').textContent")
     check(struck == "##(eq,“a,b(c)”,empty,x,“no,no”)", "what is struck: " + struck)
-    check(page.script("document.querySelector('#neutral .quote') !== null"), "what was protected is in quotes in the text")
+    check(page.script("document.querySelector('#neutral .quote') !== null"),
+          "what was protected is in quotes in the text")
     page.go(14)
     says(page, "next", "( and its matching ) are deleted, and what they protect goes to the current text unchanged: "
          "no comma in it ends an argument")
@@ -140,7 +143,8 @@ def check_protected(page: Deeds) -> None:
     scanned = page.script("document.getElementById('neutral').textContent")
     check(scanned == "#(ps,#(ds,A,", "a comma that was deleted stands there once: " + scanned)
     page.click("document.querySelector('#neutral .comma')")
-    page.until("document.getElementById('note').textContent.startsWith('this sign is no byte any more')", "a click on one says what it is")
+    page.until("document.getElementById('note').textContent.startsWith('this sign is no byte any more')",
+               "a click on one says what it is")
     check(page.script("document.querySelector('#neutral .gone').textContent") == ",", "and is struck")
     page.go(71)
     says(page, "last", "its value is null, which is scanned next")
@@ -155,13 +159,15 @@ def check_tokens(page: Deeds) -> None:
     page.press("Home")
     page.at(0)
     says(page, "last", explained)
-    # (the idle program; `#(` `ps` `,` `abc` `)` and its own `)`; the idle program; the line end, `##(` `zz` `)` and `)`)
+    # (the idle program; `#(` `ps` `,` `abc` `)` and its own `)`; the idle program; the line end, `##(` `zz` `)` and
+    # `)`)
     steps = (8, 9, 11, 12, 15, 16, 17, 26, 27, 28, 30, 31, 32, 40)
     for step in steps:
         page.press("ArrowRight")
         page.at(step)
         if step == 8:
-            says(page, "last", "Just done, 8 steps: the idle program reads on: its rs gives #(ps,abc), which is scanned next")
+            says(page, "last",
+                 "Just done, 8 steps: the idle program reads on: its rs gives #(ps,abc), which is scanned next")
         if step == 15:
             says(page, "last", "Just done, 3 steps: abc goes to the current text")
         if step == 17:
@@ -242,7 +248,8 @@ def check_large_view(page: Deeds) -> None:
     before = page.script("scrollY")
     page.press("f")
     page.click("document.querySelector('#neutral [data-byte]')")
-    page.until("document.getElementById('note').textContent.endsWith('it is there already; Esc shows the list')", "where it comes from is said")
+    page.until("document.getElementById('note').textContent.endsWith('it is there already; Esc shows the list')",
+               "where it comes from is said")
     page.click("document.getElementById('big')")
     check(not page.script(is_open) and page.script(pressed) == "false", "the button closes it")
     page.frames()

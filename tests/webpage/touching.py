@@ -3,15 +3,18 @@ from webpage.pages import FACTORIAL, IS_FOLLOWED, IS_GATHERED, Deeds, check
 from webpage.rows import CHROMIUM, rows
 
 # What a finger presses and is smaller than 44 pixels, or one of those in another's row.
-SMALL = ("[...document.querySelectorAll('button, select, input, textarea, summary, .row, .way-row [tabindex]')].filter((it) => it.checkVisibility())"
+SMALL = ("[...document.querySelectorAll('button, select, input, textarea, summary, .row, .way-row [tabindex]')]"
+         ".filter((it) => it.checkVisibility())"
          ".map((it) => [it, (it.closest('label') ?? it).getBoundingClientRect()])"
          ".filter(([, box]) => box.width > 0 && (box.width < 43.9 || box.height < 43.9))"
          ".map(([it, box]) => `${it.id || it.className || it.textContent}: ${box.width} by ${box.height}`)")
 # Waits until the page scrolls no more: for some frames it stays where it is.
-RESTS = ("new Promise((done) => { let last = null, count = 0; const look = () => { count = scrollY === last ? count + 1 : 0; last = scrollY; "
+RESTS = ("new Promise((done) => { let last = null, count = 0; "
+         "const look = () => { count = scrollY === last ? count + 1 : 0; last = scrollY; "
          "if (count < 20) requestAnimationFrame(look); else done(); }; look(); })")
 # Where the middle of an element is.
-MIDDLE = "(() => {{ const box = {}.getBoundingClientRect(); return [box.x + box.width / 2, box.y + box.height / 2]; }})()"
+MIDDLE = ("(() => {{ const box = {}.getBoundingClientRect(); "
+          "return [box.x + box.width / 2, box.y + box.height / 2]; }})()")
 STEP = "document.getElementById('slider').value"
 
 
@@ -34,19 +37,22 @@ def check_newcomer(page: Deeds) -> None:
     page.touch((x + 12, y + 8))
     page.until(IS_FOLLOWED, "a tap beside the 0 is for it")
     page.touch(middle(page, "document.querySelector('#way-list .way-row:last-child [data-place$=\" 2\"]')"))
-    page.until("document.getElementById('way-list').textContent.endsWith('reads it: line 1, column 26')", "where it was written")
+    page.until("document.getElementById('way-list').textContent.endsWith('reads it: line 1, column 26')",
+               "where it was written")
 
 
 def check_lesson(page: Deeds) -> None:
     """With a lesson open, what a program prints comes in view."""
-    page.script("(() => { const list = document.getElementById('course'); list.value = '4'; list.dispatchEvent(new Event('change')); })()")
+    page.script("(() => { const list = document.getElementById('course'); list.value = '4'; "
+                "list.dispatchEvent(new Event('change')); })()")
     page.until("document.getElementById('lesson-title').textContent === '2. Commas and protection'", "a lesson is open")
     page.script(RESTS)
     page.script("scrollTo(0, 0)")
     page.script(RESTS)
     page.touch(page.script(MIDDLE.format("document.getElementById('run')")))
     page.until("/^(Done a|A)fter /.test(document.getElementById('ending').textContent)", "it is run")
-    seen = "(() => { const box = document.getElementById('ending').getBoundingClientRect(); return box.top >= 0 && box.bottom <= innerHeight; })()"
+    seen = ("(() => { const box = document.getElementById('ending').getBoundingClientRect(); "
+            "return box.top >= 0 && box.bottom <= innerHeight; })()")
     page.until(seen, "what it prints is in view")
     page.script("document.getElementById('lesson-close').click()")
 
@@ -72,7 +78,8 @@ def check_swipes(page: Deeds) -> None:
     for by, step in ((90, 101), (90, 102), (-90, 101), (20, 101), (90, 102)):
         page.touch((x, y), (x + by / 2, y + 3), (x + by, y + 5))
         page.at(step, "a swipe by {}".format(by))
-    check(page.script("getComputedStyle(document.getElementById('tape')).touchAction") == "pan-y pinch-zoom", "the page scrolls up and down")
+    check(page.script("getComputedStyle(document.getElementById('tape')).touchAction") == "pan-y pinch-zoom",
+          "the page scrolls up and down")
     before = page.script("scrollY")
     page.touch((x, y), (x + 2, y - 60), (x + 4, y - 200))
     page.until("scrollY > {}".format(before + 50), "it scrolls from {}".format(before))

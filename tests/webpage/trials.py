@@ -20,6 +20,9 @@ EXERCISE = """(() => {
   list.dispatchEvent(new Event('change'));
 })()"""
 DOUBTED = "[...CSS.highlights.get('doubtful') ?? []].map((range) => range.toString()).join('')"
+# Whether two elements stand side by side.
+BESIDE = """(([one, other]) => one.top < other.bottom && other.top < one.bottom)(
+  ['{}', '{}'].map((id) => document.getElementById(id).getBoundingClientRect()))"""
 
 
 def check_arguments(page: Deeds) -> None:
@@ -49,4 +52,42 @@ def check_stray(page: Deeds) -> None:
     check(")" in marked, "what is marked: " + marked)
 
 
-TRIED = rows(check_arguments, check_main, check_stray)
+def check_both(page: Deeds) -> None:
+    """What a step did and what the next one does are seen at once, where a call gave a text of two lines."""
+    page.followed()
+    page.go(78)
+    seen = page.script("[...document.querySelectorAll('.rule')].map((it) => it.getBoundingClientRect().bottom "
+                       "<= document.getElementById('rules').getBoundingClientRect().bottom + 1)")
+    check(seen == [True, True], "both sentences are seen: {}".format(seen))
+
+
+def check_heads(page: Deeds) -> None:
+    """On a phone Run stands beside the name of the program, and the buttons of a lesson beside its title."""
+    page.script(EXERCISE)
+    page.until("document.getElementById('lesson-title').textContent.startsWith('Exercise')", "an exercise is open")
+    for one, other in (("lesson-title", "lesson-before"), ("lesson-before", "lesson-close")):
+        check(page.script(BESIDE.format(one, other)), "{} stands beside {}".format(other, one))
+    page.script("document.querySelector('#tries button').click()")
+    page.until("!document.getElementById('undo').hidden", "what was there can be brought back")
+    check(page.script(BESIDE.format("program-title", "run")), "Run stands beside the name of the program")
+
+
+def check_end(page: Deeds) -> None:
+    """The end of what is printed is in view where the line of input takes some of its room."""
+    page.type("#(ps,(" + "".join("{}\n".format(number) for number in range(1, 14)) + "))#(ps,##(rs))'")
+    page.run()
+    page.until("document.activeElement.id === 'input'", "it waits for input")
+    page.until("(() => { const it = document.getElementById('output'); return it.scrollHeight > it.clientHeight + 2 "
+               "&& it.scrollTop + it.clientHeight >= it.scrollHeight - 2; })()", "the last lines are in view")
+
+
+def check_lines(page: Deeds) -> None:
+    """On a phone some lines of output are seen without scrolling them."""
+    page.type("#(ps,(1\n2\n3\n4\n5))'")
+    page.run()
+    page.until("(() => { const it = document.getElementById('output'); "
+               "return it.textContent.length === 9 && it.scrollHeight <= it.clientHeight + 1; })()", "all are seen")
+
+
+TRIED = (rows(check_arguments, check_main, check_stray) + rows(check_both, width=1280, height=800)
+         + rows(check_end, width=1024, height=700) + rows(check_heads, check_lines, width=390, height=844))

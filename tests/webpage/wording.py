@@ -1,5 +1,5 @@
-"""What the page says is true and the same everywhere: blanks, messages with what to do, one counting, line ends, and places that are lit
-in any browser."""
+"""What the page says is true and the same everywhere: blanks, messages with what to do, one counting, line ends, and
+places that are lit in any browser."""
 import json
 import os
 import tempfile
@@ -9,7 +9,7 @@ from webpage.rows import rows
 
 # How far a character of the list of calls goes, and the commas with the blanks after them.
 BLANKS = """(() => {
-  const row = (step) => [...document.querySelectorAll('#tree .row')].find((it) => it.querySelector('.number').textContent === step);
+
   const width = (element) => element.getBoundingClientRect().width;
   const of = (text) => [...document.querySelectorAll('#tree .row')].map((it) => it.querySelector('.code'))
     .find((it) => it.textContent === text);
@@ -18,7 +18,8 @@ BLANKS = """(() => {
   return [width(one) - width(other), width(comma)];
 })()"""
 # The texts that are seen.
-SEEN = """[...document.querySelectorAll('#tree, #rules, #tape, #way-list, #mark-label, #note, #forms, #begun, #doubts, #output, #given')]
+SEEN = """[...document.querySelectorAll(
+  '#tree, #rules, #tape, #way-list, #mark-label, #note, #forms, #begun, #doubts, #output, #given')]
   .map((it) => it.textContent).join(' ')"""
 
 
@@ -33,7 +34,8 @@ def check_blanks(page: Deeds) -> None:
 
 
 def check_messages(page: Deeds) -> None:
-    """Messages say what is so, and what to do: mixed line ends, a division by 0, a blank after #, an apostrophe within a word."""
+    """Messages say what is so, and what to do: mixed line ends, a division by 0, a blank after #, an apostrophe within
+    a word."""
     with tempfile.TemporaryDirectory(prefix="trac-webpage-test-") as room:
         path = os.path.join(room, "mixed.trac")
         with open(path, "wb") as out:
@@ -46,18 +48,22 @@ def check_messages(page: Deeds) -> None:
     page.until("!document.getElementById('source').readOnly", "a button makes them one kind")
     page.run()
     check(page.text("output") == "a\nb\n", "what it prints then: " + ascii(page.text("output")))
-    for program, words in (("#(ps,#(dv,7,0))'", "this divides by 0"), ("# (ps,Hello)'", "a blank stands between # and ("),
+    for program, words in (("#(ps,#(dv,7,0))'", "this divides by 0"),
+                           ("# (ps,Hello)'", "a blank stands between # and ("),
                            ("#(ps,it's)'", "this ' ends the text"),
-                           ("#(ds,down,x)'#(cl,dwon)'", "no form is named dwon: did you mean down?"), ("#(cl,dwon)#(ds,down,x)'", "dwon: did you mean down?"),
+                           ("#(ds,down,x)'#(cl,dwon)'", "no form is named dwon: did you mean down?"),
+                           ("#(cl,dwon)#(ds,down,x)'", "dwon: did you mean down?"),
                            ("#(pr,a)'", "no primitive is named pr: did you mean ps or pf?"),
                            ("#(ds,Double,x)#(Duoble,2)'", "no primitive is named Duoble: did you mean #(cl,Double)?")):
         page.type(program)
         page.run()
-        page.until("document.getElementById('doubts').textContent.includes(\"{}\")".format(words), "{}: {}".format(program, words))
+        page.until("document.getElementById('doubts').textContent.includes(\"{}\")".format(words),
+                   "{}: {}".format(program, words))
         check("does not fit" not in page.text("doubts"), "nothing else is said: " + page.text("doubts"))
         if "it's" in program:
             check("line 1, column 8" in page.text("doubts"), "where it stands: " + page.text("doubts"))
-            check("the ' at line 1, column 8 ended its text" in page.text("doubts") and "a ) may be missing" not in page.text("doubts"),
+            check("the ' at line 1, column 8 ended its text" in page.text("doubts")
+                  and "a ) may be missing" not in page.text("doubts"),
                   "why the call never ended: " + page.text("doubts"))
 
 
@@ -69,7 +75,8 @@ def check_marked(page: Deeds) -> None:
         page.type(program)
         page.run()
         page.until("document.querySelector('#doubts .doubt') !== null", "a doubt is listed")
-        page.until(marked + " === " + json.dumps(wanted), "of {} what is marked: {}".format(program, page.script(marked)))
+        page.until(marked + " === " + json.dumps(wanted),
+                   "of {} what is marked: {}".format(program, page.script(marked)))
 
 
 def check_counting(page: Deeds) -> None:
@@ -81,8 +88,10 @@ def check_counting(page: Deeds) -> None:
         page.go(step)
         said = page.text("next")
         check(said.startswith("Next, step {}: ".format(step)), "the sentence at {}: {}".format(step, said[:60]))
-        check(not any(char.isdigit() for char in page.text("last").split(":")[0]), "no other number: " + page.text("last")[:60])
-        check(page.text("ending").startswith("Step {} of 276 is shown. At the end: done after 276 steps".format(step)), page.text("ending"))
+        check(not any(char.isdigit() for char in page.text("last").split(":")[0]),
+              "no other number: " + page.text("last")[:60])
+        check(page.text("ending").startswith("Step {} of 276 is shown. At the end: done after 276 steps".format(step)),
+              page.text("ending"))
     page.press("End")
     page.script("document.activeElement.blur()")
     page.press("End")
@@ -117,7 +126,8 @@ def check_lights(page: Deeds) -> None:
     page.type("#(ps,(wxyz\nabc))'")
     page.run()
     page.click("document.querySelector('#output [data-byte]')")
-    page.until("document.querySelector('#editor .light.read') !== null && document.querySelector('#output .light.followed') !== null",
+    page.until("document.querySelector('#editor .light.read') !== null "
+               "&& document.querySelector('#output .light.followed') !== null",
                "what is lit has boxes")
     sign = page.script("document.getElementById('way-list').textContent")
     places = page.script("""(() => {

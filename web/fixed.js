@@ -1,0 +1,59 @@
+// Bytes of a program that are for reading only: the box cannot give them back as they were, so signs stand in their
+// place.
+import { runsOf } from "./cells.js";
+import { startOfSign } from "./output.js";
+
+// Of more bytes than this a part is shown: browsers take some hundred bytes of memory for each sign that is in a box.
+const MOST_FIXED = 1 << 18;
+const PART = 1 << 16;
+
+/**
+ * Bytes that are for reading only: why, which of them are shown, by which text, and where their signs stand in that.
+ * @typedef {object} Fixed
+ * @property {Uint8Array} bytes
+ * @property {string} why
+ * @property {boolean} isWhole
+ * @property {number} from
+ * @property {number} to
+ * @property {string} text
+ * @property {{ byte: number, unit: number, per: number }[]} places
+ */
+
+/**
+ * Signs in place of bytes; of many, a part that has one of them in its middle.
+ * @param {Uint8Array} bytes
+ * @param {string} why
+ * @returns {Fixed}
+ */
+export function fixedOf(bytes, why, middle = 0) {
+  const isWhole = bytes.length <= MOST_FIXED;
+  const from = isWhole ? 0 : startOfSign(bytes, Math.max(middle - PART / 2, 0));
+  const to = isWhole ? bytes.length : startOfSign(bytes, Math.min(from + PART, bytes.length));
+  const places = [];
+  let text = "";
+  for (const run of runsOf(bytes.subarray(from, to))) {
+    places.push({ byte: from + run.from, unit: text.length, per: run.text === undefined ? 1 : run.perUnit });
+    text += run.text ?? standIn(run.byte);
+  }
+  return { bytes, why, isWhole, from, to, text, places };
+}
+
+/**
+ * Where the sign of a byte stands in that text, or -1 if it is not shown.
+ * @param {Fixed} fixed
+ * @param {number} number
+ */
+export function unitOfFixed({ from, to, places }, number) {
+  if (number < from || number >= to) return -1;
+  const place = places.filter(({ byte }) => byte <= number).at(-1) ?? places[0];
+  return place.unit + Math.floor((number - place.byte) / place.per);
+}
+
+/**
+ * What is shown in place of a byte that has no sign.
+ * @param {number} byte
+ */
+function standIn(byte) {
+  if (byte === 10 || byte === 9) return String.fromCharCode(byte);
+  return byte < 32 ? String.fromCharCode(0x2400 + byte) : "\ufffd";
+}
