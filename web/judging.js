@@ -3,8 +3,8 @@ import { joined } from "./bytes.js";
 import { Refused } from "./engine.js";
 
 /**
- * What it may take: steps, bytes that it prints, and seconds; and the words for why a run does not do, and for where its
- * output begins to differ (python/trac_tools/judging.py).
+ * What it may take: steps, bytes that it prints, and seconds; and the words for why a run does not do, and for where
+ * its output begins to differ (python/trac_tools/judging.py).
  * @typedef {{ steps: number, bytes: number, seconds: number, why: Record<string, string>, where: string }} Rules
  */
 
