@@ -11,7 +11,7 @@ import subprocess
 from support.cases import TESTS, Case, each, tests
 
 # Each script, and about how many seconds it takes: the longest begin first.
-SCRIPTS = {"building": 60, "releasing": 30, "installing": 20, "web/run": 60}
+SCRIPTS = {"building": 40, "checking": 40, "releasing": 30, "installing": 20, "web/run": 60}
 COUNTS = re.compile(r"(?:([0-9]+) skipped, )?([0-9]+) passed, ([0-9]+) failed")
 # How much is shown of what a script says that failed.
 SHOWN = 40
