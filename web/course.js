@@ -15,7 +15,8 @@ const SHOWN_BYTES = 4096;
  * @typedef {import("./lesson.js").TextPart} TextPart
  * @typedef {{ title: string, parts: TextPart[], runs?: undefined } | Exercise} Item
  * @typedef {{
- *   title: string, parts: TextPart[], runs: [string, string][], start: string | null, hint: TextPart[], solution: string
+ *   title: string, parts: TextPart[], runs: [string, string][], start: string | null, hint: TextPart[],
+ *   solution: string
  * }} Exercise
  */
 
