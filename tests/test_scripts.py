@@ -1,5 +1,5 @@
-"""The tests that are scripts of their own, each with its counts: those of the launcher, in Bash, and what is not a
-suite yet.
+"""The tests that are scripts of their own, each with its counts: those of the launcher, of ./build, ./check, ./install
+and release/, in Bash, and of the page's module, in Node.
 
 Each ends with a line `N passed, M failed`, with `K skipped, ` before it where some were, and says on other lines what
 failed (`FAILED: ..`) and why something was skipped (`skipped: ..`)."""
