@@ -4,10 +4,8 @@ Each row is a program, what is typed at each prompt, and what is seen, with the 
 from __future__ import annotations
 
 import os
-import pathlib
 import pty
 import re
-import select
 import shutil
 import subprocess
 import time
@@ -15,6 +13,7 @@ from collections.abc import Iterable, Sequence
 
 from support.cases import TESTS, TOP, Case, Process, Word, each, patience, ran, scratch, tests
 from support.peaks import measured
+from support.terminals import at_terminal
 
 TRAC = TOP / "trac"
 PLAY: list[Word] = [TRAC, "play"]
@@ -92,33 +91,6 @@ ROWS: tuple[tuple[str, bytes, list[str], list[str], str | None, int], ...] = (
 )
 
 
-def at_terminal(words: Sequence[Word], lines: Iterable[str | bytes], state: pathlib.Path) -> tuple[str | None, int]:
-    """What is seen at a pseudo-terminal where each line is typed at a prompt, and the status; none where nothing
-    comes. What is typed is kept in a folder `state`."""
-    pid, terminal = pty.fork()
-    if pid == 0:
-        os.environ.update(TERM="dumb", COLUMNS="80", XDG_STATE_HOME=os.fspath(state))
-        os.execv(words[0], tuple(words))
-    seen, since, lines = b"", 0, list(lines)
-    while True:
-        if lines and re.search(rb"(> |\.\. )$", seen[since:]):
-            line = lines.pop(0)
-            typed = line if isinstance(line, bytes) else line.encode()
-            os.write(terminal, typed + (b"" if line == "\x04" else b"\n"))
-            since = len(seen)
-        if not select.select([terminal], [], [], patience())[0]:
-            os.kill(pid, 9)
-            return None, os.waitpid(pid, 0)[1]
-        try:
-            data = os.read(terminal, 65536)
-        except OSError:
-            data = b""
-        if not data:
-            break
-        seen += re.sub(rb"\x1b\[\?2004[hl]\r?", b"", data)
-    return seen.decode("utf-8", "replace").replace("\r\n", "\n"), os.waitstatus_to_exitcode(os.waitpid(pid, 0)[1])
-
-
 def without_prompts(seen: str, wanted: str | None) -> str:
     """What is seen, without that a line which is there already is shown again, with its prompt."""
     return seen if wanted is None or "\r" in wanted else re.sub(r"(?m)(^|\n)([^\n\r]*)\r\2", r"\1\2", seen)
@@ -165,9 +137,11 @@ class Playing(Case):
         self.room = scratch(self)
         self.file = self.room / "program.trac"
 
-    def seen(self, words: Sequence[Word], lines: Iterable[str | bytes]) -> tuple[str | None, int]:
-        """What is seen of a command at a pseudo-terminal, and its status."""
-        return at_terminal(words, lines, self.room / "state")
+    def seen(self, words: Sequence[Word], lines: Iterable[str]) -> tuple[str, int]:
+        """What is seen of a command at a pseudo-terminal where each line is typed at a prompt, and its status. (A
+        Ctrl-D stands alone.)"""
+        typed = [line if line == "\x04" else line + "\n" for line in lines]
+        return at_terminal(words, typed, XDG_STATE_HOME=os.fspath(self.room / "state"))
 
     @each(hyphened(row[0]) for row in ROWS)
     def test(self, name: str) -> None:
@@ -175,9 +149,7 @@ class Playing(Case):
         _, program, options, lines, wanted, status = next(row for row in ROWS if hyphened(row[0]) == name)
         self.file.write_bytes(program)
         seen, ended = self.seen([*PLAY, *options, self.file], lines)
-        if not self.holds("something comes", seen is not None):
-            return
-        seen = without_prompts(seen or "", wanted)
+        seen = without_prompts(seen, wanted)
         if name == "history-of-the-line-editor":
             self.holds("the line is brought back: " + ascii(seen), "<ACB>" in seen)
         elif wanted is not None:
@@ -229,11 +201,11 @@ class Playing(Case):
             place = ["LOCPATH={}".format(self.room)]
         for question, answer in ("n\u00e4me", "\u00e9\u00a7"), ("\u2192", "\u00e9"):
             self.file.write_bytes("#(ps,({}? ))#(ps,<##(rs)>)'".format(question).encode())
-            typed = (answer + "'").encode(encoding)
-            seen, status = self.seen([shutil.which("env") or "", "LC_ALL=" + locale, *place, *PLAY, self.file], [typed])
-            wanted = "<{}>".format(typed[:-1].decode("utf-8", "replace"))
+            seen, status = at_terminal([shutil.which("env") or "", "LC_ALL=" + locale, *place, *PLAY, self.file],
+                                       [(answer + "'\n").encode(encoding)], XDG_STATE_HOME=str(self.room / "state"))
+            wanted = "<{}>".format(answer.encode(encoding).decode("utf-8", "replace"))
             self.holds("{}: {}, status {}".format(ascii(wanted), ascii(seen), status),
-                       status == 0 and (seen or "").endswith(wanted))
+                       status == 0 and seen.endswith(wanted))
 
     @each(("terminal", "terminal-that-does-not-wait"))
     def test_output_elsewhere(self, name: str) -> None:
@@ -265,7 +237,7 @@ class Playing(Case):
         program, typed, wanted = MANY[name]
         self.file.write_bytes(program)
         seen, status = self.seen([*PLAY, self.file], typed)
-        self.same("at a terminal", without_prompts(seen or "", wanted), wanted, None, "seen")
+        self.same("at a terminal", without_prompts(seen, wanted), wanted, None, "seen")
         self.holds("it ends with 0, and not {}".format(status), status == 0)
 
     @each(SIZES)
@@ -276,7 +248,7 @@ class Playing(Case):
         self.file.write_bytes(program)
         peak = self.room / "peak"
         seen, ended = self.seen(measured([*PLAY, "--memory", "16M", self.file], peak), typed)
-        self.same("at a terminal", seen or "", wanted, None, "seen")
+        self.same("at a terminal", seen, wanted, None, "seen")
         self.holds("it ends with {}, and not {}".format(status, ended), ended == status)
         held = int(peak.read_text("ascii"))
         self.holds("it held {} KiB".format(held), held <= 32768)
