@@ -1,12 +1,17 @@
 """The course: each command of a lesson prints what the lesson says, each solution solves its exercise and each wrong
-one is refused, lessons and exercises keep to their words, and `trac course` says what it should."""
+one is refused, lessons and exercises keep to their words, and `trac course` says what it should. And what parts a text
+of it has, which `trac course` and the page show."""
 import os
 import re
 import shlex
+import sys
 from collections.abc import Iterable, Iterator, Sequence
 from typing import Any
 
 from support.cases import TOP, WALK, Case, Place, Word, each, ran, scratch, tests
+
+sys.path.insert(0, str(TOP / "python"))
+from trac_tools import markdown  # noqa: E402
 
 COURSE, LAUNCHER = TOP / "programs" / "course", TOP / "trac"
 # How many words a lesson may have, with its programs, and an exercise or a hint.
@@ -51,6 +56,22 @@ CHECKED = (
     ("#(ds,down,(#(ps,3 2 1 stop)))'", "  they differ from line 1, character 7 on\n"),
     ("#(ds,down,(#(ps,(a\x07\x1b[1m\n\xe9))))'", "    a\\x07\\x1b[1m\n    \xe9\n"),
     ("#(ds,down,(#(eq,N,0,(#(ps,(go\n\n))),(#(ps,N )#(cl,down,#(su,N,1))))))#(ss,down,N)'", "5.1 is solved"),
+)
+# Texts, and their parts: of each its kind, with the name or the mark if it has one, and its lines.
+TEXTS: tuple[tuple[str, list[tuple[str, list[str]]]], ...] = (
+    ("", []),
+    ("# A title\n\nWords of\ntwo lines.\n", [("heading", ["A title"]), ("p", ["Words of", "two lines."])]),
+    ("## A title\nWords.", [("heading", ["A title"]), ("p", ["Words."])]),
+    ("Words:\n\n1. one\n   goes on\n2. two\n\n- three\nfour",
+     [("p", ["Words:"]), ("ol 1. ", ["one", "goes on"]), ("ol 2. ", ["two"]), ("ul - ", ["three", "four"])]),
+    ("Words:\n```trac a.trac\n#(ps,a)'\n\n- b\n# c\n```\nMore.\n```console\n$ x\n```",
+     [("p", ["Words:"]), ("trac a.trac", ["#(ps,a)'", "", "- b", "# c"]), ("p", ["More."]), ("console", ["$ x"])]),
+)
+# Words, and their pieces.
+SPANS: tuple[tuple[str, list[tuple[str, str]]], ...] = (
+    ("", []), ("plain", [("", "plain")]), ("`a *b* c`", [("code", "a *b* c")]),
+    ("a *b* **c d** e", [("", "a "), ("em", "b"), ("", " "), ("strong", "c d"), ("", " e")]),
+    ("see [the page](a/b.md).", [("", "see "), ("", "the page"), ("", ".")]),
 )
 
 
@@ -161,6 +182,14 @@ class Course(Case):
         said, status = courses(number)
         self.holds("it is shown with its runs: " + said, status == 0 and said.count("must be printed") == runs)
         self.check_lint(name, ["solution.trac"])
+
+    def test_parts_of_texts(self) -> None:
+        for text, wanted in TEXTS:
+            found = [(" ".join(filter(None, (it.kind, it.name, it.mark))), it.lines) for it in markdown.parts(text)]
+            self.same("the parts of {!r}".format(text), "\n".join(map(str, found)), "\n".join(map(str, wanted)))
+        for text, pieces in SPANS:
+            found_pieces = [tuple(it) for it in markdown.spans(text)]
+            self.same("the pieces of {!r}".format(text), "\n".join(map(str, found_pieces)), "\n".join(map(str, pieces)))
 
     def test_number_of_lessons(self) -> None:
         self.holds("there are ten lessons", LESSONS == ["{:02}".format(number + 1) for number in range(10)])

@@ -1,6 +1,6 @@
 """What README.md and docs/ show: each command that says what it prints, `printf ".." | ./trac run    # prints ..`,
-prints that; so too the doubts of trac lint that stand below such a command, `# 1:7: ..`, and on the page of silent
-mistakes there are no others.
+which may have several lines, prints that; so too the doubts of trac lint that stand below such a command,
+`# 1:7: ..`, and on the page of silent mistakes there are no others.
 
 The example of docs/embedding.md is its crate, which the gate runs; the counts of definitions in docs/proof.md are
 those of tools/believed."""
@@ -8,13 +8,12 @@ from __future__ import annotations
 
 import pathlib
 import re
-from collections.abc import Iterator
 
 from support.cases import TOP, Case, Place, Ran, each, lined, ran, scratch, tests
 
-COMMAND = re.compile(r'^ +(printf ".*") \| \./trac run')
-PRINTS = re.compile(r'^ +(printf ".*" \| \./trac run)  +# prints (.*)$')
-DOUBT = re.compile(r"^ +# ([0-9]+:[0-9]+: .*)$")
+COMMAND = r'^ *(printf "[^"]*") \| \./trac run'
+# A command, with what it prints where it says that, there or on the next line; or a doubt.
+PART = re.compile(COMMAND + r"(?:\s+# prints (.*)$)?|^ +# ([0-9]+:[0-9]+: .*)$", re.M)
 PAGES = {file.name: file for file in [TOP / "README.md", *sorted((TOP / "docs").glob("*.md"))]}
 # The page on which a command without doubts below it has none.
 SILENT = "nothing-printed.md"
@@ -28,29 +27,26 @@ def shell(command: str) -> Ran:
     return run._replace(command=command)
 
 
-def lines_of(file: pathlib.Path) -> Iterator[tuple[int, str]]:
-    """The lines of a page, each with its number."""
-    return enumerate(file.read_text(encoding="utf-8").split("\n"), 1)
-
-
 @tests
 class Documents(Case):
     """The commands of each page."""
 
-    @each(name for name, file in PAGES.items() if any(COMMAND.match(line) for _, line in lines_of(file)))
+    @each(name for name, file in PAGES.items() if re.search(COMMAND, file.read_text(encoding="utf-8"), re.M))
     def test(self, name: str) -> None:
         file = PAGES[name]
+        text = file.read_text(encoding="utf-8")
         command: tuple[int, str] | None = None
         doubts: list[tuple[int, str]] = []
-        for number, line in lines_of(file):
-            begins, doubt, prints = COMMAND.match(line), DOUBT.match(line), PRINTS.match(line)
-            if begins:
-                self.check_doubts(name, command, doubts)
-                command, doubts = (number, begins[1]), []
-            elif doubt:
-                doubts.append((number, doubt[1]))
-            if prints:
-                self.check_output(file, number, prints[1], prints[2])
+        for part in PART.finditer(text):
+            words, prints, doubt = part.groups()
+            number = text.count("\n", 0, part.end()) + 1
+            if doubt:
+                doubts.append((number, doubt))
+                continue
+            self.check_doubts(name, command, doubts)
+            command, doubts = (number, words), []
+            if prints is not None:
+                self.check_output(file, number, words + " | ./trac run", prints)
         self.check_doubts(name, command, doubts)
 
     def check_output(self, file: pathlib.Path, number: int, command: str, wanted: str) -> None:

@@ -24,7 +24,8 @@ class Library(Case):
         file = HERE / (name + ".trac")
         run_both_ways(self, file)
         for it in "trac", "md", "out":
-            self.holds("there is {}.{}".format(name, it), bytes_in(HERE / "{}.{}".format(name, it)))
+            file_of = HERE / "{}.{}".format(name, it)
+            self.holds("{} is there".format(near(file_of)), bytes_in(file_of))
         self.check_page(name)
         self.check_doubts(file)
         if file.with_suffix(".walk").exists():
@@ -34,7 +35,8 @@ class Library(Case):
         """Its page is short, and the list has it."""
         count = len(bytes_in(HERE / (name + ".md")).split())
         self.holds("{}.md has at most 150 words, and not {}".format(name, count), count <= 150)
-        self.holds("README.md names it", "({}.md)".format(name) in (HERE / "README.md").read_text(encoding="utf-8"))
+        page, listed = "({}.md)".format(name), (HERE / "README.md").read_text(encoding="utf-8")
+        self.holds("programs/library/README.md links its page, {}".format(page), page in listed)
 
     def check_doubts(self, file: pathlib.Path) -> None:
         """What trac lint says of it."""

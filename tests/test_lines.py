@@ -3,13 +3,12 @@ Python lines are plain."""
 import os
 import pty
 import re
-import select
 import shutil
 import stat
 import sys
-from collections.abc import Iterable, Sequence
 
-from support.cases import DATA, EXAMPLES, TOP, Case, Word, each, patience, ran, scratch, tests
+from support.cases import DATA, EXAMPLES, TOP, Case, Word, each, ran, scratch, tests
+from support.terminals import at_terminal
 
 sys.path.insert(0, str(TOP / "python"))
 from trac_tools import walk  # noqa: E402
@@ -28,30 +27,6 @@ COMPLETED: dict[str, tuple[str, list[str]]] = {
 # Names of forms in a program: those that can be typed as they are, in the order of the alphabet.
 NAMED = (b"#(ds,again,(#(DS,all,x)))##(ds,b-2,y)#( ds,c,y)#(ds,,z)#(ds,a b,z)"
          b"#(ds,\x1b[1m,z)#(ds,\"q\",z)#(ds,#(cl,x),z)'")
-
-
-def at_terminal(words: Sequence[Word], typed: Iterable[str], **environment: str) -> tuple[str, int]:
-    """What is seen at a pseudo-terminal where each of these is typed at a prompt, and the status."""
-    pid, terminal = pty.fork()
-    if pid == 0:
-        os.environ.update(TERM="dumb", COLUMNS="80", **environment)
-        os.execv(words[0], [os.fspath(word) for word in words])
-    seen, since, typed = "", 0, list(typed)
-    while True:
-        if typed and seen.endswith("> ") and len(seen) > since:
-            since = len(seen)
-            os.write(terminal, typed.pop(0).encode())
-        if not select.select([terminal], [], [], patience())[0]:
-            os.kill(pid, 9)
-            break
-        try:
-            data = os.read(terminal, 65536)
-        except OSError:
-            data = b""
-        if not data:
-            break
-        seen += re.sub(rb"\x1b\[\?2004[hl]\r?", b"", data).decode("utf-8", "replace")
-    return seen.replace("\r\n", "\n"), os.waitstatus_to_exitcode(os.waitpid(pid, 0)[1])
 
 
 @tests

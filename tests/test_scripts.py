@@ -1,5 +1,5 @@
-"""The tests that are scripts of their own, each with its counts: those of the launcher, in Bash, and what is not a
-suite yet.
+"""The tests that are scripts of their own, each with its counts: those of the launcher, of ./build, ./check, ./install
+and release/, in Bash, and of the page's module, in Node.
 
 Each ends with a line `N passed, M failed`, with `K skipped, ` before it where some were, and says on other lines what
 failed (`FAILED: ..`) and why something was skipped (`skipped: ..`)."""
@@ -11,8 +11,7 @@ import subprocess
 from support.cases import TESTS, Case, each, tests
 
 # Each script, and about how many seconds it takes: the longest begin first.
-SCRIPTS = {"building": 60, "releasing": 30, "installing": 20, "endings": 20, "hostile": 70, "streams": 60,
-           "playing": 25, "editors": 30, "web/run": 60}
+SCRIPTS = {"building": 40, "checking": 40, "releasing": 30, "installing": 20, "web/run": 60}
 COUNTS = re.compile(r"(?:([0-9]+) skipped, )?([0-9]+) passed, ([0-9]+) failed")
 # How much is shown of what a script says that failed.
 SHOWN = 40

@@ -1,7 +1,7 @@
 """How scripts are written: what shellcheck says of those in Bash, flake8 and mypy of those in Python, and tsc of the
-page's, where they are installed in the versions that are known here; that no line of a script has more than 120
-columns, but for those of support/long-lines, which are still to be mended; that four commands stand at the top, of
-which the launcher is short; and that each folder there says what belongs there."""
+page's, where they are installed in the versions that are known here; that no line has more than 120 columns, of
+scripts, documents and all else that a person writes; that four commands stand at the top, of which the launcher is
+short; and that each folder there says what belongs there."""
 import os
 import pathlib
 import re
@@ -21,6 +21,10 @@ ELSEWHERE = re.compile("^(?:crates|release|web|tests/web)/")
 UNTYPED = re.compile(r"^(?!python/|tests/|tools/)|^tests/(?:web/|support/.*\.py$)")
 # What is no script: texts, programs, what is wanted of them, and manual pages.
 TEXTS = re.compile(r"\.(?:md|png|trac|out|in|err|64|words|txt|json|1|edit|vim|input)$|/edits-tried$|/LICENSE$")
+# Where a line may be of any length: Rattle, which rt lays out; what is made; stored programs, what programs are given
+# and print, and pages show; and the list of crates, of which each is a line. So is a row of a table in Markdown.
+UNMEASURED = re.compile(r"^(?:crates|release|tests/data)/|\.(?:in|out|64|lint|walk|png)$|^crates\.txt$|/names\.txt$")
+ROW = re.compile(r"\s*\|")
 # What shellcheck finds that is meant: files that are sourced, and set what others use; words that are to be split.
 MEANT = "SC1090,SC1091,SC2034,SC2064,SC2086,SC2128,SC2154,SC2164,SC2166,SC2178,SC2209,SC2217,SC2261"
 
@@ -47,6 +51,12 @@ def scripts(elsewhere: re.Pattern[str] = ELSEWHERE) -> Iterator[tuple[pathlib.Pa
 def is_python(file: pathlib.Path, first: str) -> bool:
     """Whether a script with this first line is in Python."""
     return file.suffix == ".py" or bool(re.match("#!.*python", first))
+
+
+def long_lines(file: pathlib.Path) -> list[int]:
+    """The numbers of the lines of a file that are too long; a row of a table cannot be broken."""
+    lines = enumerate(file.read_text(encoding="utf-8").split("\n"), 1)
+    return [at for at, line in lines if len(line) > WIDTH and not (file.suffix == ".md" and ROW.match(line))]
 
 
 class Style(Case):
@@ -118,10 +128,8 @@ class Style(Case):
         self.status("tsc", run, 0)
 
     def test_lines(self) -> None:
-        later = set((TOP / "tests" / "support" / "long-lines").read_text(encoding="utf-8").split())
-        gone = sorted(name for name in later if not (TOP / name).exists())
-        self.holds("long-lines names files that are there, and not {}".format(gone), not gone)
-        for file, _, text in scripts():
-            long = [number for number, line in enumerate(text.split("\n"), 1) if len(line) > WIDTH]
-            if near(file) not in later:
-                self.holds("{}: lines of at most {} columns, and not {}".format(near(file), WIDTH, long), not long)
+        for name in listed():
+            file = TOP / name
+            if not UNMEASURED.search(name) and file.is_file() and not file.is_symlink():
+                long = long_lines(file)
+                self.holds("{}: lines of at most {} columns, and not {}".format(name, WIDTH, long), not long)

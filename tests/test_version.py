@@ -31,6 +31,8 @@ class Version(Case):
                   before.replace(b"## [Unreleased]\n", HEADINGS, 1))
         page = (room / "share" / "man" / "trac-walk.1").read_text(encoding="utf-8").split("\n", 1)[0]
         self.same("a manual page has it", page, '.TH TRAC-WALK 1 2030-01-02 "trac 9.8.7" "User Commands"')
+        action = (room / "share" / "packaging" / "action.yml").read_text(encoding="utf-8")
+        self.holds("an example has it", "/share/packaging@v9.8.7\n" in action)
         log = (room / "share" / "packaging" / "debian" / "changelog").read_text(encoding="utf-8")
         self.holds("the package has it", log.startswith("trac-t64 (9.8.7-1) ") and "  Wed, 02 Jan 2030 " in log)
 

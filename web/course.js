@@ -3,9 +3,8 @@ import { leftOut } from "./bytes.js";
 import { addCells } from "./cells.js";
 import { Stopped, wordsOf } from "./engine.js";
 import { isOff, setOff } from "./focus.js";
-import { inPage } from "./instead.js";
-import { addMarkdown, titleOf } from "./markdown.js";
 import { inputAfter, judged } from "./judging.js";
+import { addParts } from "./lesson.js";
 import { buttonOf, byId, make, textIn } from "./elements.js";
 import { startList } from "./lists.js";
 
@@ -13,18 +12,25 @@ const SHOWN_BYTES = 4096;
 
 /**
  * A lesson; or an exercise, with its runs: what stands after the program, and what must be printed.
- * @typedef {{ text: string, runs?: undefined } | Exercise} Item
- * @typedef {{ text: string, runs: [string, string][], start: string | null, hint: string, solution: string }} Exercise
+ * @typedef {import("./lesson.js").TextPart} TextPart
+ * @typedef {{ title: string, parts: TextPart[], runs?: undefined } | Exercise} Item
+ * @typedef {{
+ *   title: string, parts: TextPart[], runs: [string, string][], start: string | null, hint: TextPart[],
+ *   solution: string
+ * }} Exercise
  */
 
 export class Course {
   /** @param {Page} page */
   constructor(page) {
     this.page = page;
-    /** @type {{ text: string, exercises: Exercise[] }[]} */
-    const lessons = JSON.parse(textIn("course-data"));
+    const data = JSON.parse(textIn("course-data"));
+    /** @type {import("./judging.js").Rules} */
+    this.rules = data.rules;
+    /** @type {{ title: string, parts: TextPart[], exercises: Exercise[] }[]} */
+    const lessons = data.lessons;
     /** @type {Item[]} lessons, each before its exercises */
-    this.items = lessons.flatMap(({ text, exercises }) => [{ text }, ...exercises]);
+    this.items = lessons.flatMap(({ title, parts, exercises }) => [{ title, parts }, ...exercises]);
     this.at = 0;
     // what is said of a check
     this.said = make("div");
@@ -37,9 +43,9 @@ export class Course {
   list() {
     const list = byId("course");
     list.append(new Option("Course", ""));
-    this.items.forEach(({ text, runs }, index) => {
+    this.items.forEach(({ title, runs }, index) => {
       const margin = runs ? "\u00a0\u00a0\u00a0" : "";
-      list.append(new Option(margin + titleOf(text), String(index)));
+      list.append(new Option(margin + title, String(index)));
     });
     startList(list, (index) => this.show(Number(index)));
   }
@@ -50,13 +56,13 @@ export class Course {
     this.at = index;
     const item = this.items[index], next = this.items[index + 1], before = this.items[index - 1];
     const place = byId("lesson-text");
-    byId("lesson-title").textContent = (item.runs ? "Exercise " : "") + titleOf(item.text);
+    byId("lesson-title").textContent = (item.runs ? "Exercise " : "") + item.title;
     byId("lesson-before").hidden = !before;
-    if (before) byId("lesson-before").setAttribute("aria-label", `previous: ${titleOf(before.text)}`);
+    if (before) byId("lesson-before").setAttribute("aria-label", `previous: ${before.title}`);
     byId("lesson-next").hidden = !next;
-    if (next) byId("lesson-next").setAttribute("aria-label", `next: ${titleOf(next.text)}`);
+    if (next) byId("lesson-next").setAttribute("aria-label", `next: ${next.title}`);
     place.replaceChildren();
-    addMarkdown(place, inPage(item.text), (name, text) => this.program(name, text));
+    addParts(place, item.parts, (name, text) => this.program(name, text));
     if (item.runs) this.addExercise(place, item);
     byId("lesson").hidden = false;
     place.scrollTop = 0;
@@ -88,9 +94,8 @@ export class Course {
     const bar = make("p", "bar");
     const check = buttonOf("Check", () => this.check(runs));
     check.className = "main";
-    // (a hint has no title)
     /** @param {HTMLElement} at */
-    const hinted = (at) => addMarkdown(at, inPage(`#\n${hint}`), (name, text) => this.program(name, text));
+    const hinted = (at) => addParts(at, hint, (name, text) => this.program(name, text));
     /** @param {HTMLElement} at */
     const solved = (at) => at.append(this.program("solution.trac", solution));
     bar.append(check, buttonOf("Hint", (button) => this.unfold(button, hinted)));
@@ -139,7 +144,7 @@ export class Course {
     const program = page.editor.bytes();
     said.replaceChildren("It is checked ..");
     try {
-      const failed = await judged(page.engine, program, runs);
+      const failed = await judged(page.engine, program, runs, this.rules);
       if (failed) said.replaceChildren(...this.failure(failed, program, runs));
       else said.replaceChildren(make("p", "right", "✓ It is solved."));
     } catch (fault) {

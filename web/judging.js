@@ -1,37 +1,32 @@
 // Whether a program solves an exercise of the course: it is run on each given input, and judged as trac-course does.
-import { grouped, joined } from "./bytes.js";
+import { joined } from "./bytes.js";
 import { Refused } from "./engine.js";
 
-// What it may take: steps, bytes that it prints, and milliseconds.
-const JUDGED_STEPS = 10000000;
-const JUDGED_BYTES = 65536;
-const JUDGED_TIME = 60000;
+/**
+ * What it may take: steps, bytes that it prints, and seconds; and the words for why a run does not do, and for where
+ * its output begins to differ (python/trac_tools/judging.py).
+ * @typedef {{ steps: number, bytes: number, seconds: number, why: Record<string, string>, where: string }} Rules
+ */
 
-// How a run may end but well, by its status.
-/** @type {Record<string, string>} */
-const FAULTS = {
-  3: `it has not ended within ${grouped(JUDGED_STEPS)} steps: does a form call itself without end?`,
-  4: "it passes a limit: does a form call itself without end, or grow with each call?",
-  5: "it takes too much memory: does a form grow with each call?",
-  9: `it prints more than ${grouped(JUDGED_BYTES)} bytes`,
-  late: `it was stopped after ${JUDGED_TIME / 1000} seconds`,
-};
+// The status of a run that prints too much.
+const LONG = 9;
 
 // What a program prints that is all of this input, and what is wrong with its end, if that is.
-/** @param {Engine} engine @param {Uint8Array} tape */
-async function tried(engine, tape) {
+/** @param {Engine} engine @param {Uint8Array} tape @param {Rules} rules */
+async function tried(engine, tape, { steps, bytes: most, seconds, why }) {
   let isLate = false;
   const timer = setTimeout(() => {
     isLate = true;
     engine.stop();
-  }, JUDGED_TIME);
+  }, seconds * 1000);
   try {
-    const { status, bytes } = await engine.ask("run", tape, { budget: JUDGED_STEPS, most: JUDGED_BYTES }, JUDGED_BYTES);
-    return { printed: bytes, fault: status === 0 ? null : FAULTS[status] ?? `it ended with status ${status}` };
+    const { status, bytes } = await engine.ask("run", tape, { budget: steps, most }, most);
+    const words = why[status === LONG ? "long" : status] ?? `it ended with status ${status}`;
+    return { printed: bytes, fault: status === 0 ? null : words };
   } catch (fault) {
     const isKnown = isLate || (fault instanceof Refused && fault.why === "no memory");
     if (!isKnown) throw fault;
-    return { printed: new Uint8Array(0), fault: FAULTS[isLate ? "late" : 5] };
+    return { printed: new Uint8Array(0), fault: why[isLate ? "late" : 5] };
   } finally {
     clearTimeout(timer);
   }
@@ -51,14 +46,14 @@ export function isEqual(one, other) {
 }
 
 // Where two texts begin to differ.
-/** @param {Uint8Array} printed @param {Uint8Array} wanted */
-function difference(printed, wanted) {
+/** @param {Uint8Array} printed @param {Uint8Array} wanted @param {string} words */
+function difference(printed, wanted, words) {
   const [one, other] = [printed, wanted].map((bytes) => [...new TextDecoder().decode(withoutEnds(bytes))]);
   let at = 0;
   while (at < one.length && one[at] === other[at]) at++;
   const front = one.slice(0, at);
   const line = front.filter((sign) => sign === "\n").length + 1;
-  return `they differ from line ${line}, character ${at - front.lastIndexOf("\n")} on`;
+  return words.replace("LINE", String(line)).replace("COLUMN", String(at - front.lastIndexOf("\n")));
 }
 
 // The input after a program: its last line is ended, else the input would go on in it.
@@ -74,15 +69,15 @@ export function inputAfter(program, given) {
  */
 
 // The first run that fails, if one does.
-/** @param {Engine} engine @param {Uint8Array} program @param {[string, string][]} runs */
-export async function judged(engine, program, runs) {
+/** @param {Engine} engine @param {Uint8Array} program @param {[string, string][]} runs @param {Rules} rules */
+export async function judged(engine, program, runs, rules) {
   for (const [at, [given, out]] of runs.entries()) {
     const wanted = new TextEncoder().encode(out);
-    const { printed, fault } = await tried(engine, joined([program, inputAfter(program, given)]));
+    const { printed, fault } = await tried(engine, joined([program, inputAfter(program, given)]), rules);
     if (fault) return { at, printed, why: fault, where: null };
     if (isEqual(withoutEnds(printed), withoutEnds(wanted))) continue;
-    const where = printed.length && wanted.length ? difference(printed, wanted) : null;
-    return { at, printed, why: "it prints something else", where };
+    const where = printed.length && wanted.length ? difference(printed, wanted, rules.where) : null;
+    return { at, printed, why: rules.why.other, where };
   }
   return null;
 }

@@ -18,8 +18,8 @@ import shutil
 import subprocess
 import textwrap
 import time
-from collections.abc import Iterator
 
+from trac_tools import judging, markdown
 from trac_tools.dialogue import bound, passed_on
 from trac_tools.tool import (Fault, Place, Process, ShowVersion, Words, begin, found, legible, printable, program,
                              read_file, shown, write)
@@ -28,25 +28,12 @@ TYPE_CHECKING = False
 if TYPE_CHECKING:
     from typing import Any
 
-# What a checked program may take: steps, bytes that it prints, bytes of memory, and seconds.
-STEPS = 10_000_000
-PRINTED = 65_536
+# How many bytes of memory a checked program may take.
 MEMORY = 1_073_741_824
-SECONDS = 60
 # The file that is a process's standard input.
 OWN_INPUT = "/dev/fd/0"
-# How a run may end, by its status, in the words of a check.
-ENDINGS = {
-    3: "it has not ended within {:,} steps: does a form call itself without end?".format(STEPS),
-    4: "it passes a limit: does a form call itself without end, or grow with each call?",
-    5: "it takes too much memory: does a form grow with each call?",
-}
 # How many lines of a text a check shows, and how wide they are at most; how wide a line of a lesson is.
 LINES, LONGEST, WIDTH = 24, 160, 100
-FENCE = re.compile(r"```(\w*) ?(\S*)")
-ITEM = re.compile(r"(?:[0-9]+\.|-) +")
-# A piece of code, bold, slanted, or a link.
-MARKUP = re.compile(r"(`[^`]+`)|\*\*([^*]+)\*\*|\*([^*]+)\*|\[([^]]+)\]\([^)]*\)")
 WORDS = """\
 N                 show lesson N
 N.K               show exercise N.K
@@ -182,54 +169,28 @@ class Page:
 
     def inline(self, text: str) -> str:
         """A text without its marks, and with no place to break within a piece of code."""
-        def plain(match: re.Match[str]) -> str:
-            code, strong, slanted, link = match.groups()
-            return self.command(code).replace(" ", "\0") if code else self.bold(strong) if strong else slanted or link
-
-        return MARKUP.sub(plain, text)
+        shown = {"code": lambda code: self.command("`{}`".format(code)).replace(" ", "\0"), "strong": self.bold}
+        return "".join(shown.get(span.kind, str)(span.text) for span in markdown.spans(text))
 
     def wrapped(self, text: str, first: str = "", rest: str = "") -> str:
         """A paragraph in lines."""
         return textwrap.fill(self.inline(text), self.width, initial_indent=first, subsequent_indent=rest,
                              break_long_words=False, break_on_hyphens=False).replace("\0", " ")
 
-    def parts(self, text: str) -> Iterator[list[str]]:
-        """The parts of a text, each of its lines: a block with its fence, an item or a paragraph."""
-        lines: list[str] = []
-        fenced = False
-        for line in text.split("\n"):
-            if not fenced and (not line or ITEM.match(line) or line.startswith("```")) and lines:
-                yield lines
-                lines = []
-            if line or fenced:
-                lines.append(line)
-            if line.startswith("```"):
-                fenced = not fenced
-                if not fenced:
-                    yield lines
-                    lines = []
-        if lines:
-            yield lines
-
     def show(self, text: str) -> None:
         """Prints a text."""
         was_item = False
-        for lines in self.parts(text):
-            item = ITEM.match(lines[0])
-            if not (was_item and item):
+        for part in markdown.parts(text):
+            if not (was_item and part.is_item):
                 say()
-            was_item = bool(item)
-            fence = FENCE.match(lines[0])
-            if fence:
-                is_console = fence[1] == "console"
-                for line in lines[1:-1]:
-                    say("    " + (self.command(line) if is_console else line))
-            elif lines[0].startswith("#"):
-                say(self.bold(lines[0].lstrip("# ")))
+            was_item = part.is_item
+            if part.kind == "heading":
+                say(self.bold(part.words))
+            elif part.kind in ("p", "ol", "ul"):
+                say(self.wrapped(part.words, part.mark, " " * len(part.mark)))
             else:
-                mark = item[0] if item else ""
-                whole = " ".join(line.strip() for line in lines)[len(mark):]
-                say(self.wrapped(whole, mark, " " * len(mark)))
+                for line in part.lines:
+                    say("    " + (self.command(line) if part.kind == "console" else line))
 
 
 def line_of(line: str) -> str:
@@ -315,7 +276,7 @@ def tried(command: list[str], tape: bytes, most: int, **how: Any) -> tuple[bytes
     """What a command prints that is given a tape, and its status, which is none where it has printed too much or took
     too long."""
     process = begin(command, stdin=subprocess.PIPE, stdout=subprocess.PIPE, stderr=subprocess.DEVNULL, **how)
-    printed, has_ended = exchange(process, tape, most, SECONDS)
+    printed, has_ended = exchange(process, tape, most, judging.SECONDS)
     if not has_ended:
         process.kill()
     process.stdout.close()
@@ -325,15 +286,15 @@ def tried(command: list[str], tape: bytes, most: int, **how: Any) -> tuple[bytes
 
 def run_program(tape: bytes) -> tuple[bytes, str | None]:
     """What a program prints, and what is wrong with its end, if that is."""
-    printed, status = tried([program("trac"), "run", "--budget", str(STEPS)], tape, PRINTED,
+    printed, status = tried([program("trac"), "run", "--budget", str(judging.STEPS)], tape, judging.PRINTED,
                             preexec_fn=lambda: bound(MEMORY))
-    if len(printed) > PRINTED:
-        return printed, "it prints more than {:,} bytes".format(PRINTED)
+    if len(printed) > judging.PRINTED:
+        return printed, judging.WHY["long"]
     if status is None:
-        return printed, "it was stopped after {} seconds".format(SECONDS)
-    if status not in (0, *ENDINGS):
+        return printed, judging.WHY["late"]
+    if status and str(status) not in judging.WHY:
         raise Fault("trac run ended with status {}".format(status), max(status, 1))
-    return printed, ENDINGS.get(status)
+    return printed, judging.WHY.get(str(status))
 
 
 def first_doubt(name: str, tape: bytes, given: bytes) -> str | None:
@@ -341,7 +302,7 @@ def first_doubt(name: str, tape: bytes, given: bytes) -> str | None:
     with passed_on(given) as (after, give):
         # (the input is so short that it is given before any of it is read)
         give()
-        said, status = tried([program("trac-walk"), "--lint", "--input", after.name, OWN_INPUT], tape, PRINTED,
+        said, status = tried([program("trac-walk"), "--lint", "--input", after.name, OWN_INPUT], tape, judging.PRINTED,
                              pass_fds=[after.number])
     lines = said.decode("utf-8", "backslashreplace").splitlines()
     if status != 1 or not lines:
@@ -353,7 +314,7 @@ def difference(printed: bytes, wanted: bytes) -> str:
     """Where two texts begin to differ."""
     front = os.path.commonprefix([text.rstrip(b"\n").decode("utf-8", "replace") for text in (printed, wanted)])
     line, column = front.count("\n") + 1, len(front) - front.rfind("\n")
-    return "they differ from line {}, character {} on".format(line, column)
+    return judging.WHERE.replace("LINE", str(line)).replace("COLUMN", str(column))
 
 
 def check(course: Course, exercise: str, name: str) -> int:
@@ -369,7 +330,7 @@ def check(course: Course, exercise: str, name: str) -> int:
         if not fault and printed.rstrip(b"\n") == wanted.rstrip(b"\n"):
             say(what + "right")
             continue
-        say(what + (fault or "it prints something else"))
+        say(what + (fault or judging.WHY["other"]))
         show_run(given, wanted)
         say("  is printed\n" + indented(printed))
         if not fault and printed and wanted:

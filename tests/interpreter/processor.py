@@ -9,8 +9,8 @@ from __future__ import annotations
 
 import re
 import sys
-from collections.abc import Callable, Iterable, Sequence
-from typing import NamedTuple, Union
+from collections.abc import Callable, Sequence
+from typing import NamedTuple, Union, cast
 
 IDLE = b"#(ps,#(rs))"
 MOST_BYTES, MOST_MARKS, MOST_FORMS = 16777216, 1048576, 65536
@@ -62,9 +62,16 @@ def digits_of(value: int, count: int) -> bytes:
     return b"%0*o" % (count, value) if count else b""
 
 
-def bytes_of(items: Iterable[Item]) -> bytes:
+def has_gap(items: Sequence[Item]) -> bool:
+    """Whether there is a gap among the items of a form. (Some have millions.)"""
+    return Gap in set(map(type, items))
+
+
+def bytes_of(items: Sequence[Item]) -> bytes:
     """The bytes among the items of a form."""
-    return bytes(item for item in items if not isinstance(item, Gap))
+    if has_gap(items):
+        return bytes(item for item in items if not isinstance(item, Gap))
+    return bytes(cast("Sequence[int]", items))
 
 
 def shown(form: Form) -> bytes:
@@ -180,7 +187,7 @@ class Processor:
 
     def put(self, name: bytes, items: Sequence[Item], pointer: int = 0) -> None:
         """Puts a form under a name, in place of an earlier one."""
-        extent = sum(item.width if isinstance(item, Gap) else 1 for item in items)
+        extent = sum(item.width if isinstance(item, Gap) else 1 for item in items) if has_gap(items) else len(items)
         if extent > MOST_BYTES or len(name) > MOST_BYTES:
             raise TooLong
         self.forms = dict(self.forms)
@@ -331,6 +338,8 @@ class Processor:
 
     def do_cl(self) -> bytes:
         items, pointer = self.form()
+        if not has_gap(items):
+            return bytes_of(items[pointer:])
         return b"".join(self.argument(1 + item.number) if isinstance(item, Gap) else bytes([item])
                         for item in items[pointer:])
 
@@ -340,7 +349,7 @@ class Processor:
     def do_pf(self) -> None:
         self.output += shown(self.form())
 
-    def give(self, pointer: int, items: Iterable[Item]) -> bytes:
+    def give(self, pointer: int, items: Sequence[Item]) -> bytes:
         """The bytes of these items; the pointer goes to a place."""
         self.put(self.argument(1), self.form()[0], pointer)
         return bytes_of(items)

@@ -221,7 +221,7 @@ class Case(unittest.TestCase):
     def ends(self, what: str, run: Ran, output: bytes = b"", status: int = 0, error: bytes = b"",
              place: Place | None = None) -> None:
         """Checks of a run: how it ended, what it printed, and what it wrote to standard error."""
-        what = "{}: {}".format(what, run.command)
+        what = "{}: {}".format(what, run.command) if what else run.command
         self.status(what, run, status)
         self.same(what, run.output, output, place, "printed")
         self.same(what + ": standard error", run.error, error, None, "written to standard error")

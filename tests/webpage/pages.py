@@ -110,9 +110,8 @@ class Deeds(Waiting):
         # (the page writes the number anew when it shows the step)
         self.script("(() => {{ const box = document.getElementById('place'); box.value = ' {}'; "
                     "box.dispatchEvent(new Event('change')); }})()".format(step))
-        self.until("document.getElementById('slider').value === '{}' "
-                   "&& document.getElementById('place').value === '{:,}'".format(
-            step, int(step)), "it goes to step {}".format(step))
+        shown = "document.getElementById('slider').value === '{}' && document.getElementById('place').value === '{:,}'"
+        self.until(shown.format(step, int(step)), "it goes to step {}".format(step))
 
     def at(self, step: int | str, what: str = "it goes") -> None:
         """Waits until the page is at a step."""

@@ -1,7 +1,7 @@
 " Vim syntax file: TRAC T-64.
 "
-" An apostrophe ends a text, with all calls and parentheses that it has begun. (Where `cm` has chosen another character for
-" that, colours may be wrong after an apostrophe.)
+" An apostrophe ends a text, with all calls and parentheses that it has begun. (Where `cm` has chosen another character
+" for that, colours may be wrong after an apostrophe.)
 if exists("b:current_syntax")
   finish
 endif
@@ -22,7 +22,8 @@ syntax match tracStray ")"
 syntax region tracProtected matchgroup=tracParenthesis start="(" end=")" end="'"me=s-1 contains=@tracBegun
 
 " active and neutral calls; those of them whose arguments are octal strings
-syntax region tracCall matchgroup=tracActiveMark start="#(" end=")" end="'"me=s-1 contains=@tracBegun,@tracWords,tracDecimal
+syntax region tracCall matchgroup=tracActiveMark start="#(" end=")" end="'"me=s-1
+      \ contains=@tracBegun,@tracWords,tracDecimal
 syntax region tracNeutral matchgroup=tracNeutralMark start="##(" end=")" end="'"me=s-1
       \ contains=@tracBegun,@tracWords,tracDecimal
 syntax region tracBits matchgroup=tracActiveMark start="#(\ze\%(bu\|bi\|bc\|bs\|br\)[,)]" end=")" end="'"me=s-1
@@ -39,7 +40,8 @@ syntax match tracForm "\%(#(\%(ds\|dd\|ss\|cl\|cr\|cs\|cc\|cn\|in\|pf\|sb\|fb\|e
 syntax match tracUnknown "\%(#(\)\@2<=[^,()#']\+\ze[,)]" contained
 syntax match tracPrimitive "\%(#(\)\@2<=\%(ps\|rs\|rc\|cm\|hl\|tn\|tf\|eq\|gr\|ad\|su\|ml\|dv\)\ze[,)]" contained
 syntax match tracPrimitive "\%(#(\)\@2<=\%(bu\|bi\|bc\|bs\|br\)\ze[,)]" contained
-syntax match tracPrimitive "\%(#(\)\@2<=\%(ds\|dd\|da\|ss\|cl\|cr\|cs\|cc\|cn\|in\|ln\|pf\|sb\|fb\|eb\)\ze[,)]" contained
+syntax match tracPrimitive "\%(#(\)\@2<=\%(ds\|dd\|da\|ss\|cl\|cr\|cs\|cc\|cn\|in\|ln\)\ze[,)]" contained
+syntax match tracPrimitive "\%(#(\)\@2<=\%(pf\|sb\|fb\|eb\)\ze[,)]" contained
 
 highlight default link tracActiveMark Statement
 highlight default link tracNeutralMark PreProc

@@ -1,0 +1,40 @@
+"""What is seen of a command at a pseudo-terminal, where it is typed to."""
+from __future__ import annotations
+
+import os
+import pty
+import re
+import select
+from collections.abc import Iterable, Sequence
+
+from support.cases import Word, patience
+
+# What the line editor tells of pasted text, which nobody sees.
+PASTING = re.compile(rb"\x1b\[\?2004[hl]\r?")
+PROMPT = re.compile(rb"(> |\.\. )$")
+
+
+def at_terminal(words: Sequence[Word], typed: Iterable[str | bytes], **environment: str) -> tuple[str, int]:
+    """What is seen where each of these is typed at a prompt, and the status; that of a signal where nothing comes."""
+    pid, terminal = pty.fork()
+    if pid == 0:
+        os.environ.update(TERM="dumb", COLUMNS="80", **environment)
+        os.execv(words[0], tuple(words))
+    seen, since, typed = b"", 0, list(typed)
+    while True:
+        if typed and PROMPT.search(seen[since:]):
+            text = typed.pop(0)
+            os.write(terminal, text if isinstance(text, bytes) else text.encode())
+            since = len(seen)
+        if not select.select([terminal], [], [], patience())[0]:
+            os.kill(pid, 9)
+            break
+        try:
+            data = os.read(terminal, 65536)
+        except OSError:
+            data = b""
+        if not data:
+            break
+        seen += PASTING.sub(b"", data)
+    os.close(terminal)
+    return seen.decode("utf-8", "replace").replace("\r\n", "\n"), os.waitstatus_to_exitcode(os.waitpid(pid, 0)[1])
