@@ -13,8 +13,8 @@ from subprocess import PIPE
 from trac_tools import lines
 from trac_tools.tool import begin, program, tell, write
 
-# A prompt of the program, and what may become one.
-PROMPT, MAY_BE = re.compile(rb"([0-9]+)> "), re.compile(rb"[0-9]*>? ?")
+# A prompt of the program, and what may become one: of a number of 64 bits. (A long line of digits is none.)
+PROMPT, MAY_BE = re.compile(rb"([0-9]{1,20})> "), re.compile(rb"[0-9]{0,20}>? ?")
 # What a line of the walk may begin with, and the primitives.
 COMMANDS = "s b n N o O u r d D m w y l g i e p f t h q where bt help quit exit".split()
 PRIMITIVES = (
