@@ -28,7 +28,7 @@ from trac_tools.tool import Fault, Process, ShowVersion, Words, begin, beside, p
 # room for the program itself, and for what the heap of the C library cannot use again.
 MEMORY, ROOM = 1_073_741_824, 67_108_864
 # A word of --memory, how many bytes each unit counts, and what it may say.
-SIZE, UNITS = re.compile(r"\+?([0-9]{1,40})([KMG]?)", re.I), {"": 1, "K": 1 << 10, "M": 1 << 20, "G": 1 << 30}
+SIZE, UNITS = re.compile(r"\+?([0-9]{1,40})([KMG]?)", re.A | re.I), {"": 1, "K": 1 << 10, "M": 1 << 20, "G": 1 << 30}
 LEAST, MOST = 1 << 20, 1 << 40
 # The walk may keep steps of so many bytes of its memory: a fourth, as by itself it keeps 256 MiB.
 KEPT = 4
