@@ -3,6 +3,9 @@
 const LINE_LIMIT = 4096, LINE_FEED = 10;
 // So many bytes of a line show that it is too long, also if the last of them is a carriage return before its end.
 const LONGEST_LINE = LINE_LIMIT + 2;
+// A walk passes over a line of so many bytes, and ends at one of more.
+const LONGEST_PASSED = 2 ** 32;
+const ENDLESS = "this line has more than 4,294,967,296 bytes: it ends the walk\n";
 
 // A dialogue of lines. `ask` answers lines, the first of all; `hasQuit` says whether one of them ended it.
 class Dialogue {
@@ -106,7 +109,19 @@ class Walk extends Dialogue {
     super();
     this.written = new Written((bytes) => streams.write(bytes));
     Object.assign(this, { engine, program, options, streams });
+    // how long the line is that comes
+    this.size = 0;
     if (options.prompt) this.prompt(Buffer.alloc(0));
+  }
+
+  take(bytes) {
+    super.take(bytes);
+    const whole = bytes.lastIndexOf(LINE_FEED) + 1;
+    this.size = bytes.length - whole + (whole > 0 ? 0 : this.size);
+    if (this.size <= LONGEST_PASSED) return;
+    super.answer(this.input.all(), false);
+    this.streams.write(Buffer.from(ENDLESS));
+    throw endOf(SPENT);
   }
 
   ask(lines, told = this.written.show) {

@@ -34,6 +34,8 @@ const COMMANDS = {
     },
   },
 };
+// (what every object has is no option)
+for (const { options } of Object.values(COMMANDS)) Object.setPrototypeOf(options, null);
 
 // The number of 64 bits that a word says, which may have a plus, or why it says none.
 function wholeIn(word) {

@@ -3,6 +3,7 @@
 const COMMANDS_OF_TRAC = ["run", "debug", "help"];
 const RUN_TIP = "to run the program in FILE, put < before its name: trac run < FILE";
 const COMMAND_TIPS = {
+  __proto__: null,
   walk: "to walk through the program in FILE at a terminal: trac walk FILE",
   page: "to make a page that runs the program in FILE: trac page FILE > run.html",
   version: "the version is shown by: trac --version",

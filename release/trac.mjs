@@ -2251,6 +2251,8 @@ const COMMANDS = {
     },
   },
 };
+// (what every object has is no option)
+for (const { options } of Object.values(COMMANDS)) Object.setPrototypeOf(options, null);
 
 // The number of 64 bits that a word says, which may have a plus, or why it says none.
 function wholeIn(word) {
@@ -2449,6 +2451,7 @@ class Words {
 const COMMANDS_OF_TRAC = ["run", "debug", "help"];
 const RUN_TIP = "to run the program in FILE, put < before its name: trac run < FILE";
 const COMMAND_TIPS = {
+  __proto__: null,
   walk: "to walk through the program in FILE at a terminal: trac walk FILE",
   page: "to make a page that runs the program in FILE: trac page FILE > run.html",
   version: "the version is shown by: trac --version",
@@ -2699,6 +2702,9 @@ class Run {
 const LINE_LIMIT = 4096, LINE_FEED = 10;
 // So many bytes of a line show that it is too long, also if the last of them is a carriage return before its end.
 const LONGEST_LINE = LINE_LIMIT + 2;
+// A walk passes over a line of so many bytes, and ends at one of more.
+const LONGEST_PASSED = 2 ** 32;
+const ENDLESS = "this line has more than 4,294,967,296 bytes: it ends the walk\n";
 
 // A dialogue of lines. `ask` answers lines, the first of all; `hasQuit` says whether one of them ended it.
 class Dialogue {
@@ -2802,7 +2808,19 @@ class Walk extends Dialogue {
     super();
     this.written = new Written((bytes) => streams.write(bytes));
     Object.assign(this, { engine, program, options, streams });
+    // how long the line is that comes
+    this.size = 0;
     if (options.prompt) this.prompt(Buffer.alloc(0));
+  }
+
+  take(bytes) {
+    super.take(bytes);
+    const whole = bytes.lastIndexOf(LINE_FEED) + 1;
+    this.size = bytes.length - whole + (whole > 0 ? 0 : this.size);
+    if (this.size <= LONGEST_PASSED) return;
+    super.answer(this.input.all(), false);
+    this.streams.write(Buffer.from(ENDLESS));
+    throw endOf(SPENT);
   }
 
   ask(lines, told = this.written.show) {

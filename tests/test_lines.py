@@ -135,6 +135,13 @@ class Words(Case):
         names = sorted({name for row in rows for name in re.findall("`([a-z]{2})`", row)})
         self.same("they are those of docs/language.md", "\n".join(sorted(walk.PRIMITIVES)), "\n".join(names))
 
+    def test_prompts(self) -> None:
+        """A number of 64 bits may be a prompt; a longer line of digits is shown as it comes."""
+        most = b"18446744073709551615"
+        for text, may_be in (most, True), (most + b"> ", True), (b"", True), (most + b"0", False), (b"1" * 65536, False):
+            self.holds("{!r}".format(text[:30]), bool(walk.MAY_BE.fullmatch(text)) == may_be)
+        self.holds("a prompt", walk.PROMPT.fullmatch(most + b"> ") and not walk.PROMPT.fullmatch(most + b"0> "))
+
     def test_forms(self) -> None:
         """Names are found in a file alone: a pipe gives its bytes once."""
         file, pipe = scratch(self) / "it.trac", scratch(self) / "pipe"

@@ -38,6 +38,7 @@ run debug help rum debgu walk version page x first.trac - -- -h -V -x -hV --help
 --journal=1048577 --jornal --decimals --decimals=64 --decimals=65 --decimals= --decimals=+128
 --memory=5 --memory --keep --keep=0 --keep=256 --kep --prompt --prompt=1 --promt --steps --steps=5
 --steps=0 --step --input --input=nowhere --inputs 5 0 +5 65 nowhere -1 --=3 --- é \x1b[31m [x]
+--constructor --constructor=5 --__proto__ constructor __proto__ toString
 """.split()
 SEED, LINES = 78, 300
 # Runs a command, and says on standard error how many KiB it held at most.
@@ -279,9 +280,16 @@ class Streams(InNode):
             self.holds("it takes {} KiB".format(run.error), int(run.error) < 200_000)
 
     def test_input_without_end(self) -> None:
-        """A run ends as soon as it can, and a text that grows without end passes the limit."""
+        """A run ends as soon as it can, a text that grows without end passes the limit, and a line without end ends a
+        walk."""
         run = subprocess_run(["run"], stdin=os.open("/dev/zero", os.O_RDONLY))
         self.ends("a text without end", run, b"", 4, b"trac: limit passed\n")
+        said = (b"not understood; h lists the commands\n"
+                b"this line has more than 4,294,967,296 bytes: it ends the walk\n")
+        words = ["walk", os.fspath(EXAMPLES / "first.trac")]
+        for front, options in (b"", []), (b"0> ", ["--prompt"]):
+            run = subprocess_run([*words, *options], stdin=os.open("/dev/zero", os.O_RDONLY))
+            self.ends("a line without end", run, front + said, 3, b"trac: budget spent\n")
 
     def test_answer_before_the_end(self) -> None:
         """What waits has written what it printed, and `hl` ends a run whose input may go on."""

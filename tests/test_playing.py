@@ -67,6 +67,8 @@ ROWS: tuple[tuple[str, bytes, list[str], list[str], str | None, int], ...] = (
      "  [possible values: 64, 128]\n\nFor more information, try '--help'.\n", 2),
     ("a size that is refused", b"A'", ["--memory", "9" * 30 + "G"], [], "error: invalid value '" + "9" * 30 + "G' for "
      "'--memory <SIZE>': it is not in 1M..=1024G\n\nFor more information, try '--help'.\n", 2),
+    ("a unit that is no letter", b"A'", ["--memory", "64\u212a"], [], "error: invalid value '64\\xe2\\x84\\xaa' for "
+     "'--memory <SIZE>': it is not in 1M..=1024G\n\nFor more information, try '--help'.\n", 2),
     ("a million steps before a question",
      COUNT % (b"#(ps,.)", 30000) + b"#(ps,(\nname? ))#(ps,(hello )##(rs))'", [],
      ["Ann'"], "." * 30000 + "\nname? > Ann'\nhello Ann", 0),

@@ -69,7 +69,7 @@ USUAL = tuple(ways[0] for ways in STREAMS)
 # How they may be too, each alone and all together: an input without end and without a line's, and folders.
 RARE = (("</dev/full", *USUAL[1:]), (USUAL[0], "1<.", USUAL[2]), (*USUAL[:2], "2<."), ("</dev/full", "1<.", "2<."))
 # The statuses of tools that read an input without end, where it is too long for them.
-ENDLESS = {"run": {4}, "play": {4}, "debug": {8}}
+ENDLESS = {"run": {4}, "play": {4}, "debug": {8}, "walk": {3}}
 
 
 def documented(words: list[str], streams: Sequence[str]) -> set[int]:
@@ -85,9 +85,7 @@ def documented(words: list[str], streams: Sequence[str]) -> set[int]:
 
 def ways_of(words: list[str]) -> list[tuple[str, ...]]:
     """How the streams of a tool are tried."""
-    # (a walk passes a line that is too long over, and so never ends one without an end)
-    rare = [ways for ways in RARE if (words[1], ways[0]) != ("walk", RARE[0][0])]
-    return [*itertools.product(*STREAMS), *rare]
+    return [*itertools.product(*STREAMS), *RARE]
 
 
 def in_parts(words: Sequence[str], file: Word, pause: float, given: str | pathlib.Path = os.devnull,
@@ -257,9 +255,11 @@ OF_NAMES = {**{name: TOOLS[name] for name in ("play", "page", "check", "debug", 
             "lint-input": ["trac", "lint", "--input", "FILE", "FILE"]}
 SLOW = (TOOLS["play"], TOOLS["page"], ["trac", "course", "check", "5.1", "FILE"], TOOLS["walk"])
 SIGNALS = "SIGTERM", "SIGHUP", "SIGINT"
-# Where the system gives less than a tool would take: of memory, though nobody may raise that bound, and no thread.
+# Where the system gives less than a tool would take: of memory, though nobody may raise that bound, and no thread. And
+# where whoever begins it leaves it more open files than select takes.
 BOUNDS = (("ulimit -v 900000", TOOLS["check"], 1), ("ulimit -v 900000", TOOLS["play"], 0),
-          ("ulimit -v 900000", TOOLS["page"], 0), ("ulimit -s 4000000; ulimit -v 2000000", TOOLS["play"], 5))
+          ("ulimit -v 900000", TOOLS["page"], 0), ("ulimit -s 4000000; ulimit -v 2000000", TOOLS["play"], 5),
+          ('ulimit -n 4096; for it in {3..1100}; do eval "exec $it</dev/null"; done', TOOLS["check"], 1))
 # By each fault as Python begins, the status of the tool.
 FAULTS = {"MemoryError": 5, "ImportError": 70, "SystemError": 70}
 
@@ -365,6 +365,20 @@ class Streams(Case):
         ended = self.ended(["bash", "-c", line, "-", source, place, *command(words, file)])
         self.holds("under ulimit -f 0: {}".format(ended), ended.returncode in documented(words, (USUAL[0], "full"))
                    and re.fullmatch(rb"[ -~]+\n", ended.stderr) and place.stat().st_size == 0)
+
+    @each(TOOLS)
+    def test_unread(self, name: str) -> None:
+        """A tool whose output nobody reads."""
+        words = TOOLS[name]
+        source, file = (self.room / (front + words[1]) for front in ("input-", "file-"))
+        ours, theirs = os.pipe()
+        os.close(ours)
+        with open(source, "rb") as given:
+            ended = subprocess.run(command(words, file), stdin=given, stdout=theirs, stderr=subprocess.PIPE,
+                                   timeout=patience(60), check=False)
+        os.close(theirs)
+        self.holds("where nobody reads: {}".format(ended), ended.returncode in documented(words, (USUAL[0], "unread"))
+                   and re.fullmatch(rb"([ -~]+\n)?", ended.stderr))
 
     @each(OF_NAMES)
     def test_names(self, name: str) -> None:

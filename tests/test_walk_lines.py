@@ -1,8 +1,9 @@
 """What trac-walk replies to single lines, how it shows what is large, and how it ends."""
 import os
 import re
+import subprocess
 
-from support.cases import WALK, lined, ran
+from support.cases import WALK, lined, patience, ran
 from test_walks import FACTORIAL, WAITS, Walker
 
 AB = b"AB'"
@@ -145,6 +146,15 @@ class Lines(Walker):
             run = self.walk(AB, b"x" * size + b"\nq\n", piece=65536)
             self.ends("a line of {} bytes".format(size), run, b"not understood; h lists the commands\n")
         self.status("any bytes", self.walk(AB, os.urandom(1000000)), 0)
+
+    def test_line_without_end(self) -> None:
+        """A line of 4 GiB ends the walk, and so one without end."""
+        said = b"this line has more than 4,294,967,296 bytes: it ends the walk\n"
+        with open("/dev/zero", "rb") as zeros:
+            run = subprocess.run([WALK, self.file(AB)], stdin=zeros, capture_output=True, timeout=patience(60))
+        ended = run.stdout, run.stderr, run.returncode
+        wanted = b"not understood; h lists the commands\n" + said, b"trac: budget spent\n", 3
+        self.holds("it ends so: {}".format(ended), ended == wanted)
 
     def fits(self, what: str, program: bytes, steps: int) -> None:
         """After so many steps the state fits the screen."""

@@ -210,7 +210,7 @@ export class Editor {
   // Writes a text at the end of the program, before the line ends there, as if it was typed.
   /** @param {string} text */
   write(text) {
-    const end = this.box.value.replace(/\s+$/, "").length;
+    const end = this.box.value.trimEnd().length;
     this.box.focus({ preventScroll: true });
     this.box.setSelectionRange(end, end);
     insertText(this.box, text);

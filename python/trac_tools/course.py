@@ -13,7 +13,6 @@ from __future__ import annotations
 import argparse
 import os
 import re
-import select
 import shutil
 import subprocess
 import textwrap
@@ -22,7 +21,7 @@ import time
 from trac_tools import judging, markdown
 from trac_tools.dialogue import bound, passed_on
 from trac_tools.tool import (Fault, Place, Process, ShowVersion, Words, begin, found, legible, printable, program,
-                             read_file, shown, write)
+                             read_file, ready, shown, write)
 
 TYPE_CHECKING = False
 if TYPE_CHECKING:
@@ -256,18 +255,18 @@ def exchange(process: Process, tape: bytes, most: int, seconds: float) -> tuple[
     while len(printed) <= most:
         if not left and not process.stdin.closed:
             process.stdin.close()
-        ready, free, _ = select.select([out], [to] if left else [], [], max(end - time.monotonic(), 0))
+        come, free = ready([out], [to] if left else [], max(end - time.monotonic(), 0))
         if free:
             try:
                 left = left[os.write(to, left):]
             except BrokenPipeError:
                 left = left[len(left):]
-        if out in ready:
+        if out in come:
             part = os.read(out, most + 1 - len(printed))
             if not part:
                 return printed, True
             printed += part
-        if not ready and not free:
+        if not come and not free:
             break
     return printed, False
 

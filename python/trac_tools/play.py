@@ -14,7 +14,6 @@ import argparse
 import contextlib
 import os
 import re
-import select
 import socket
 import sys
 import threading
@@ -22,13 +21,14 @@ from subprocess import PIPE
 
 from trac_tools import lines
 from trac_tools.dialogue import Debugger, NoMemory, bytes_of
-from trac_tools.tool import Fault, Process, ShowVersion, Words, begin, beside, program, read_file, shown, tell, write
+from trac_tools.tool import (Fault, Process, ShowVersion, Words, begin, beside, program, read_file, ready, shown, tell,
+                             write)
 
 # The most memory that the walk may take, where --memory does not say it. The system bounds it too: then with some
 # room for the program itself, and for what the heap of the C library cannot use again.
 MEMORY, ROOM = 1_073_741_824, 67_108_864
 # A word of --memory, how many bytes each unit counts, and what it may say.
-SIZE, UNITS = re.compile(r"\+?([0-9]{1,40})([KMG]?)", re.I), {"": 1, "K": 1 << 10, "M": 1 << 20, "G": 1 << 30}
+SIZE, UNITS = re.compile(r"\+?([0-9]{1,40})([KMG]?)", re.A | re.I), {"": 1, "K": 1 << 10, "M": 1 << 20, "G": 1 << 30}
 LEAST, MOST = 1 << 20, 1 << 40
 # The walk may keep steps of so many bytes of its memory: a fourth, as by itself it keeps 256 MiB.
 KEPT = 4
@@ -310,8 +310,8 @@ class Play:
         """Shows some more of what it prints, and gives it some more of what is to be given, or waits until a look has
         found its place. Returns whether it has not ended."""
         sends = [self.to] if self.sending and self.to is not None else []
-        ready, free, _ = select.select([self.out] + ([told] if told is not None else []), sends, [])
-        if self.out in ready:
+        come, free = ready([self.out] + ([told] if told is not None else []), sends)
+        if self.out in come:
             data = os.read(self.out, 65536)
             self.screen.show(data)
             return bool(data)
@@ -341,7 +341,7 @@ class Play:
 
     def is_behind(self) -> bool:
         """Whether it has not printed all that it prints up to the place that was found."""
-        return bool(self.sending or select.select([self.out], [], [], 0)[0]
+        return bool(self.sending or ready([self.out], [], 0)[0]
                     or self.look.walk.has_printed(self.screen.printed))
 
     def play(self) -> int:
@@ -399,7 +399,7 @@ def pass_on(words: list[str], tape: bytes) -> int:
         try:
             while data:
                 write(data, ours.fileno())
-                select.select([0], [], [])
+                ready([0], [])
                 data = os.read(0, 65536)
         except Fault:
             pass

@@ -97,6 +97,18 @@ def legible(words: str) -> str:
     return "".join(sign if sign.isprintable() else shown(sign.encode("utf-8", "surrogateescape")) for sign in words)
 
 
+def ready(reads: list[int], writes: list[int], seconds: float | None = None) -> tuple[list[int], list[int]]:
+    """Which of these streams can be read, and which written: once one can be, or after so many seconds. (Other than
+    select, poll takes a number of any size.)"""
+    poll = select.poll()
+    for stream in reads:
+        poll.register(stream, select.POLLIN)
+    for stream in writes:
+        poll.register(stream, select.POLLOUT)
+    found = {stream for stream, _ in poll.poll(None if seconds is None else 1000 * seconds)}
+    return [it for it in reads if it in found], [it for it in writes if it in found]
+
+
 def write(text: str | bytes | bytearray, to: int = 1) -> None:
     """Writes a whole text or bytes, also where a stream takes a part at a time. Where it takes no more, that is a fault
     of status 7: in no words, if only the reader is gone."""
@@ -105,7 +117,7 @@ def write(text: str | bytes | bytearray, to: int = 1) -> None:
         try:
             left = left[os.write(to, left):]
         except BlockingIOError:
-            select.select([], [to], [])
+            ready([], [to])
         except BrokenPipeError:
             raise Fault("", 7)
         except OSError as fault:

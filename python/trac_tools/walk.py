@@ -7,14 +7,13 @@ from __future__ import annotations
 import itertools
 import os
 import re
-import select
 from subprocess import PIPE
 
 from trac_tools import lines
-from trac_tools.tool import begin, program, tell, write
+from trac_tools.tool import begin, program, ready, tell, write
 
-# A prompt of the program, and what may become one.
-PROMPT, MAY_BE = re.compile(rb"([0-9]+)> "), re.compile(rb"[0-9]*>? ?")
+# A prompt of the program, and what may become one: of a number of 64 bits. (A long line of digits is none.)
+PROMPT, MAY_BE = re.compile(rb"([0-9]{1,20})> "), re.compile(rb"[0-9]{0,20}>? ?")
 # What a line of the walk may begin with, and the primitives.
 COMMANDS = "s b n N o O u r d D m w y l g i e p f t h q where bt help quit exit".split()
 PRIMITIVES = (
@@ -82,7 +81,7 @@ class Session:
             part = os.read(out, 65536)
             self.said += part
             front, _, last = self.said.rpartition(b"\n")
-            is_prompt = PROMPT.fullmatch(last) and not select.select([out], [], [], 0)[0]
+            is_prompt = PROMPT.fullmatch(last) and not ready([out], [], 0)[0]
             shown = len(self.said) - (len(last) if part and (is_prompt or MAY_BE.fullmatch(last)) else 0)
             write(self.said[:shown])
             self.said = self.said[shown:]

@@ -86,4 +86,12 @@ def check_find(page: Deeds) -> None:
           "it is met: {}".format(places or "by the browser's own search alone"))
 
 
-TRIED = rows(check_tab, check_leaving, check_find)
+def check_end_after_blanks(page: Deeds) -> None:
+    """The ' that a program lacks is put at its end at once, however many blanks stand within it."""
+    page.put("#(ps,hello)" + " " * 300_000 + "x\n")
+    page.run()
+    page.click("document.querySelector('#ending button')")
+    page.until(VALUE + ".endsWith(\"x'\\n\")", "it is there")
+
+
+TRIED = rows(check_tab, check_leaving, check_find, check_end_after_blanks)

@@ -1,13 +1,12 @@
 -- A dialogue, as one read or write follows another.
-use Rattle.std.proofs.Common.{◌≡◌, ◌⊎◌, inl, inr, ℕ, List, [], ◌++◌, sym, subst, ⊎_elim}
+use Rattle.std.proofs.Common.{◌≡◌, inl, inr, ℕ, List, [], ◌++◌, sym, subst, arith, ⊎_elim}
 use Rattle.std.specs.Prelude.{Option, Result, Ok, Err, IfErr}
-use Rattle.std.specs.Io.KnownBytes.{Keeps}
 use Rattle.trac_streams.specs.declared.ending.Ending.{Ending}
-use Rattle.trac_streams.specs.declared.ending.Ending.TheVariants.{Memory, Read}
-use Rattle.trac_streams.proofs.Known.{Appends-both, Appends-kept, Appends-nothing, Consumes-both, Consumes-nothing}
+use Rattle.trac_streams.specs.declared.ending.Ending.TheVariants.{Ended, Budget, Limit, Memory, Read, Write, NotUnderstood}
+use Rattle.trac_streams.proofs.Known.{Appends-both, Appends-nothing, Consumes-both, Consumes-nothing}
 use Rattle.trac_streams.specs.Pending.{Pending}
 use Rattle.trac_streams.specs.Reading.{Gathers, MayFail}
-use Rattle.trac_dialogue.specs.Talks.{Gives, IsFault, IsStop, Takes}
+use Rattle.trac_dialogue.specs.Talks.{Gives, IsFault, IsRestStop, IsStop, Takes, TakesFew}
 
 -- nothing is written
 pub gives_none : (a : Option (List ℕ)) → Gives a a
@@ -47,8 +46,27 @@ failed_takes a b old new e h = record { got = h.gathers.got; took = h.gathers.to
 pub failed_stops : (a b : Option (List ℕ)) (old new : Pending) (e : Ending) → MayFail a b old new e → IsStop e
 failed_stops a b old new e h = ⊎_elim (λ (is : e ≡ Memory). subst IsStop (sym is) tt) (λ (is : e ≡ Read). subst IsStop (sym is) tt) h.fault
 
+-- a line that was passed over took bytes, and what ends that ends a dialogue
+pub few_takes : (a b : Option (List ℕ)) → TakesFew a b → Takes a b
+few_takes a b h = record { got = h.got; took = h.took }
+
+pub takes_few_none : (a : Option (List ℕ)) → TakesFew a a
+takes_few_none a = record { got = []; took = Consumes-nothing a; few = omega arith }
+
+pub rest_stops : (a b : Option (List ℕ)) (e : Ending) → IsRestStop a b e → IsStop e
+rest_stops a b Ended h = absurd h
+rest_stops a b Budget h = tt
+rest_stops a b Limit h = h
+rest_stops a b Memory h = tt
+rest_stops a b Read h = tt
+rest_stops a b Write h = absurd h
+rest_stops a b (NotUnderstood line) h = h
+
 -- what the goals of `converse` use
 pub ruleset for_converse = (takes_none, gives_none, takes_both, gives_both)
 
 -- what the goals of `take_line` use
 pub ruleset for_take_line = (seek_takes, failed_takes, failed_stops, fault_stops, faults_stop, takes_none, gives_both)
+
+-- what the goals of `pass_line` use
+pub ruleset for_pass_line = (takes_few_none, fault_stops, faults_stop, rest_stops, gives_both)

@@ -1,13 +1,13 @@
 //! A dialogue with a person: lines from a reader, and what they ask for to a writer.
 ghost use Rattle.std.specs.Prelude.{◌≡◌, true, IfErr, OnOk};
 ghost use Rattle.std.specs.Io.KnownBytes.{IsAtEnd};
-ghost use Rattle.trac_dialogue.specs.Talks.{Gives, IsFault, IsStop, Takes};
+ghost use Rattle.trac_dialogue.specs.Talks.{Gives, IsFault, IsRestStop, IsStop, Takes, TakesFew};
 
 use crate::order::NOT_UNDERSTOOD;
 use std::alloc::{AllocError, Allocator};
 use std::io::{Read, Write};
 use trac_streams::writing::{flush, write_whole};
-use trac_streams::{Ending, LINE_LIMIT, Lines, NextLine, number_into};
+use trac_streams::{Ending, LINE_COUNT_LIMIT, LINE_LIMIT, Lines, NextLine, number_into};
 
 /// Who replies to lines, one after another.
 pub trait Replier<A: Allocator + Copy> {
@@ -24,21 +24,17 @@ pub trait Replier<A: Allocator + Copy> {
     ) -> Result<bool, AllocError>;
 }
 
-// How lines are taken.
-#[derive(Clone, Copy)]
-struct Taking {
-    prompt: bool,
-    // whether the rest of a line that is too long is passed over
-    passing: bool,
-}
+// What is said of a line that is too long to be passed over.
+const ENDLESS: &[u8] = b"this line has more than 4,294,967,296 bytes: it ends the walk\n";
 
 /// Reads lines, and writes the reply to each, which is flushed before more is read. A line of more than 4,096 bytes is
-/// said not to be understood, and nobody is asked. Before each line the replier's number is written if a prompt is
-/// wanted.
+/// said not to be understood, and passed over: nobody is asked. Before each line the replier's number is written if a
+/// prompt is wanted.
 ///
 /// It ends with `Ended` at the end of the lines, and if the replier ends it. It ends with `Read` if the reader fails,
 /// and with `Write` if the writer does. It ends with `Memory` if there is no memory for a line or for what is to be
-/// written. It ends with `Budget` after as many lines as a number of 64 bits counts.
+/// written. It ends with `Budget` at a line that goes on for more than 4,294,967,296 bytes, and after as many lines as
+/// a number of 64 bits counts.
 #[tactic(auto, using(crate::proofs::Talked::for_converse))]
 pub fn converse<R: Read, W: Write, A: Allocator + Copy, T: Replier<A>>(
     alloc: A,
@@ -52,12 +48,8 @@ pub fn converse<R: Read, W: Write, A: Allocator + Copy, T: Replier<A>>(
     ensures ends { IsStop result }
 {
     let mut lines = Lines::new(alloc);
-    let mut taking = Taking {
-        prompt,
-        passing: false,
-    };
     for turn in 0..u64::MAX {
-        match take_line(alloc, replier, &mut taking, &mut lines, input, output) {
+        match take_line(alloc, replier, prompt, &mut lines, input, output) {
             Ok(()) => {}
             Err(ending) => return ending,
         }
@@ -65,12 +57,12 @@ pub fn converse<R: Read, W: Write, A: Allocator + Copy, T: Replier<A>>(
     Ending::Budget
 }
 
-// Takes a line, or as much as is read of one that is too long.
+// Takes a line.
 #[tactic(auto, using(crate::proofs::Talked::for_take_line))]
 fn take_line<R: Read, W: Write, A: Allocator + Copy, T: Replier<A>>(
     alloc: A,
     replier: &mut T,
-    taking: &mut Taking,
+    prompt: bool,
     lines: &mut Lines<A>,
     input: &mut R,
     output: &mut W,
@@ -81,23 +73,15 @@ fn take_line<R: Read, W: Write, A: Allocator + Copy, T: Replier<A>>(
     ensures at_end { OnOk result (lines.new.ended ≡ true → IsAtEnd (R.remaining input.new)) }
     ensures stopped { IfErr result IsStop }
 {
-    if let Err(ending) = ask(alloc, replier.number(), *taking, output) {
+    if let Err(ending) = ask(alloc, replier.number(), prompt, output) {
         return Err(ending);
     }
     match lines.seek(input) {
         Err(ending) => Err(ending),
         Ok(NextLine::End) => Err(Ending::Ended),
-        Ok(NextLine::TooLong) => {
-            lines.pass_all();
-            // A line that is too long comes in parts. Only the first part is answered: it is not understood.
-            if taking.passing {
-                return Ok(());
-            }
-            taking.passing = true;
-            write_text(output, Vec::from_slice(alloc, NOT_UNDERSTOOD))
-        }
+        Ok(NextLine::TooLong) => pass_line(lines, input, output),
         Ok(NextLine::Line { len, whole }) => {
-            let replied = answer(alloc, replier, taking, lines.front(len), output);
+            let replied = answer(alloc, replier, lines.front(len), output);
             lines.pass(whole);
             replied
         }
@@ -105,18 +89,73 @@ fn take_line<R: Read, W: Write, A: Allocator + Copy, T: Replier<A>>(
     }
 }
 
+// Says that a line is not understood, which is too long and of which some is read, and passes it over.
+#[tactic(auto, using(crate::proofs::Talked::for_pass_line))]
+fn pass_line<R: Read, W: Write, A: Allocator + Copy>(
+    lines: &mut Lines<A>,
+    input: &mut R,
+    output: &mut W,
+) -> Result<(), Ending>
+    requires { lines.old.ended ≡ true → IsAtEnd (R.remaining input.old) }
+    ensures took { TakesFew (R.remaining input.old) (R.remaining input.new) }
+    ensures gave { Gives (W.contents output.old) (W.contents output.new) }
+    ensures at_end { OnOk result (lines.new.ended ≡ true → IsAtEnd (R.remaining input.new)) }
+    ensures stopped { IfErr result IsStop }
+{
+    if let Err(ending) = say(output, NOT_UNDERSTOOD) {
+        return Err(ending);
+    }
+    match pass_rest(lines, input) {
+        Err(Ending::Budget) => match say(output, ENDLESS) {
+            Ok(()) => Err(Ending::Budget),
+            Err(ending) => Err(ending),
+        },
+        passed => passed,
+    }
+}
+
+// Passes over a line that is too long, of which some is read. It has parts that are longer than a line may be, and no
+// more of them are read than there may be lines.
+//
+// `Ending::Budget`: it goes on after these. `Ending::Read`, `Ending::Memory`: as of `Lines::seek`.
+#[tactic(auto, using(crate::proofs::Passed::for_pass_rest))]
+fn pass_rest<R: Read, A: Allocator + Copy>(
+    lines: &mut Lines<A>,
+    input: &mut R,
+) -> Result<(), Ending>
+    requires { lines.old.ended ≡ true → IsAtEnd (R.remaining input.old) }
+    ensures took { TakesFew (R.remaining input.old) (R.remaining input.new) }
+    ensures at_end { OnOk result (lines.new.ended ≡ true → IsAtEnd (R.remaining input.new)) }
+    ensures stopped { IfErr result (IsRestStop (R.remaining input.old) (R.remaining input.new)) }
+{
+    for part in 0..LINE_COUNT_LIMIT {
+        lines.pass_all();
+        match lines.seek(input) {
+            Err(ending) => return Err(ending),
+            Ok(NextLine::TooLong) => {}
+            Ok(NextLine::Line { len: _, whole }) => {
+                lines.pass(whole);
+                return Ok(());
+            }
+            Ok(NextLine::End) => return Ok(()),
+            Ok(NextLine::Part) => unreachable!(),
+        }
+    }
+    Err(Ending::Budget)
+}
+
 // Writes a number as a prompt before a line, if one is wanted.
 fn ask<W: Write, A: Allocator + Copy>(
     alloc: A,
     number: u64,
-    taking: Taking,
+    prompt: bool,
     output: &mut W,
 ) -> Result<(), Ending>
     ensures gave { Gives (W.contents output.old) (W.contents output.new) }
     ensures fault { IfErr result IsFault }
 {
-    if taking.prompt && !taking.passing {
-        return write_text(output, prompt(alloc, number));
+    if prompt {
+        return write_text(output, prompt_of(alloc, number));
     }
     Ok(())
 }
@@ -132,35 +171,37 @@ fn write_text<W: Write, A: Allocator>(
     let Ok(text) = text else {
         return Err(Ending::Memory);
     };
-    write_whole(output, text.as_slice())?;
+    say(output, text.as_slice())
+}
+
+// Writes and flushes a text.
+fn say<W: Write>(output: &mut W, text: &[u8]) -> Result<(), Ending>
+    ensures gave { Gives (W.contents output.old) (W.contents output.new) }
+    ensures fault { IfErr result IsFault }
+{
+    write_whole(output, text)?;
     flush(output)
 }
 
 // A number, as a prompt.
-fn prompt<A: Allocator + Copy>(alloc: A, number: u64) -> Result<Vec<u8, A>, AllocError> {
+fn prompt_of<A: Allocator + Copy>(alloc: A, number: u64) -> Result<Vec<u8, A>, AllocError> {
     let mut text = Vec::new(alloc);
     number_into(number, &mut text)?;
     text.extend_from_slice(b"> ")?;
     Ok(text)
 }
 
-// Does what a line asks for, and writes what is to be said of it. The rest of a line that was too
-// long asks for nothing.
+// Does what a line asks for, and writes what is to be said of it.
 #[tactic(auto, using(crate::proofs::Talked::faults_stop, crate::proofs::Talked::gives_none))]
 fn answer<W: Write, A: Allocator + Copy, T: Replier<A>>(
     alloc: A,
     replier: &mut T,
-    taking: &mut Taking,
     line: &[u8],
     output: &mut W,
 ) -> Result<(), Ending>
     ensures gave { Gives (W.contents output.old) (W.contents output.new) }
     ensures stopped { IfErr result IsStop }
 {
-    if taking.passing {
-        taking.passing = false;
-        return Ok(());
-    }
     match reply_to(alloc, replier, line) {
         Ok(Some(text)) => write_text(output, Ok(text)),
         Ok(None) => Err(Ending::Ended),
