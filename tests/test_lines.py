@@ -138,7 +138,8 @@ class Words(Case):
     def test_prompts(self) -> None:
         """A number of 64 bits may be a prompt; a longer line of digits is shown as it comes."""
         most = b"18446744073709551615"
-        for text, may_be in (most, True), (most + b"> ", True), (b"", True), (most + b"0", False), (b"1" * 65536, False):
+        rows = (most, True), (most + b"> ", True), (b"", True), (most + b"0", False), (b"1" * 65536, False)
+        for text, may_be in rows:
             self.holds("{!r}".format(text[:30]), bool(walk.MAY_BE.fullmatch(text)) == may_be)
         self.holds("a prompt", walk.PROMPT.fullmatch(most + b"> ") and not walk.PROMPT.fullmatch(most + b"0> "))
 
