@@ -1,5 +1,5 @@
 //! The command line: the options that its words ask for, lines that ask for help, and lines that are not understood.
-//! What these are shown is tested in `tests/endings`.
+//! What these are shown is tested in `tests/test_endings.py`.
 use std::alloc::{AllocError, Global};
 use std::test::Fail;
 use trac_rules::width::Width;

@@ -2,8 +2,8 @@
 //! for mistakes that are often made.
 
 /// What `--version` shows after the program's name: the program's version, and the logic in which it is proved, as the
-/// end of what `rt version` prints. No crate can ask for that line, so it is written here, and `tests/endings` compares
-/// the two: with another logic this text is changed too.
+/// end of what `rt version` prints. No crate can ask for that line, so it is written here, and `tests/test_endings.py`
+/// compares the two: with another logic this text is changed too.
 pub const VERSION: &str = "1.7.0 (logic dac8208d650f15bf)";
 
 /// What stands at the end of the help of `trac`.
