@@ -1,6 +1,6 @@
 -- A session of the debugger, line by line.
 use Rattle.std.proofs.Common.{◌≡◌, ℕ, ◌+◌, ◌-◌, ◌*◌, ◌==◌, ◌<◌, ◌≤◌, not, Bool, true, false, List, [], ◌∷◌, ◌++◌, length, take, drop, refl, sym, ap, subst, ◌∙◌, arith, inl, inr, ⊎_elim}
-use Rattle.std.specs.Prelude.{Option, None, Some, Result, Ok, Err, IfErr, OnErr, IsOkUnless, nat_le, if◌then◌else◌}
+use Rattle.std.specs.Prelude.{◌⊎◌, Option, None, Some, Result, Ok, Err, IfErr, OnErr, IsOkUnless, nat_le, if◌then◌else◌}
 use Rattle.std.specs.Io.KnownBytes.{Appends, Consumes, IsAtEnd, Keeps}
 use Rattle.std.proofs.lemmas.Bool.{false≢true, cond-true, cond-false, le-leb, lt-leb, cases_lt}
 use Rattle.std.proofs.lemmas.Bool.Decides.{nat_tests}
@@ -21,8 +21,8 @@ use Rattle.trac_rules.specs.declared.byte.TheConstants.{LINE_FEED}
 use Rattle.trac_streams.specs.Lines.{feed_count, lines_of, is_within}
 use Rattle.trac_debug.specs.Commands.{LineCommand, Forward, Back, Until, Return, Print, Commit, Quit, command_of}
 use Rattle.trac_debug.specs.Replies.{Replies, is_walk}
-use Rattle.trac_debug.specs.Debugging.{Turn, Passes, Does, Ends, Takes, TurnLeads, LeadsTo, MayWrite, MayFollow, FollowsFirst, MayShow, RepliesToFirst, ready, shown_where, turn_at, turn_of}
-use Rattle.trac_debug.specs.Debugs.{UnlessFault, UnlessWrite, IsReading, BeginsWith, FaultsAt, Debugs, DebugsBy, MOST_READ, IsReady, IsNotReplied, ReadsInLines, Settles, Stops, Advances, Halts}
+use Rattle.trac_debug.specs.Debugging.{Turn, Passes, Does, Ends, Takes, TurnLeads, LeadsTo, MayWrite, MayFollow, FollowsFirst, FollowsInPart, MayShow, RepliesInPart, RepliesToFirst, ready, shown_where, turn_at, turn_of}
+use Rattle.trac_debug.specs.Debugs.{OnWrite, UnlessFault, UnlessWrite, IsReading, BeginsWith, FaultsAt, Debugs, DebugsBy, MOST_READ, IsReady, IsNotReplied, ReadsInLines, Settles, Stops, Advances, Halts}
 use Rattle.trac_streams.specs.Pending.{Pending}
 use Rattle.trac_streams.specs.Tape.{MayRefuseTape}
 use Rattle.trac_streams.specs.Reading.{AreInLine, HELD_LIMIT, IsFront, Gathers, GathersBy, FailsBy, CameBy, end_reads, fault_reads}
@@ -116,22 +116,25 @@ turn_sound number (b ∷ bs) =
     (either_sound (is_within (b ∷ bs)) (turn_of number (command_of (b ∷ bs))) (Ends (NotUnderstood number)) (turn_of_sound number (command_of (b ∷ bs))) tt) tt
 
 -- nor does one that ends in a reply
-stop_sound : (turn : Turn) (p : PlainSession) (a b : Option (List ℕ)) (ending : Ending) → EndsSound turn → Stops turn p a b ending → fault_reads ending ≡ 0
-stop_sound Passes p a b ending sound stops = absurd stops
-stop_sound (Does command) p a b ending sound stops = ⊎_elim
-    (λ (none : (ending ≡ Memory) × (stops.front.written ≡ []) × (is_walk command ≡ false)). ap fault_reads none.0)
-    (λ (fault : ending ≡ Write). ap fault_reads fault)
+stop_sound : (turn : Turn) (p q : PlainSession) (a b : Option (List ℕ)) (ending : Ending) → EndsSound turn → Stops turn p q a b ending → fault_reads ending ≡ 0
+stop_sound Passes p q a b ending sound stops = absurd stops
+stop_sound (Does command) p q a b ending sound stops = ⊎_elim
+    (λ (none : (ending ≡ Memory) × (stops.front.written ≡ []) × (is_walk command ≡ false) × (q ≡ p)). ap fault_reads none.0)
+    (λ (fault : (ending ≡ Write) × (q ≡ stops.made)). ap fault_reads fault.0)
     stops.fault
-stop_sound (Ends stop) p a b ending sound stops = ap fault_reads stops.0 ∙ plain_sound stop sound
+stop_sound (Ends stop) p q a b ending sound stops = ap fault_reads stops.0 ∙ plain_sound stop sound
 
--- a turn in which the session ends: what was written is a front of what may be written, or, without a fault, all of it
-pub record IsStopped (turn : Turn) (p : PlainSession) (a b : Option (List ℕ)) (ending : Ending) : Type 0 where
+-- a turn in which the session ends: what was written is a front of what may be written, or, without a fault, all of it.
+-- The session stays, unless the writer failed: then the turn led on
+pub record IsStopped (turn : Turn) (p q : PlainSession) (a b : Option (List ℕ)) (ending : Ending) : Type 0 where
   pub written : List ℕ
   pub gave : Appends a b written
   pub front : (lines : List (List ℕ)) → (number : ℕ) →
       (text : List ℕ) × (stop : Ending) × Takes turn p (λ r rest. MayWrite lines number r rest stop) text stop × IsFrontOf written text
   pub whole : (lines : List (List ℕ)) → (number : ℕ) → UnlessFault ending (Takes turn p (λ r rest. MayWrite lines number r rest ending) written ending)
   pub nothing : UnlessWrite ending (written ≡ [])
+  pub stays : UnlessWrite ending (q ≡ p)
+  pub unwritten : (number : ℕ) (line : List ℕ) (later : List (List ℕ)) → turn ≡ turn_at number line → OnWrite ending (RepliesInPart (line ∷ later) number p written q)
   pub faults : (done number : ℕ) → (saw_end : Bool) → (read commands line : List ℕ) → (later : List (List ℕ)) → drop done (lines_of commands) ≡ line ∷ later → turn ≡ turn_at number line →
       FaultsAt ending done number saw_end read commands
 
@@ -167,6 +170,19 @@ both_unless ending One Fact Other go one fact = go one fact
 write_unless : (ending : Ending) (Fact : Type 0) → ending ≡ Write → UnlessWrite ending Fact
 write_unless ending Fact is = subst (λ e. UnlessWrite e Fact) (sym is) tt
 
+-- a fault of the writer is none of these
+on_plain : (ending : Ending) (Fact : Type 0) → IsPlain ending → OnWrite ending Fact
+on_plain Write Fact plain = absurd plain
+on_plain ending Fact plain = tt
+
+on_none : (ending : Ending) (Fact : Type 0) → (ending ≡ Memory) ⊎ (ending ≡ Read) → OnWrite ending Fact
+on_none ending Fact (inl lacks) = subst (λ e. OnWrite e Fact) (sym lacks) tt
+on_none ending Fact (inr fails) = subst (λ e. OnWrite e Fact) (sym fails) tt
+
+also_on : (ending : Ending) (Fact Other : Type 0) → (Fact → Other) → OnWrite ending Fact → OnWrite ending Other
+also_on Write Fact Other go fact = go fact
+also_on ending Fact Other go fact = tt
+
 wrote_nothing : (ending : Ending) (written : List ℕ) → written ≡ [] → UnlessWrite ending (written ≡ [])
 wrote_nothing ending written none = always_unless ending (written ≡ []) none
 
@@ -174,33 +190,58 @@ wrote_nothing ending written none = always_unless ending (written ≡ []) none
 front_before : (written text rest : List ℕ) → IsFrontOf written text → IsFrontOf written (text ++ rest)
 front_before written text rest front = front_of_front written text (text ++ rest) front (rest, refl)
 
-stopped : (turn : Turn) (p : PlainSession) (a b : Option (List ℕ)) (ending : Ending) → EndsSound turn → Stops turn p a b ending → IsStopped turn p a b ending
-stopped Passes p a b ending sound stops = absurd stops
-stopped (Does command) p a b ending sound stops =
+-- where a command is carried out whose reply is written in part
+in_part : (command : LineCommand) (number : ℕ) (line : List ℕ) (later : List (List ℕ)) (p q made : PlainSession) (part reply : List ℕ) → Does command ≡ turn_at number line → Replies command p reply made → q ≡ made →
+    IsFrontOf part reply → RepliesInPart (line ∷ later) number p part q
+in_part command number line later p q made part reply turn replies left front = (
+  line,
+  later,
+  reply,
+  refl,
+  subst (λ t. TurnLeads t p (λ r rest. (rest ≡ []) × (q ≡ r)) reply) turn (reply, made, [], replies, sym (append-nil reply), (refl, left)),
+  front,
+)
+
+stopped : (turn : Turn) (p q : PlainSession) (a b : Option (List ℕ)) (ending : Ending) → EndsSound turn → Stops turn p q a b ending → IsStopped turn p q a b ending
+stopped Passes p q a b ending sound stops = absurd stops
+stopped (Does command) p q a b ending sound stops =
     let written = stops.front.written in
     record {
       written = written;
       gave = stops.front.gave;
       front = λ lines number.
-          let more = some_text lines number stops.new in
-          (stops.reply ++ more.0, more.1, (stops.reply, stops.new, more.0, stops.replies, refl, more.2), front_before written stops.reply more.0 stops.front.front);
+          let more = some_text lines number stops.made in
+          (stops.reply ++ more.0, more.1, (stops.reply, stops.made, more.0, stops.replies, refl, more.2), front_before written stops.reply more.0 stops.front.front);
       whole = λ lines number. ⊎_elim
-          (λ (none : (ending ≡ Memory) × (written ≡ []) × (is_walk command ≡ false)). unless_Memory ending (Takes (Does command) p (λ r rest. MayWrite lines number r rest ending) written ending) none.0)
-          (λ (fault : ending ≡ Write). unless_Write ending (Takes (Does command) p (λ r rest. MayWrite lines number r rest ending) written ending) fault)
+          (λ (none : (ending ≡ Memory) × (written ≡ []) × (is_walk command ≡ false) × (q ≡ p)). unless_Memory ending (Takes (Does command) p (λ r rest. MayWrite lines number r rest ending) written ending) none.0)
+          (λ (fault : (ending ≡ Write) × (q ≡ stops.made)). unless_Write ending (Takes (Does command) p (λ r rest. MayWrite lines number r rest ending) written ending) fault.0)
           stops.fault;
       nothing = ⊎_elim
-          (λ (none : (ending ≡ Memory) × (written ≡ []) × (is_walk command ≡ false)). always_unless ending (written ≡ []) none.1)
-          (λ (fault : ending ≡ Write). write_unless ending (written ≡ []) fault)
+          (λ (none : (ending ≡ Memory) × (written ≡ []) × (is_walk command ≡ false) × (q ≡ p)). always_unless ending (written ≡ []) none.1)
+          (λ (fault : (ending ≡ Write) × (q ≡ stops.made)). write_unless ending (written ≡ []) fault.0)
+          stops.fault;
+      stays = ⊎_elim
+          (λ (none : (ending ≡ Memory) × (written ≡ []) × (is_walk command ≡ false) × (q ≡ p)). always_unless ending (q ≡ p) none.3)
+          (λ (fault : (ending ≡ Write) × (q ≡ stops.made)). write_unless ending (q ≡ p) fault.0)
+          stops.fault;
+      unwritten = λ number line later turn. ⊎_elim
+          (λ (none : (ending ≡ Memory) × (written ≡ []) × (is_walk command ≡ false) × (q ≡ p)). on_none ending (RepliesInPart (line ∷ later) number p written q) (inl none.0))
+          (λ (fault : (ending ≡ Write) × (q ≡ stops.made)).
+          subst (λ e. OnWrite e (RepliesInPart (line ∷ later) number p written q)) (sym fault.0)
+          (in_part command number line later p q stops.made written stops.reply turn stops.replies fault.1 stops.front.front))
           stops.fault;
       faults = λ done number saw_end read commands line later at turn. ⊎_elim
-          (λ (none : (ending ≡ Memory) × (written ≡ []) × (is_walk command ≡ false)).
+          (λ (none : (ending ≡ Memory) × (written ≡ []) × (is_walk command ≡ false) × (q ≡ p)).
           subst (λ e. FaultsAt e done number saw_end read commands) (sym none.0) (inr (line, later, command, at, sym turn, none.2)))
-          (λ (fault : ending ≡ Write). subst (λ e. FaultsAt e done number saw_end read commands) (sym fault) (line, later, command, at, sym turn, tt))
+          (λ (fault : (ending ≡ Write) × (q ≡ stops.made)). subst (λ e. FaultsAt e done number saw_end read commands) (sym fault.0) (line, later, command, at, sym turn, tt))
           stops.fault;
     }
-stopped (Ends stop) p a b ending sound stops = record {
+stopped (Ends stop) p q a b ending sound stops = record {
   written = [];
   gave = Appends-none a b stops.1;
+  stays = always_unless ending (q ≡ p) stops.2;
+  unwritten = λ number line later turn.
+      subst (λ e. OnWrite e (RepliesInPart (line ∷ later) number p [] q)) (sym stops.0) (on_plain stop (RepliesInPart (line ∷ later) number p [] q) sound);
   front = λ lines number. ([], stop, (refl, refl), front_of_nothing []);
   whole = λ lines number. unless_always ending (Takes (Ends stop) p (λ r rest. MayWrite lines number r rest ending) [] ending) (refl, stops.0);
   nothing = wrote_nothing ending [] refl;
@@ -257,13 +298,14 @@ advances in_old in_new out_old out_new reads_old reads_new number old mid new p 
     }
 
 -- the session ends so, with this written: what the bytes that are held say of that
-halts_by : {in_old in_new out_old out_new : Option (List ℕ)} (reads_old reads_new number : ℕ) (old mid : Pending) (p : PlainSession) (written : List ℕ) (ending : Ending) → fault_reads ending ≡ 0 →
-    GathersBy in_old in_new reads_old reads_new old mid → Appends out_old out_new written → UnlessWrite ending (written ≡ []) →
+halts_by : {in_old in_new out_old out_new : Option (List ℕ)} (reads_old reads_new number : ℕ) (old mid : Pending) (p q : PlainSession) (written : List ℕ) (ending : Ending) → fault_reads ending ≡ 0 →
+    GathersBy in_old in_new reads_old reads_new old mid → Appends out_old out_new written → UnlessWrite ending (written ≡ []) → UnlessWrite ending (q ≡ p) →
+    ((more : List ℕ) → (mid.ended ≡ true → more ≡ []) → OnWrite ending (RepliesInPart (lines_of (mid.bytes ++ more)) number p written q)) →
     ((more : List ℕ) → (mid.ended ≡ true → more ≡ []) → (text : List ℕ) × (stop : Ending) × MayWrite (lines_of (mid.bytes ++ more)) number p text stop × IsFrontOf written text) →
     ((more : List ℕ) → (mid.ended ≡ true → more ≡ []) → UnlessFault ending (MayWrite (lines_of (mid.bytes ++ more)) number p written ending)) →
     ((more : List ℕ) → (mid.ended ≡ true → more ≡ []) → FaultsAt ending 0 number mid.ended mid.bytes (mid.bytes ++ more)) →
-    Halts in_old in_new out_old out_new reads_old reads_new number old p ending
-halts_by {in_old} {in_new} {out_old} {out_new} reads_old reads_new number old mid p written ending sound by gave nothing front whole faults =
+    Halts in_old in_new out_old out_new reads_old reads_new number old p q ending
+halts_by {in_old} {in_new} {out_old} {out_new} reads_old reads_new number old mid p q written ending sound by gave nothing stays unwritten front whole faults =
     let read : Gathers in_old in_new old mid = by.gathers in
     record {
       got = read.got;
@@ -279,6 +321,9 @@ halts_by {in_old} {in_new} {out_old} {out_new} reads_old reads_new number old mi
           (some.0, some.1, subst (λ text. MayWrite (lines_of text) number p some.0 some.1) (read_on old mid read.got more read.bytes) some.2, some.3);
       whole = λ more none. subst (λ text. UnlessFault ending (MayWrite (lines_of text) number p written ending)) (read_on old mid read.got more read.bytes) (whole more none);
       nothing = nothing;
+      stays = stays;
+      unwritten = λ more none.
+          subst (λ text. OnWrite ending (RepliesInPart (lines_of text) number p written q)) (read_on old mid read.got more read.bytes) (unwritten more none);
       faults = λ more none.
           subst (λ text. FaultsAt ending 0 number mid.ended (old.bytes ++ read.got) text) (read_on old mid read.got more read.bytes)
           (subst (λ read_. FaultsAt ending 0 number mid.ended read_ (mid.bytes ++ more)) read.bytes (faults more none));
@@ -289,13 +334,15 @@ halts_by {in_old} {in_new} {out_old} {out_new} reads_old reads_new number old mi
     }
 
 -- the session ends in a line
-pub halts_in : (in_old in_new out_old out_new : Option (List ℕ)) (reads_old reads_new number : ℕ) (old mid : Pending) (p : PlainSession) (len whole : ℕ) (ending : Ending) →
-    GathersBy in_old in_new reads_old reads_new old mid → IsFront mid.bytes mid.ended (Line len whole) → Stops (turn_at number (take len mid.bytes)) p out_old out_new ending →
-    Halts in_old in_new out_old out_new reads_old reads_new number old p ending
-halts_in in_old in_new out_old out_new reads_old reads_new number old mid p len whole ending by front stops =
+pub halts_in : (in_old in_new out_old out_new : Option (List ℕ)) (reads_old reads_new number : ℕ) (old mid : Pending) (p q : PlainSession) (len whole : ℕ) (ending : Ending) →
+    GathersBy in_old in_new reads_old reads_new old mid → IsFront mid.bytes mid.ended (Line len whole) → Stops (turn_at number (take len mid.bytes)) p q out_old out_new ending →
+    Halts in_old in_new out_old out_new reads_old reads_new number old p q ending
+halts_in in_old in_new out_old out_new reads_old reads_new number old mid p q len whole ending by front stops =
     let line : List ℕ = take len mid.bytes in
-    let turn : IsStopped (turn_at number line) p out_old out_new ending = stopped (turn_at number line) p out_old out_new ending (turn_sound number line) stops in
-    halts_by reads_old reads_new number old mid p turn.written ending (stop_sound (turn_at number line) p out_old out_new ending (turn_sound number line) stops) by turn.gave turn.nothing
+    let turn : IsStopped (turn_at number line) p q out_old out_new ending = stopped (turn_at number line) p q out_old out_new ending (turn_sound number line) stops in
+    halts_by reads_old reads_new number old mid p q turn.written ending (stop_sound (turn_at number line) p q out_old out_new ending (turn_sound number line) stops) by turn.gave turn.nothing turn.stays
+    (λ more none.
+    subst (λ ls. OnWrite ending (RepliesInPart ls number p turn.written q)) (sym (front.2 more none)) (turn.unwritten number line (lines_of (drop whole mid.bytes ++ more)) refl))
     (λ more none.
     let some = turn.front (lines_of (drop whole mid.bytes ++ more)) (number + 1) in
     (some.0, some.1, subst (λ ls. MayWrite ls number p some.0 some.1) (sym (front.2 more none)) some.2, some.3))
@@ -305,9 +352,10 @@ halts_in in_old in_new out_old out_new reads_old reads_new number old mid p len 
 -- the session ends before a line, and nothing is written: the lines, whatever more there are, say that it ends so
 pub halts_before : (in_old in_new output : Option (List ℕ)) (reads_old reads_new number : ℕ) (old mid : Pending) (p : PlainSession) (ending : Ending) → IsPlain ending →
     GathersBy in_old in_new reads_old reads_new old mid →
-    ((more : List ℕ) → (mid.ended ≡ true → more ≡ []) → MayWrite (lines_of (mid.bytes ++ more)) number p [] ending) → Halts in_old in_new output output reads_old reads_new number old p ending
+    ((more : List ℕ) → (mid.ended ≡ true → more ≡ []) → MayWrite (lines_of (mid.bytes ++ more)) number p [] ending) → Halts in_old in_new output output reads_old reads_new number old p p ending
 halts_before in_old in_new output reads_old reads_new number old mid p ending plain by says =
-    halts_by reads_old reads_new number old mid p [] ending (plain_sound ending plain) by (Appends-nothing output) (wrote_nothing ending [] refl)
+    halts_by reads_old reads_new number old mid p p [] ending (plain_sound ending plain) by (Appends-nothing output) (wrote_nothing ending [] refl) (always_unless ending (p ≡ p) refl)
+    (λ more none. on_plain ending (RepliesInPart (lines_of (mid.bytes ++ more)) number p [] p) plain)
     (λ more none. ([], ending, says more none, front_of_nothing []))
     (λ more none. unless_always ending (MayWrite (lines_of (mid.bytes ++ more)) number p [] ending) (says more none))
     (λ more none. plain_anywhere ending 0 number mid.ended mid.bytes (mid.bytes ++ more) plain)
@@ -352,7 +400,7 @@ halts_late number mid p late some more none =
 
 -- a read failed, or memory was refused before one: nothing is written, and more may come
 pub halts_unread : (in_old in_new output : Option (List ℕ)) (reads_old reads_new number : ℕ) (old new : Pending) (p : PlainSession) (ending : Ending) →
-    FailsBy in_old in_new reads_old reads_new old new ending → Halts in_old in_new output output reads_old reads_new number old p ending
+    FailsBy in_old in_new reads_old reads_new old new ending → Halts in_old in_new output output reads_old reads_new number old p p ending
 halts_unread in_old in_new output reads_old reads_new number old new p ending by =
     let read : Gathers in_old in_new old new = by.fails.gathers in
     let open_ : old.ended ≡ false = open_before in_old in_new old new read by.fails.part.0 in
@@ -374,6 +422,8 @@ halts_unread in_old in_new output reads_old reads_new number old new p ending by
           (λ (fails : ending ≡ Read). unless_Read ending (MayWrite (lines_of (old.bytes ++ (read.got ++ more))) number p [] ending) fails)
           by.fails.fault;
       nothing = wrote_nothing ending [] refl;
+      stays = always_unless ending (p ≡ p) refl;
+      unwritten = λ more none. on_none ending (RepliesInPart (lines_of (old.bytes ++ (read.got ++ more))) number p [] p) by.fails.fault;
       faults = λ more none. ⊎_elim
           (λ (lacks : ending ≡ Memory). subst (λ e. FaultsAt e 0 number false (old.bytes ++ read.got) (old.bytes ++ (read.got ++ more))) (sym lacks) (inl reading))
           (λ (fails : ending ≡ Read). subst (λ e. FaultsAt e 0 number false (old.bytes ++ read.got) (old.bytes ++ (read.got ++ more))) (sym fails) reading)
@@ -598,12 +648,34 @@ faults_later Write number before saw_end far got held more count splits none fau
     begins_later (λ command. Unit {0}) number before (lines_of (held ++ (got ++ more))) (lines_of ((far ++ got) ++ more)) count (splits more none) faults
 faults_later ending number before saw_end far got held more count splits none faults = tt
 
+-- they are followed
+first_followed : (start p q : PlainSession) (before later : List (List ℕ)) (commands written nothing : List ℕ) → lines_of commands ≡ before ++ later → nothing ≡ [] → q ≡ p → LeadsTo before 1 start written p →
+    FollowsFirst start q (length before) commands (written ++ nothing)
+first_followed start p q before later commands written nothing splits none same leads =
+    let first = first_replied start p q before later (lines_of commands) written nothing splits none same leads in
+    let may = leads_may (take (length before) (lines_of commands)) 1 start q (written ++ nothing) first.1 in
+    (first.0, first.1, λ input steps text has. all_told _ input 1 steps text start _ Ended has may)
+
+-- and so is one more, of the reply to which a front is written
+followed_in_part : (start p q : PlainSession) (number count : ℕ) (before later : List (List ℕ)) (commands written part : List ℕ) → length before + 1 ≡ number → length before ≡ count → lines_of commands ≡ before ++ later →
+    LeadsTo before 1 start written p → RepliesInPart later number p part q → FollowsInPart start q count commands (written ++ part)
+followed_in_part start p q number count before later commands written part next done_ splits leads one_more =
+    subst (λ n. FollowsInPart start q n commands (written ++ part)) done_ (
+      p,
+      written,
+      part,
+      subst (FollowsFirst start p (length before) commands) (append-nil written) (first_followed start p p before later commands written [] splits refl refl leads),
+      subst (λ n. RepliesInPart (drop (length before) (lines_of commands)) n p part q) (sym next)
+          (subst (λ ls. RepliesInPart ls number p part q) (sym (ap (drop (length before)) splits ∙ drop-append_seam before later)) one_more),
+      refl,
+    )
+
 -- the end
 pub debugged : (in_old in_now in_new out_old out_now out_new : Option (List ℕ)) (start : PlainSession) (reads_now reads_new number count : ℕ) (lines : Pending) (p q : PlainSession) (ending : Ending) →
     number ≤ LINE_COUNT_LIMIT + 1 → count + 1 ≡ number →
-    SoFar in_old in_now out_old out_now start reads_now number lines p → Halts in_now in_new out_now out_new reads_now reads_new number lines p ending → UnlessWrite ending (q ≡ p) →
-    DebugsBy in_old in_new out_old out_new (MayFollow start) (FollowsFirst start q) count reads_new ending
-debugged in_old in_now in_new out_old out_now out_new start reads_now reads_new number count lines p q ending few_lines counts far last kept =
+    SoFar in_old in_now out_old out_now start reads_now number lines p → Halts in_now in_new out_now out_new reads_now reads_new number lines p q ending →
+    DebugsBy in_old in_new out_old out_new (MayFollow start) (FollowsFirst start q) (FollowsInPart start q) count reads_new ending
+debugged in_old in_now in_new out_old out_now out_new start reads_now reads_new number count lines p q ending few_lines counts far last =
     let splits : (more : List ℕ) → (last.saw_end ≡ true → more ≡ []) → lines_of ((far.got ++ last.got) ++ more) ≡ far.before ++ lines_of (lines.bytes ++ (last.got ++ more)) =
     λ more none.
     ap lines_of (append_assoc far.got last.got more) ∙ far.splits (last.got ++ more) (λ over. let at = last.closed over in ap (λ g. g ++ more) at.0 ∙ none at.1) in
@@ -634,22 +706,26 @@ debugged in_old in_now in_new out_old out_now out_new start reads_now reads_new 
         replies = λ more none.
             both_unless ending (last.written ≡ []) (q ≡ p) (FollowsFirst start q (length far.before) ((far.got ++ last.got) ++ more) (far.written ++ last.written))
             (λ nothing same.
-            let first = first_replied start p q far.before (lines_of (lines.bytes ++ (last.got ++ more))) (lines_of ((far.got ++ last.got) ++ more)) far.written last.written (splits more none) nothing same far.leads in
-            let may = leads_may (take (length far.before) (lines_of ((far.got ++ last.got) ++ more))) 1 start q (far.written ++ last.written) first.1 in
-            (first.0, first.1, λ input steps text has. all_told _ input 1 steps text start _ Ended has may))
-            last.nothing kept;
+            first_followed start p q far.before (lines_of (lines.bytes ++ (last.got ++ more))) ((far.got ++ last.got) ++ more) far.written last.written (splits more none) nothing same far.leads)
+            last.nothing last.stays;
         faults = λ more none. faults_later ending number far.before last.saw_end far.got last.got lines.bytes more far.count splits none (last.faults more none);
         reads = reads_later far.before (length far.before) far.got last.got lines last.saw_end (omega arith) far.splits far.in_lines last.in_line;
       };
       done_with = lines_done;
       few = omega (arith, length-append far.got last.got, lines_done, far.few, last.held far.held);
       counted = (far.full + last.full, came_by_both far.full last.full far.got last.got far.came last.came, omega (arith, far.counted, last.counted));
+      unwritten = λ more none.
+          also_on ending (RepliesInPart (lines_of (lines.bytes ++ (last.got ++ more))) number p last.written q)
+          (FollowsInPart start q count ((far.got ++ last.got) ++ more) (far.written ++ last.written))
+          (λ one_more.
+          followed_in_part start p q number count far.before (lines_of (lines.bytes ++ (last.got ++ more))) ((far.got ++ last.got) ++ more) far.written last.written far.count lines_done (splits more none) far.leads one_more)
+          (last.unwritten more none);
     }
 
 -- there were no more reads than there may be
-pub few_reads_by : (in_old in_new out_old out_new : Option (List ℕ)) (Stated : List ℕ → List ℕ → Ending → Type 0) (ToFirst : ℕ → List ℕ → List ℕ → Type 0) (lines reads : ℕ) (ending : Ending) →
-    DebugsBy in_old in_new out_old out_new Stated ToFirst lines reads ending → reads ≤ MOST_READ + 1
-few_reads_by in_old in_new out_old out_new Stated ToFirst lines reads ending by =
+pub few_reads_by : (in_old in_new out_old out_new : Option (List ℕ)) (Stated : List ℕ → List ℕ → Ending → Type 0) (ToFirst InPart : ℕ → List ℕ → List ℕ → Type 0) (lines reads : ℕ) (ending : Ending) →
+    DebugsBy in_old in_new out_old out_new Stated ToFirst InPart lines reads ending → reads ≤ MOST_READ + 1
+few_reads_by in_old in_new out_old out_new Stated ToFirst InPart lines reads ending by =
     omega (arith, by.debugs.few, reads_counted reads by.debugs.got by.debugs.saw_end ending by.counted)
 
 -- the same over a tape that is not too long
@@ -725,25 +801,25 @@ refused_too_long tape ending (inr why) long = why.0
 -- ---- replies
 
 -- no reply could be made
-pub not_made : (command : LineCommand) (old : PlainSession) (output : Option (List ℕ)) → is_walk command ≡ false → IsNotReplied command old output output Memory
-not_made command old output other =
+pub not_made : (command : LineCommand) (old new : PlainSession) (output : Option (List ℕ)) → is_walk command ≡ false → new ≡ old → IsNotReplied command old new output output Memory
+not_made command old new output other same =
     let some = some_reply command old in
     record {
-      fault = inl (refl, refl, other);
+      fault = inl (refl, refl, other, same);
       reply = some.0;
-      new = some.1;
+      made = some.1;
       replies = some.2;
       front = record { written = []; front = front_of_nothing some.0; gave = Appends-nothing output };
     }
 
 -- a reply could not be written or flushed
 pub not_written : (command : LineCommand) (old new : PlainSession) (lent reply : List ℕ) (a b : Option (List ℕ)) (wrote : Result (Unit {0}) Ending) → lent ≡ reply → Replies command old reply new → IsOkUnless wrote Write → OnErr wrote (WritesFront a b lent) →
-    IfErr wrote (IsNotReplied command old a b)
+    IfErr wrote (IsNotReplied command old new a b)
 not_written command old new lent reply a b (Ok none) is replies fault front = tt
 not_written command old new lent reply a b (Err ending) is replies fault front = record {
-  fault = inr fault;
+  fault = inr (fault, refl);
   reply = reply;
-  new = new;
+  made = new;
   replies = replies;
   front = subst (WritesFront a b) is front;
 }
@@ -760,9 +836,9 @@ ready_made tape limit width p q r within new fed ended = record {
 -- ---- what the code answers, as the definitions have it
 
 -- the line as it was lent, and the ending as it was passed on
-pub stops_at : (number : ℕ) (lent line : List ℕ) (p : PlainSession) (a b : Option (List ℕ)) (e ending : Ending) → lent ≡ line → ending ≡ e → Stops (turn_at number lent) p a b e → Stops (turn_at number line) p a b ending
-stops_at number lent line p a b e ending same is stops =
-    subst (λ l. Stops (turn_at number l) p a b ending) same (subst (λ x. Stops (turn_at number lent) p a b x) (sym is) stops)
+pub stops_at : (number : ℕ) (lent line : List ℕ) (p q : PlainSession) (a b : Option (List ℕ)) (e ending : Ending) → lent ≡ line → ending ≡ e → Stops (turn_at number lent) p q a b e → Stops (turn_at number line) p q a b ending
+stops_at number lent line p q a b e ending same is stops =
+    subst (λ l. Stops (turn_at number l) p q a b ending) same (subst (λ x. Stops (turn_at number lent) p q a b x) (sym is) stops)
 
 pub settles_at : (number : ℕ) (lent line : List ℕ) (p q : PlainSession) (a b : Option (List ℕ)) → lent ≡ line → Settles (turn_at number lent) p q a b → Settles (turn_at number line) p q a b
 settles_at number lent line p q a b same settles = subst (λ l. Settles (turn_at number l) p q a b) same settles

@@ -1,8 +1,9 @@
 -- A whole session of the debugger: what is written, and how it ends.
-use Rattle.std.specs.Prelude.{◌≡◌, ℕ, ◌+◌, ◌≤◌, nat_le, List, [], ◌∷◌, ◌++◌, length, take, if◌then◌else◌}
+use Rattle.std.specs.Prelude.{◌≡◌, ℕ, ◌+◌, ◌≤◌, nat_le, List, [], ◌∷◌, ◌++◌, drop, length, take, if◌then◌else◌}
 use Rattle.std.specs.Prelude.{Bool, true, false, Option, None, Some}
 use Rattle.trac_rules.specs.declared.width.Width.{Width}
 use Rattle.trac_rules.specs.declared.limit.TheConstants.{TAPE_LIMIT}
+use Rattle.trac_rules.specs.Fronts.{IsFrontOf}
 use Rattle.trac_rules.specs.Session.{PlainSession, new_session}
 use Rattle.trac_streams.specs.declared.ending.Ending.{Ending}
 use Rattle.trac_streams.specs.declared.ending.Ending.TheVariants.{Ended, Budget, Limit, NotUnderstood}
@@ -110,6 +111,18 @@ FollowsFirst p q count commands written = (count ≤ length (lines_of commands))
     × LeadsTo (take count (lines_of commands)) 1 p written q
     × ((input : List ℕ) (steps : ℕ) (text : List ℕ) → HasReleased input steps text p →
     TellsOutput input (take count (lines_of commands)) 1 steps text p written)
+
+-- the first of these lines, of this number, leads from one session to the other, and this is a front of the reply to it
+abbrev pub RepliesInPart : List (List ℕ) → ℕ → PlainSession → List ℕ → PlainSession → Type 0
+RepliesInPart lines number p part q = (line : List ℕ) × (later : List (List ℕ)) × (reply : List ℕ)
+    × (lines ≡ line ∷ later) × LeadsTo (line ∷ []) number p reply q × IsFrontOf part reply
+
+-- the first so many lines of these commands lead from a session on, and one more leads to the other session. This text
+-- is the replies to them, but of the last a front
+abbrev pub FollowsInPart : PlainSession → PlainSession → ℕ → List ℕ → List ℕ → Type 0
+FollowsInPart p q count commands written = (r : PlainSession) × (text : List ℕ) × (part : List ℕ)
+    × FollowsFirst p r count commands text × RepliesInPart (drop count (lines_of commands)) (count + 1) r part q
+    × (written ≡ text ++ part)
 
 -- ---- a whole session
 

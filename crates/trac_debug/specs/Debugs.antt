@@ -10,7 +10,7 @@ use Rattle.trac_streams.specs.declared.ending.Ending.TheVariants.{Memory, Read, 
 use Rattle.trac_streams.specs.Lines.{feed_count, lines_of}
 use Rattle.trac_debug.specs.Commands.{LineCommand}
 use Rattle.trac_debug.specs.Replies.{Replies, is_walk}
-use Rattle.trac_debug.specs.Debugging.{Turn, Passes, Does, Ends, LeadsTo, MayWrite, ready, turn_at}
+use Rattle.trac_debug.specs.Debugging.{Turn, Passes, Does, Ends, LeadsTo, MayWrite, RepliesInPart, ready, turn_at}
 use Rattle.trac_streams.specs.declared.input.TheConstants.{READ_SIZE}
 use Rattle.trac_streams.specs.declared.lines.TheConstants.{LINE_LIMIT, LINE_COUNT_LIMIT}
 use Rattle.trac_streams.specs.Pending.{Pending}
@@ -30,6 +30,11 @@ UnlessFault ending Fact = Fact
 abbrev pub UnlessWrite : Ending → Type 0 → Type 0
 UnlessWrite Write Fact = Unit {0}
 UnlessWrite ending Fact = Fact
+
+-- what is said of a fault of the writer
+abbrev pub OnWrite : Ending → Type 0 → Type 0
+OnWrite Write Fact = Fact
+OnWrite ending Fact = Unit {0}
 
 -- a line is still being read, once so many are done with. Each line feed that was read ended one of these, and the end
 -- was not seen
@@ -94,13 +99,15 @@ pub record Debugs (in_old in_new out_old out_new : Option (List ℕ)) (Stated : 
   pub reads : ReadsInLines replied saw_end got
 
 -- a session, of which what it did is counted. So many lines were done with. It read no more bytes than these lines and
--- what is held may have, and read just so often
+-- what is held may have, and read just so often. If the writer failed, a part of one more reply may be written
 pub record DebugsBy (in_old in_new out_old out_new : Option (List ℕ)) (Stated : List ℕ → List ℕ → Ending → Type 0)
-    (ToFirst : ℕ → List ℕ → List ℕ → Type 0) (lines reads : ℕ) (ending : Ending) : Type 0 where
+    (ToFirst InPart : ℕ → List ℕ → List ℕ → Type 0) (lines reads : ℕ) (ending : Ending) : Type 0 where
   pub debugs : Debugs in_old in_new out_old out_new Stated ToFirst ending
   pub done_with : debugs.replied ≡ lines
   pub few : length debugs.got ≤ lines * (LINE_LIMIT + 2) + HELD_LIMIT
   pub counted : CountsReads reads debugs.got debugs.saw_end ending
+  pub unwritten : (more : List ℕ) → (debugs.saw_end ≡ true → more ≡ []) →
+      OnWrite ending (InPart lines (debugs.got ++ more) debugs.written)
 
 -- ---- parts of a session
 
@@ -115,15 +122,16 @@ pub record IsReplied (command : LineCommand) (old new : PlainSession) (out_old o
   pub replies : Replies command old reply new
   pub gave : Appends out_old out_new reply
 
--- a reply could not be made to a command that is no walk, and nothing was written. Or a reply could not be written:
--- then a front of it was
-pub record IsNotReplied
-    (command : LineCommand) (old : PlainSession) (out_old out_new : Option (List ℕ)) (ending : Ending) : Type 0 where
+-- a reply could not be made to a command that is no walk. Then nothing was written, and the session stayed as it was.
+-- Or a reply could not be written. Then a front of it was, and the session is left as the command made it
+pub record IsNotReplied (command : LineCommand) (old new : PlainSession) (out_old out_new : Option (List ℕ))
+    (ending : Ending) : Type 0 where
   pub reply : List ℕ
-  pub new : PlainSession
-  pub replies : Replies command old reply new
+  pub made : PlainSession
+  pub replies : Replies command old reply made
   pub front : WritesFront out_old out_new reply
-  pub fault : ((ending ≡ Memory) × (front.written ≡ []) × (is_walk command ≡ false)) ⊎ (ending ≡ Write)
+  pub fault : ((ending ≡ Memory) × (front.written ≡ []) × (is_walk command ≡ false) × (new ≡ old))
+      ⊎ ((ending ≡ Write) × (new ≡ made))
 
 -- a turn is done with, and the session goes on
 abbrev pub Settles : Turn → PlainSession → PlainSession → Option (List ℕ) → Option (List ℕ) → Type 0
@@ -132,10 +140,10 @@ Settles (Does command) old new out_old out_new = IsReplied command old new out_o
 Settles (Ends stop) old new out_old out_new = ⊥
 
 -- the session ends in a turn
-abbrev pub Stops : Turn → PlainSession → Option (List ℕ) → Option (List ℕ) → Ending → Type 0
-Stops Passes old out_old out_new ending = ⊥
-Stops (Does command) old out_old out_new ending = IsNotReplied command old out_old out_new ending
-Stops (Ends stop) old out_old out_new ending = (ending ≡ stop) × Keeps out_old out_new
+abbrev pub Stops : Turn → PlainSession → PlainSession → Option (List ℕ) → Option (List ℕ) → Ending → Type 0
+Stops Passes old new out_old out_new ending = ⊥
+Stops (Does command) old new out_old out_new ending = IsNotReplied command old new out_old out_new ending
+Stops (Ends stop) old new out_old out_new ending = (ending ≡ stop) × Keeps out_old out_new × (new ≡ old)
 
 -- a line stands at the front of the text, whatever comes after it, and is taken with what ends it. No byte was read
 -- once it was read. With this number it leads from one session to the other, and the reply to it was written
@@ -159,10 +167,10 @@ pub record Advances (in_old in_new out_old out_new : Option (List ℕ)) (reads_o
   pub counted : reads_new + end_reads lines_old.ended ≡ reads_old + full + end_reads lines_new.ended
 
 -- the session ends. A front was written of what may be written from the line of this number on. That is the whole if
--- there was no fault, and nothing unless the writer failed. A fault comes where it may come. No read came once the line
--- was read
+-- there was no fault. Unless the writer failed, nothing was written, and the session stayed as it was. If it failed,
+-- the line led from the one session to the other. A fault comes where it may come. No read came once the line was read
 pub record Halts (in_old in_new out_old out_new : Option (List ℕ)) (reads_old reads_new number : ℕ)
-    (lines_old : Pending) (p : PlainSession) (ending : Ending) : Type 0 where
+    (lines_old : Pending) (p q : PlainSession) (ending : Ending) : Type 0 where
   pub got : List ℕ
   pub written : List ℕ
   pub saw_end : Bool
@@ -176,6 +184,9 @@ pub record Halts (in_old in_new out_old out_new : Option (List ℕ)) (reads_old 
   pub whole : (more : List ℕ) → (saw_end ≡ true → more ≡ []) →
       UnlessFault ending (MayWrite (lines_of (lines_old.bytes ++ (got ++ more))) number p written ending)
   pub nothing : UnlessWrite ending (written ≡ [])
+  pub stays : UnlessWrite ending (q ≡ p)
+  pub unwritten : (more : List ℕ) → (saw_end ≡ true → more ≡ []) →
+      OnWrite ending (RepliesInPart (lines_of (lines_old.bytes ++ (got ++ more))) number p written q)
   pub faults : (more : List ℕ) → (saw_end ≡ true → more ≡ []) →
       FaultsAt ending 0 number saw_end (lines_old.bytes ++ got) (lines_old.bytes ++ (got ++ more))
   pub held : length lines_old.bytes ≤ HELD_LIMIT → length lines_old.bytes + length got ≤ HELD_LIMIT

@@ -3,9 +3,10 @@ ghost use Rattle.std.specs.Prelude.{◌≡◌, ◌+◌, ◌<◌, ◌≤◌, ℕ,
 ghost use Rattle.std.specs.Prelude.{IfOk, IfErr, IsOkUnless, OnErr, OnOk};
 ghost use Rattle.std.specs.Io.KnownBytes.{Appends, IsAtEnd};
 ghost use Rattle.trac_rules.specs.Session.{PlainSession};
-ghost use Rattle.trac_debug.specs.Debugging.{FollowsFirst, MayFollow, MayShow, RepliesToFirst, turn_at, turn_of};
+ghost use Rattle.trac_debug.specs.Debugging.{FollowsFirst, FollowsInPart, MayFollow, MayShow, RepliesToFirst};
+ghost use Rattle.trac_debug.specs.Debugging.{turn_at, turn_of};
 ghost use Rattle.trac_debug.specs.Debugs.{Advances, Debugs, DebugsBy, Halts, MOST_READ, IsReady, IsReplied};
-ghost use Rattle.trac_debug.specs.Debugs.{IsNotReplied, Settles, Stops, UnlessWrite};
+ghost use Rattle.trac_debug.specs.Debugs.{IsNotReplied, Settles, Stops};
 ghost use Rattle.trac_debug.specs.Views.{command_seen};
 ghost use Rattle.trac_streams.specs.Tape.{MayRefuseTape};
 ghost use Rattle.trac_streams.specs.Written.{WritesFront};
@@ -67,9 +68,9 @@ pub fn debug<R: Read, W: Write, A: Allocator + Copy>(
 }
 
 /// Takes the lines of the commands, as `debug` does, from the session as it stands, and counts what it does. There are
-/// at most 1,048,576 lines. The session is left as the lines left it that were replied to. If the writer failed,
-/// nothing is said of it. Each read but the last gave a byte at least, and so did the last, unless it saw the end or
-/// failed.
+/// at most 1,048,576 lines. The session is left as the lines left it that were replied to. If the writer failed, the
+/// line after them led to it, and a front of the reply to that line is written. Each read but the last gave a byte at
+/// least, and so did the last, unless it saw the end or failed.
 pub fn debug_session<R: Read, W: Write, A: Allocator + Copy>(
     alloc: A,
     session: &mut Session<A>,
@@ -78,7 +79,8 @@ pub fn debug_session<R: Read, W: Write, A: Allocator + Copy>(
 ) -> DebugReport
     ensures debugs { DebugsBy (R.remaining commands.old)
         (R.remaining commands.new) (W.contents output.old) (W.contents output.new)
-        (MayFollow session.old) (FollowsFirst session.old session.new) result.lines result.reads result.ending }
+        (MayFollow session.old) (FollowsFirst session.old session.new) (FollowsInPart session.old session.new)
+        result.lines result.reads result.ending }
     ensures few_lines { result.lines ≤ LINE_COUNT_LIMIT }
     ensures few_reads { result.reads ≤ MOST_READ + 1 }
 {
@@ -113,7 +115,7 @@ fn last_ending<R: Read, A: Allocator + Copy>(
     requires few_reads { reads.old ≤ READ_COUNT_LIMIT }
     ensures { (number : ℕ) → (output : Option (List ℕ)) → (p : PlainSession) → LINE_COUNT_LIMIT < number →
         Halts (R.remaining commands.old) (R.remaining commands.new) output output reads.old reads.new number
-        lines.old p result }
+        lines.old p p result }
 {
     match lines.has_more(commands, reads) {
         Ok(true) => Ending::Budget,
@@ -163,8 +165,7 @@ fn take_line<R: Read, W: Write, A: Allocator + Copy>(
     ensures ok { OnOk result (Advances (R.remaining commands.old) (R.remaining commands.new) (W.contents output.old)
         (W.contents output.new) reads.old reads.new number lines.old session.old lines.new session.new) }
     ensures err { IfErr result (Halts (R.remaining commands.old) (R.remaining commands.new) (W.contents output.old)
-        (W.contents output.new) reads.old reads.new number lines.old session.old) }
-    ensures kept { IfErr result (λ ending. UnlessWrite ending (session.new ≡ session.old)) }
+        (W.contents output.new) reads.old reads.new number lines.old session.old session.new) }
 {
     match lines.seek_counted(commands, reads)? {
         NextLine::End => Err(Ending::Ended),
@@ -194,8 +195,7 @@ fn carry_out<W: Write, A: Allocator + Copy>(
     ensures ok { OnOk result
         (Settles (turn_at number line.now) session.old session.new (W.contents output.old) (W.contents output.new)) }
     ensures err { IfErr result
-        (Stops (turn_at number line.now) session.old (W.contents output.old) (W.contents output.new)) }
-    ensures kept { IfErr result (λ ending. UnlessWrite ending (session.new ≡ session.old)) }
+        (Stops (turn_at number line.now) session.old session.new (W.contents output.old) (W.contents output.new)) }
 {
     if line.is_empty() {
         return Ok(());
@@ -218,9 +218,8 @@ fn reply<W: Write, A: Allocator + Copy>(
 ) -> Result<(), Ending>
     ensures ok { OnOk result (IsReplied (command_seen command.entry) session.old session.new (W.contents output.old)
         (W.contents output.new)) }
-    ensures err { IfErr result
-        (IsNotReplied (command_seen command.entry) session.old (W.contents output.old) (W.contents output.new)) }
-    ensures kept { IfErr result (λ ending. UnlessWrite ending (session.new ≡ session.old)) }
+    ensures err { IfErr result (IsNotReplied (command_seen command.entry) session.old session.new
+        (W.contents output.old) (W.contents output.new)) }
 {
     if let Some(line) = reply_to_walk(session, command) {
         return write_reply(output, line.as_slice());

@@ -13,7 +13,7 @@ use Rattle.trac_rules.specs.Session.{PlainSession, Command, Feed, End, Step, Bac
 use Rattle.trac_rules.proofs.Replies.{accepted_done}
 use Rattle.trac_session.specs.Within.{IsWalkWithin}
 use Rattle.trac_streams.specs.declared.ending.Ending.{Ending}
-use Rattle.trac_streams.specs.declared.ending.Ending.TheVariants.{Memory, Write}
+use Rattle.trac_streams.specs.declared.ending.Ending.TheVariants.{Memory, Read, Write}
 use Rattle.trac_streams.specs.Written.{Closes, WritesFront}
 use Rattle.trac_streams.proofs.Known.{Appends-both, Appends-nothing, Consumes-both, Consumes-nothing, front_of_nothing}
 use Rattle.trac_run.specs.Runs.{AreDone, EndsFor, FeedsAsFar, FeedsSteps, FeedsToLast, IsOfRead, Leaves, TakesMore, TakesNone, TakesSteps, Waits, fed_by, step_count}
@@ -196,9 +196,10 @@ leaves_closed {A} ending result rest p ends leaves = ⊎_elim
     ends
 
 -- what a read gave that changed nothing
-pub leaves_unfed : (ending : Ending) (got : List ℕ) (r s : PlainSession) → s ≡ r → EndsFor ending r got → Leaves ending got s
-leaves_unfed Memory got r s same why = inr (why.0, subst (λ p. Answers (Feed got) p (Refused refusals.Memory) p) (sym same) why.1)
-leaves_unfed ending got r s same why = tt
+pub leaves_unfed : (ending : Ending) (got : List ℕ) (r s : PlainSession) → Waits r → s ≡ r → EndsFor ending r got → Leaves ending got s
+leaves_unfed Memory got r s waits same why = inr (why.0, subst (λ p. Answers (Feed got) p (Refused refusals.Memory) p) (sym same) why.1)
+leaves_unfed Read got r s waits same why = (why, subst Waits (sym same) waits)
+leaves_unfed ending got r s waits same why = tt
 
 -- ---- a turn
 
@@ -232,7 +233,7 @@ feeds_untaken {in_old} q r s ending result waits gave e taken front ends = (
   taken.got,
   front.written,
   feeds_both 0 0 q r s (feeds_commit in_old q r gave e) (feeds_left taken.got r s waits taken.few taken.same taken.took front),
-  leaves_closed ending result taken.got s ends (leaves_unfed ending taken.got r s taken.same taken.why),
+  leaves_closed ending result taken.got s ends (leaves_unfed ending taken.got r s waits taken.same taken.why),
 )
 
 -- ---- parts that go on or end

@@ -135,10 +135,12 @@ pub record FeedsSteps (in_old in_new out_old out_new : Option (List ℕ)) (steps
 
 -- this rest was read and not fed. If nothing is left, a run ends for want of memory only if the session may lack it for
 -- its next step. Else it ends so only if the session may lack it to be fed the rest. So it never does where the rules
--- refuse that step for anything but a limit, nor where the rest has no place on the tape
+-- refuse that step for anything but a limit, nor where the rest has no place on the tape. It ends for a fault of the
+-- reader only if the next step waits for input, and nothing is left
 abbrev pub Leaves : Ending → List ℕ → PlainSession → Type 0
 Leaves Memory rest p = ((rest ≡ []) × Answers Step p (Refused refusals.Memory) p)
     ⊎ ((0 < length rest) × Answers (Feed rest) p (Refused refusals.Memory) p)
+Leaves Read rest p = (rest ≡ []) × Waits p
 Leaves ending rest p = Unit {0}
 
 -- the same to a run's end, whatever the rest and that front are

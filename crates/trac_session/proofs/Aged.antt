@@ -1,13 +1,12 @@
 -- Earlier states of whose forms the names are recent: after steps, on the way back, and after a commit.
 use Rattle.std.proofs.Common.{◌≡◌, ℕ, zero, suc, ◌-◌, ◌<◌, ◌≤◌, List, [], ◌∷◌, ◌++◌, length, map, min, take, refl, sym, ap, subst, ◌∙◌, arith, ⊎_elim}
-use Rattle.std.specs.Prelude.{Some}
 use Rattle.std.specs.List.{All}
 use Rattle.std.proofs.lemmas.Bool.{cases_lt}
 use Rattle.std.proofs.lemmas.List.{length-map, length-take, take-map, take_all}
 use Rattle.std.proofs.lemmas.List.Elements.{All-cons, All-head, All-map, All-nil, All-tail, All-take, All-weaker}
 use Rattle.trac_rules.specs.declared.reply.Reply.TheVariants.{Done}
 use Rattle.trac_rules.specs.PlainRuns.{moved_on, on_the_way}
-use Rattle.trac_rules.specs.Records.{Record, state_before}
+use Rattle.trac_rules.specs.Records.{Record}
 use Rattle.trac_rules.specs.Session.{PlainSession, Answers, Back, Step, answer, done, released, first_kept, Commit}
 use Rattle.trac_rules.specs.State.{Forms, Frame, State}
 use Rattle.trac_rules.proofs.Replies.{Commit_done, Step_done}
@@ -79,8 +78,8 @@ recent_forgotten mark [] m n h all = none_recent mark n.recent all.0
 recent_forgotten mark (r ∷ records) m n h all = subst (λ (u : Shown). AreRecent mark u.recent (earlier_of (r ∷ records) u.state)) (sym h) all
 
 -- no state is before the last
-pub recent_gone : (records : List Record) (m : Shown) → records ≡ [] → AreRecent 0 m.recent (earlier_of records m.state)
-recent_gone records m none = subst (λ (rs : List Record). AreRecent 0 m.recent (earlier_of rs m.state)) (sym none) (none_recent 0 m.recent (omega arith))
+pub recent_gone : (mark : ℕ) (records : List Record) (m : Shown) → mark ≡ 0 → records ≡ [] → AreRecent mark m.recent (earlier_of records m.state)
+recent_gone mark records m unmarked none = subst (λ (rs : List Record). AreRecent mark m.recent (earlier_of rs m.state)) (sym none) (none_recent mark m.recent (omega (arith, unmarked)))
 
 -- the same states
 pub recent_stays : (mark : ℕ) (old new : List Record) (m k : Shown) → new ≡ old → k.state ≡ m.state → AreAmong m.recent k.recent → AreRecent mark m.recent (earlier_of old m.state) →

@@ -1,5 +1,5 @@
 -- The names that the machine of a session knows, as the fields show it.
-use Rattle.std.proofs.Common.{◌≡◌, ◌≢◌, ℕ, zero, suc, Bool, List, [], ◌∷◌, ◌++◌, length, take, refl, sym, ap, subst, ◌∙◌, arith}
+use Rattle.std.proofs.Common.{◌≡◌, ◌≢◌, ◌≤◌, ℕ, zero, suc, Bool, List, [], ◌∷◌, ◌++◌, length, min, take, refl, sym, ap, subst, ◌∙◌, arith}
 use Rattle.std.specs.Prelude.{Some, replicate}
 use Rattle.trac_rules.specs.declared.reply.Reply.{Reply}
 use Rattle.trac_rules.specs.declared.width.Width.{Width}
@@ -11,8 +11,8 @@ use Rattle.trac_rules.proofs.MovedOn.{moved_on-zero}
 use Rattle.trac_step.specs.Layout.{Shown}
 use Rattle.trac_session.specs.Journal.{earlier_of, AreRecords, IsAtStart, IsSession, IsSound, IsWithinReach, plain_of}
 use Rattle.trac_session.specs.Knowing.{AreRecent, HasForgotten, HasSwept, KnowsItsOwn, names_in}
-use Rattle.trac_session.proofs.Aged.{recent_forgotten}
-use Rattle.trac_session.proofs.Journaled.{length-earlier}
+use Rattle.trac_session.proofs.Aged.{AreNewer, recent_forgotten, recent_min}
+use Rattle.trac_session.proofs.Journaled.{length-earlier, length-earlier_of}
 use Rattle.trac_session.proofs.Trailed.{answered, walked}
 
 -- ---- names are forgotten
@@ -106,7 +106,22 @@ own_kept (suc keep) o p [] new m n some kept at own =
     (own_still m n (ap (λ (u : Shown). u.known) at) (ap (λ (u : Shown). u.recent) at) (ap (λ (u : Shown). names_in u.state) at) [] own)
 own_kept (suc keep) o p (r ∷ old) new m n some kept at own = own_after_step (take keep old) new r n kept
 
--- the machine that a session shows
+-- ---- old steps
+
+-- no more are old than there are
+pub few_old : {limit : ℕ} {width : Width} {bytes : List ℕ} {ended : Bool} {mark : ℕ} (records : List Record) (machine : Shown) → IsSession limit width bytes ended mark records machine → mark ≤ length records
+few_old {bytes = bytes} records machine session =
+    let count : length (earlier_of records machine.state) ≡ length records = length-earlier_of (IsWithinReach machine (length bytes)) records machine.state session.sound.records in
+    omega (arith, session.recent.0, count)
+
+-- of steps that are left, where no more are old than were before
+pub recent_trimmed : {limit : ℕ} {bytes : List ℕ} (mark more : ℕ) (records : List Record) (machine : Shown) → IsSound limit bytes records machine → more ≡ min mark (length records) →
+    AreNewer mark machine.recent (earlier_of records machine.state) → AreRecent more machine.recent (earlier_of records machine.state)
+recent_trimmed {bytes = bytes} mark more records machine sound is all =
+    recent_min mark (length records) more machine.recent (earlier_of records machine.state) (sym (length-earlier_of (IsWithinReach machine (length bytes)) records machine.state sound.records)) is all
+
+-- ---- the machine that a session shows
+
 pub names_shown : {limit : ℕ} {width : Width} {bytes : List ℕ} {ended : Bool} {mark : ℕ} (records : List Record) (machine : Shown) (p : PlainSession) → IsSession limit width bytes ended mark records machine →
     plain_of limit machine.width bytes ended records machine.state ≡ p → p.earlier ≡ [] → machine.known ≡ names_in p.last
 names_shown [] machine p session view none = session.names.0 ∙ ap (λ (q : PlainSession). names_in q.last) view

@@ -6,7 +6,7 @@ use Rattle.std.proofs.lemmas.List.Elements.{All-head, All-nil, All-tail}
 use Rattle.trac_rules.specs.declared.reply.Reply.TheVariants.{Done}
 use Rattle.trac_rules.specs.declared.width.Width.{Width}
 use Rattle.trac_rules.specs.Records.{Record, state_before}
-use Rattle.trac_rules.specs.Session.{PlainSession, Commit, answer, done}
+use Rattle.trac_rules.specs.Session.{Commit, answer, done}
 use Rattle.trac_rules.specs.State.{State}
 use Rattle.trac_forms.specs.Stored.{KnowsAll}
 use Rattle.trac_step.specs.Layout.{Shown}

@@ -8,6 +8,7 @@ pub mod goal;
 pub mod outputs;
 mod passing;
 pub mod session;
+mod sweep_mark;
 mod walk;
 mod walking;
 

@@ -34,10 +34,10 @@ impl<A: Allocator + Copy> Session<A> {
         ensures end { result < most → HasNotMovedLast self.new.earlier }
     {
         let records = self.journal.len();
-        let count = self.journal.pop_moved(most.min(records as u64) as usize);
+        let most = most.min(records as u64) as usize;
+        let count = self.mark.pop_moved(&mut self.journal, most);
         self.machine.move_back(count);
         forget_names(&mut self.machine, &self.journal);
-        self.mark = self.mark.min(self.journal.len());
         count as u64
     }
 }

@@ -1,5 +1,5 @@
 //! A session: a processor that goes forwards and backwards over an input that is fed to it.
-ghost use Rattle.std.specs.Prelude.{◌≡◌, ◌==◌, ◌-◌, ◌<◌, ◌≤◌, ◌∷◌, [], drop, length, take, IfOk, IsOkUnless};
+ghost use Rattle.std.specs.Prelude.{◌≡◌, ◌==◌, ◌≤◌, ◌∷◌, [], drop, length, take, IfOk, IsOkUnless};
 ghost use Rattle.std.specs.List.{All};
 ghost use Rattle.trac_rules.specs.declared.reply.Reply.TheVariants.{Done};
 ghost use Rattle.trac_rules.specs.Fronts.{IsFrontOf};
@@ -10,9 +10,10 @@ ghost use Rattle.trac_rules.specs.Trails.{IsTrail};
 ghost use Rattle.trac_rules.specs.Weights.{losses_from, weights_from};
 ghost use Rattle.trac_step.specs.Room.{HasRoom};
 ghost use Rattle.trac_session.specs.Journal.{IsAtStart};
-ghost use Rattle.trac_session.specs.Knowing.{HasForgotten, HasSwept, KnowsItsOwn, names_in};
+ghost use Rattle.trac_session.specs.Knowing.{HasForgotten, KnowsItsOwn, names_in};
 ghost use Rattle.trac_session.specs.Replies.{reply_of};
 
+use crate::sweep_mark::SweepMark;
 use std::alloc::{Allocator, Global};
 use std::marker::Model;
 use trac_gap::{SlidingBuf, TwoEnds};
@@ -37,9 +38,8 @@ pub struct Session<A: Allocator + Copy = Global> {
     pub(crate) limit: usize,
     // how wide the machine's numbers are
     width: Width,
-    // How many of the oldest steps are from before the last sweep of aged names: these alone may need names that are
-    // aged now.
-    pub(crate) mark: usize,
+    // which of the steps may need names that are aged now
+    pub(crate) mark: SweepMark,
 }
 
 impl<A: Allocator + Copy> Model for Session<A> {
@@ -77,7 +77,7 @@ impl<A: Allocator + Copy> Session<A> {
             made: Made::new(alloc),
             limit,
             width,
-            mark: 0,
+            mark: SweepMark::none(),
         })
     }
 
@@ -138,11 +138,10 @@ impl<A: Allocator + Copy> Session<A> {
     pub(crate) fn step_back(&mut self) -> Result<(), Refusal>
         ensures { answer Back self.old ≡ record { reply = reply_of result; session = self.new } }
     {
-        if !self.machine.step_back(&mut self.journal) {
+        if !self.mark.step_back(&mut self.machine, &mut self.journal) {
             return Err(Refusal::AtStart);
         }
         forget_names(&mut self.machine, &self.journal);
-        self.mark = self.mark.min(self.journal.len());
         Ok(())
     }
 
@@ -192,19 +191,17 @@ impl<A: Allocator + Copy> Session<A> {
             release_all(&mut self.machine, &mut self.tape);
             self.journal.clear();
             forget_names(&mut self.machine, &self.journal);
-            self.mark = 0;
+            self.mark = SweepMark::none();
             return;
         }
         // The contract of `len` says that the output's length fits a word. The sums of what was printed are no greater.
         let _len = self.machine.output().len();
         // What is released is told by the records that are dropped, since the first state of a session has no output
         // and has read nothing.
-        let before = self.journal.len();
-        let passed = self.journal.keep_newest(keep);
+        let passed = self
+            .mark
+            .keep_newest(&mut self.machine, &mut self.journal, keep);
         self.tape.drop_front(passed.read);
-        self.machine.release(passed.printed, passed.read);
-        let kept = self.journal.len();
-        age_names(&mut self.machine, &mut self.mark, kept, before - kept);
     }
 
     /// How many steps can be gone back over: never more than the limit that the session was made with, which is at most
@@ -286,24 +283,5 @@ pub(crate) fn forget_names<E: TwoEnds<u8, A>, M: TwoEnds<Mark, A>, A: Allocator 
 {
     if journal.len() == 0 {
         machine.settle();
-    }
-}
-
-// Sweeps aged names if none of the steps that are left, so many, is from before the last sweep. So it is if no fewer
-// were dropped than there were of those. For such a step alone may need a name that is aged now.
-fn age_names<E: TwoEnds<u8, A>, M: TwoEnds<Mark, A>, A: Allocator + Copy>(
-    machine: &mut Core<E, M, A>,
-    mark: &mut usize,
-    kept: usize,
-    dropped: usize,
-)
-    ensures swept { mark.old ≤ dropped → HasSwept kept mark.new machine.old machine.new }
-    ensures waits { dropped < mark.old → (machine.new ≡ machine.old) × (mark.new ≡ mark.old - dropped) }
-{
-    if *mark <= dropped {
-        machine.sweep_aged();
-        *mark = kept;
-    } else {
-        *mark -= dropped;
     }
 }

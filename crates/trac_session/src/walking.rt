@@ -170,9 +170,10 @@ impl<A: Allocator + Copy> Session<A> {
     }
 
     /// Goes forward by up to `n` steps, until one is refused: as `JournalFull`, `NeedInput`, `Ended`, `TooLong` or
-    /// `Memory`, which the walk returns.
+    /// `Memory`, which the walk returns. For a step that moves a plain byte, memory is never refused.
     pub fn forward(&mut self, n: u64) -> Walk
-        ensures { IsWalk Step no_goal n self.old result.done result.why self.new }
+        ensures walk { IsWalk Step no_goal n self.old result.done result.why self.new }
+        ensures asked { IsAsked result.why self.new.last }
     {
         self.go_far(Direction::Forward, n)
     }

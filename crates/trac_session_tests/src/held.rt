@@ -134,8 +134,8 @@ fn bytes_of_records(rt: HostRuntime) {
 // How many names are given and deleted again.
 const NAMES: usize = 2_000;
 
-// A form of this number is put and deleted, and the session commits and keeps so many steps: how many bytes are held
-// then.
+// A form of this number is put and deleted. Then the session goes back over a step, commits and keeps so many: how many
+// bytes are held then.
 fn put_and_delete(
     rt: &impl Abort,
     alloc: Global,
@@ -150,6 +150,7 @@ fn put_and_delete(
     let text = text.expect(rt, "there was no memory");
     feed(session, text.as_bytes()).expect(rt, "it was refused");
     assert!(rt; go_on(session, u64::MAX) == Some(Refusal::NeedInput));
+    assert!(rt; session.back(1).done == 1);
     session.commit(keep);
     heap.used()
 }

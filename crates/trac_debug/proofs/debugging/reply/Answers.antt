@@ -1,4 +1,4 @@
-use Rattle.std.proofs.Common.{subst}
+use Rattle.std.proofs.Common.{subst, ◌∙◌}
 use Rattle.trac_debug.specs.Replies.{Replies}
 use Rattle.trac_debug.specs.Views.{command_seen}
 use Rattle.trac_debug.proofs.Debugged.{not_made, not_written}
@@ -9,7 +9,7 @@ returns-in-Some-clause-err g c =
     not_written (command_seen c.args.command) c.args.session.now c.reply_to_walk.new.session _ c.in-Some.line.items _ _ c.write_reply.result c.as_slice.ensures.value c.in-Some.ensures.replied c.write_reply.ensures.fault c.write_reply.ensures.err
 
 pub returns-in_default-reply_to_other-clause-err : goal.returns-in_default-reply_to_other-clause-err
-returns-in_default-reply_to_other-clause-err g c = not_made (command_seen c.args.command) c.args.session.now (g.W.Write.contents c.args.output.now) c.in_default.ensures.other
+returns-in_default-reply_to_other-clause-err g c = not_made (command_seen c.args.command) c.args.session.now c.reply_to_other.new.session (g.W.Write.contents c.args.output.now) c.in_default.ensures.other (c.in_default-reply_to_other.ensures.unreplied ∙ c.in_default.ensures.undone)
 
 pub returns-clause-err : goal.returns-clause-err
 returns-clause-err g c =

@@ -16,12 +16,12 @@ loop-turn-init g c =
 
 pub returns-in_default-clause-went : goal.returns-in_default-clause-went
 returns-in_default-clause-went g c =
-    reached c.args.steps c.loop-turn.left _ _ _ _ c.loop-turn.invariant.0 c.loop-turn.invariant.1 _ c.forward-walk.ensures c.in_default.is
+    reached c.args.steps c.loop-turn.left _ _ _ _ c.loop-turn.invariant.0 c.loop-turn.invariant.1 _ c.forward-walk.ensures.walk c.in_default.is
 
 pub returns-in_default-clause-output : goal.returns-in_default-clause-output
-returns-in_default-clause-output g c = goes_all _ c.loop-turn.left _ _ _ _ _ _ _ _ _ c.loop-turn.invariant.0 c.forward-walk.ensures c.in_default.is c.loop-turn.invariant.2
+returns-in_default-clause-output g c = goes_all _ c.loop-turn.left _ _ _ _ _ _ _ _ _ c.loop-turn.invariant.0 c.forward-walk.ensures.walk c.in_default.is c.loop-turn.invariant.2
 
 pub loop-turn-preserved : goal.loop-turn-preserved
 loop-turn-preserved g c =
-    let nearer = comes_nearer c.args.steps c.loop-turn.left _ _ _ _ c.loop-turn.invariant.0 c.loop-turn.invariant.1 _ _ _ c.forward-walk.ensures c.keep_steps.ensures.kept in
-    (nearer.0, nearer.1, goes_kept _ c.loop-turn.left _ _ _ _ _ _ _ _ _ _ _ _ _ c.loop-turn.invariant.0 c.forward-walk.ensures c.keep_steps.ensures.output c.loop-turn.invariant.2)
+    let nearer = comes_nearer c.args.steps c.loop-turn.left _ _ _ _ c.loop-turn.invariant.0 c.loop-turn.invariant.1 _ _ _ c.forward-walk.ensures.walk c.keep_steps.ensures.kept in
+    (nearer.0, nearer.1, goes_kept _ c.loop-turn.left _ _ _ _ _ _ _ _ _ _ _ _ _ c.loop-turn.invariant.0 c.forward-walk.ensures.walk c.keep_steps.ensures.output c.loop-turn.invariant.2)

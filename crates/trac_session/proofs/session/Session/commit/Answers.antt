@@ -1,6 +1,6 @@
 use Rattle.std.proofs.Common.{ℕ, ◌-◌, length, refl, sym, ap, ◌∙◌, arith}
 use Rattle.trac_rules.specs.declared.reply.Reply.TheVariants.{Done}
-use Rattle.trac_rules.specs.Session.{Commit, done}
+use Rattle.trac_rules.specs.Session.{Commit, done, released}
 use Rattle.trac_gap.specs.Window.{Window}
 use Rattle.trac_step.specs.Layout.{Shown}
 use Rattle.trac_session.specs.Journal.{plain_of}
@@ -24,7 +24,7 @@ invariant_of-self g c =
     answered_forgotten (Commit 0) Done c.self.invariant still
     (IsSound-alone _ _ _ c.self.inside.journal.records c.clear.new.self.records c.self.inside.machine c.release_all.new.machine c.release_all.ensures.tape c.clear.ensures at c.self.invariant.sound)
     (Commit_alone _ _ _ _ c.self.inside.journal.records c.clear.new.self.records _ _ _ refl c.release_all.ensures.tape c.clear.ensures at still)
-    c.forget_names.ensures.forgotten (recent_gone c.clear.new.self.records c.release_all.new.machine c.clear.ensures)
+    c.forget_names.ensures.forgotten (recent_gone c.none-self-inside.result c.clear.new.self.records c.release_all.new.machine c.none-self-inside.ensures c.clear.ensures)
 
 pub returns-then-keep-eq0 : goal.returns-then-keep-eq0
 returns-then-keep-eq0 g c =
@@ -41,6 +41,8 @@ keep_newest-passed-requires g c =
     record {
       read_fits = omega (arith, there.0, c.self.invariant.sound.on_tape, c.self.invariant.sound.tape_limit);
       printed_fits = omega (arith, there.1, ap length c.output-len.ensures, c.output-len.type_inv.0);
+      read = there.0;
+      printed = there.1;
     }
 
 pub drop_front-requires : goal.drop_front-requires
@@ -48,29 +50,33 @@ drop_front-requires g c =
     let passed = c.keep_newest-passed.ensures in
     omega (arith, (released_there (newest_kept c.args.keep c.self.invariant.sound passed.kept passed.printed passed.read)).0, c.self.invariant.sound.on_tape)
 
-pub release-requires : goal.release-requires
-release-requires g c =
-    let passed = c.keep_newest-passed.ensures in
-    let there = released_there (newest_kept c.args.keep c.self.invariant.sound passed.kept passed.printed passed.read) in
-    record { printed = there.1; read = there.0 }
+-- the machine before aged names are swept
+abbrev left : Shown → ℕ → ℕ → Shown
+left m printed read = record m { state = released printed read m.state }
 
 pub invariant_of-self-2 : goal.invariant_of-self-2
 invariant_of-self-2 g c =
     let passed = c.keep_newest-passed.ensures in
+    let inside = c.self.inside in
+    let old = inside.journal.records in
+    let new = c.keep_newest-passed.new.journal.records in
+    let m : Shown = left inside.machine c.keep_newest-passed.result.printed c.keep_newest-passed.result.read in
     let kept = newest_kept c.args.keep c.self.invariant.sound passed.kept passed.printed passed.read in
     let cut = ap (λ (w : Window ℕ). w.items) c.drop_front.ensures in
-    committed_session c.self.invariant (ap (λ (m : Shown). m.width) c.release.ensures) c.args.keep (IsSound-kept c.self.invariant.sound kept cut c.release.ensures)
-    (own_kept c.args.keep _ _ c.self.inside.journal.records _ c.self.inside.machine _ c.if-keep-eq0.false kept.rest c.release.ensures c.self.invariant.names)
-    (ap (λ (m : Shown). m.recent) c.release.ensures) (Commit_of_fields kept cut c.release.ensures refl) c.len-before.result c.len-kept.result c.age_names.new.mark
-    c.len-before.ensures c.len-kept.ensures c.age_names.new.machine c.age_names.ensures.swept c.age_names.ensures.waits
+    committed_session {k = m} c.self.invariant refl c.args.keep (IsSound-kept {n = m} c.self.invariant.sound kept cut refl)
+    (own_kept c.args.keep c.keep_newest-passed.result.printed c.keep_newest-passed.result.read old new inside.machine m c.if-keep-eq0.false kept.rest refl c.self.invariant.names)
+    refl (Commit_of_fields {n = m} kept cut refl refl) (length old) (length new) c.keep_newest-passed.new.self refl refl c.keep_newest-passed.new.machine passed.swept passed.waits
 
 pub returns : goal.returns
 returns g c =
     let passed = c.keep_newest-passed.ensures in
-    let kept = newest_kept c.args.keep c.self.invariant.sound passed.kept passed.printed passed.read in
     let inside = c.self.inside in
-    Commit_of_fields kept (ap (λ (w : Window ℕ). w.items) c.drop_front.ensures) c.release.ensures c.self.view_is
+    let old = inside.journal.records in
+    let new = c.keep_newest-passed.new.journal.records in
+    let m : Shown = left inside.machine c.keep_newest-passed.result.printed c.keep_newest-passed.result.read in
+    let kept = newest_kept c.args.keep c.self.invariant.sound passed.kept passed.printed passed.read in
+    Commit_of_fields {n = m} kept (ap (λ (w : Window ℕ). w.items) c.drop_front.ensures) refl c.self.view_is
     ∙ ap done
     (sym
-    (shows_still c.len-kept.result (c.len-before.result - c.len-kept.result) inside.mark c.age_names.new.mark c.release.new.self c.age_names.new.machine c.age_names.ensures.swept c.age_names.ensures.waits
-    (λ s width. plain_of inside.limit width c.drop_front.new.self.items inside.ended c.keep_newest-passed.new.self.records s)))
+    (shows_still (length new) (length old - length new) inside.mark c.keep_newest-passed.new.self m c.keep_newest-passed.new.machine passed.swept passed.waits
+    (λ s width. plain_of inside.limit width c.drop_front.new.self.items inside.ended new s)))

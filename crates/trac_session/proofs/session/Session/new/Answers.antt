@@ -31,14 +31,14 @@ plain_at_first : (limit : ℕ) (width made : Width) (bytes : List ℕ) (journal 
     plain_of limit made bytes false journal last ≡ new_session limit width
 plain_at_first limit width made bytes journal last same none first at i = plain_of limit (same i) (none i) false (first i) (at i)
 
-session_at_first : (limit : ℕ) (width : Width) (bytes : List ℕ) (journal : List Record) (m n : Shown) → 1 ≤ limit → limit ≤ JOURNAL_LIMIT → bytes ≡ [] → journal ≡ [] → m.state ≡ initial → m.width ≡ width →
-    HasForgotten journal m n → IsSession limit width bytes false 0 journal n
-session_at_first limit width bytes journal m n some most none first at same forgotten = record {
+session_at_first : (limit : ℕ) (width : Width) (bytes : List ℕ) (mark : ℕ) (journal : List Record) (m n : Shown) → 1 ≤ limit → limit ≤ JOURNAL_LIMIT → bytes ≡ [] → mark ≡ 0 → journal ≡ [] → m.state ≡ initial → m.width ≡ width →
+    HasForgotten journal m n → IsSession limit width bytes false mark journal n
+session_at_first limit width bytes mark journal m n some most none unmarked first at same forgotten = record {
   sound = IsSound-forgotten journal m n forgotten (sound_at_first limit bytes journal m some most none first at);
   wide = shows_as_before (λ s w. w) journal m n forgotten ∙ same;
   trail = subst IsTrail (sym (plain_forgotten journal m n forgotten ∙ plain_at_first limit width m.width bytes journal m.state same none first at)) (new_trail limit width);
   names = own_names journal m n forgotten;
-  recent = recent_gone journal n first;
+  recent = recent_gone mark journal n unmarked first;
 }
 
 pub forget_names-requires : goal.forget_names-requires
@@ -49,7 +49,7 @@ forget_names-requires g c = λ none. record {
 
 pub invariant_of-result : goal.invariant_of-result
 invariant_of-result g c =
-    session_at_first c.args.limit c.args.width c.new-2.result.items c.new-journal.result.records c.in_ok-machine.machine c.forget_names.new.machine c.requires.some c.requires.most (ap (λ (w : Window ℕ). w.items) c.new-2.ensures) c.new-journal.ensures
+    session_at_first c.args.limit c.args.width c.new-2.result.items c.none.result c.new-journal.result.records c.in_ok-machine.machine c.forget_names.new.machine c.requires.some c.requires.most (ap (λ (w : Window ℕ). w.items) c.new-2.ensures) c.none.ensures c.new-journal.ensures
     c.in_ok-machine.ensures.made c.in_ok-machine.ensures.width c.forget_names.ensures.forgotten
 
 pub returns-clause-made : goal.returns-clause-made
