@@ -1,14 +1,13 @@
 //! What runs and sessions of the debugger say that they did: how many steps, lines and reads.
 ghost use Rattle.std.specs.Prelude.{◌≤◌};
 
+use crate::new_sessions::{debug_new, run_new};
 use std::alloc::Global;
 use std::io::ErrorKind;
 use std::process::Abort;
-use trac_debug::{DebugReport, debug_session};
+use trac_debug::DebugReport;
 use trac_machine_tests::faulty::{Failing, Fault, NO_FAULT, reader_of, writer_of};
-use trac_rules::width::Width;
-use trac_run::{Ending, RunReport, run_session};
-use trac_session::Session;
+use trac_run::{Ending, RunReport};
 use trac_streams::BUDGET_LIMIT;
 
 const USUAL: u64 = 1_000_000_000;
@@ -52,20 +51,16 @@ fn run_of(alloc: Global, read: (&[u8], usize, Failing), budget: u64) -> Option<R
     requires { budget ≤ BUDGET_LIMIT }
 {
     let (input, most, failing) = read;
-    let mut session = Session::new(alloc, 64, Width::W128).ok()?;
     let mut reader = reader_of(input, most, failing);
     let mut writer = writer_of(alloc, NO_FAULT);
-    Some(run_session(&mut session, &mut reader, &mut writer, budget))
+    run_new(alloc, 64, &mut reader, &mut writer, budget)
 }
 
 // What a session of the debugger did.
 fn session_of(alloc: Global, commands: &[u8], most: usize) -> Option<DebugReport> {
-    let mut session = Session::new(alloc, 64, Width::W128).ok()?;
-    session.feed(b"AB'").ok()?;
-    session.end();
     let mut reader = reader_of(commands, most, NO_FAULT);
     let mut writer = writer_of(alloc, NO_FAULT);
-    Some(debug_session(alloc, &mut session, &mut reader, &mut writer))
+    debug_new(alloc, b"AB'", &mut reader, &mut writer)
 }
 
 fn expect_run(

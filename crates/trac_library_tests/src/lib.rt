@@ -10,6 +10,8 @@ mod following;
 #[cfg(test)]
 mod memory;
 #[cfg(test)]
+mod new_sessions;
+#[cfg(test)]
 mod printed;
 #[cfg(test)]
 mod tapes;

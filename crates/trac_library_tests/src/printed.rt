@@ -1,14 +1,13 @@
 //! What a run has written is just what its steps print, also if a request for memory is refused.
 ghost use Rattle.std.specs.Prelude.{◌≤◌};
 
+use crate::new_sessions::run_new;
 use std::alloc::{Allocator, Global};
 use std::process::Abort;
 use trac_faults::Refusing;
 use trac_machine_tests::faulty::{NO_FAULT, reader_of, writer_of};
 use trac_machine_tests::{EACH_PRIMITIVE, INPUT};
-use trac_rules::width::Width;
-use trac_run::{Ending, RunReport, run_session};
-use trac_session::Session;
+use trac_run::{Ending, RunReport};
 use trac_streams::BUDGET_LIMIT;
 
 const USUAL: u64 = 1_000_000_000;
@@ -27,10 +26,9 @@ fn run_of<A: Allocator + Copy>(
     requires { budget ≤ BUDGET_LIMIT }
 {
     let (input, journal) = row;
-    let mut session = Session::new(alloc, journal.clamp(1, 65_536), Width::W128).ok()?;
     let mut reader = reader_of(input, 4096, NO_FAULT);
     let mut writer = writer_of(plain, NO_FAULT);
-    let report = run_session(&mut session, &mut reader, &mut writer, budget);
+    let report = run_new(alloc, journal, &mut reader, &mut writer, budget)?;
     let written = Vec::from_slice(plain, writer.contents()).ok()?;
     Some((report, written))
 }

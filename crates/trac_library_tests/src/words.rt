@@ -1,13 +1,13 @@
 //! The command line: the options that its words ask for, lines that ask for help, and lines that are not understood.
 //! What these are shown is tested in `tests/test_endings.py`.
-use std::alloc::{AllocError, Global};
-use std::test::Fail;
+use std::alloc::Global;
+use std::process::Abort;
 use trac_rules::width::Width;
 use trac_run::Options;
 use trac_words::words::{Line, read_line};
 
-fn line_of(alloc: Global, words: &[&str]) -> Result<Line, AllocError> {
-    read_line(alloc, words)
+fn line_of(rt: &impl Abort, alloc: Global, words: &[&str]) -> Line {
+    read_line(alloc, words).expect(rt, "there was no memory")
 }
 
 // Whether a line asks for a run, or for the debugger over the file of this path, with these options, and says nothing
@@ -20,6 +20,17 @@ fn asks_for(line: &Line, file: Option<&str>, options: Options) -> bool {
         }
         _ => false,
     }
+}
+
+fn expect_options(
+    rt: &impl Abort,
+    alloc: Global,
+    words: &[&str],
+    file: Option<&str>,
+    options: Options,
+) {
+    let is_met = asks_for(&line_of(rt, alloc, words), file, options);
+    assert!(rt; is_met, "the options are those of {file:?}");
 }
 
 // Words, the file that they name, and the options that they ask for.
@@ -90,15 +101,10 @@ const LINES: &[(&[&str], Option<&str>, Options)] = &[
 ];
 
 #[test]
-fn options_asked_for(rt: HostRuntime) -> Result<(), Fail> {
+fn options_asked_for(rt: HostRuntime) {
     for (words, file, options) in LINES.iter() {
-        let line = line_of(rt.alloc(), words)?;
-        assert!(rt;
-            asks_for(&line, *file, *options),
-            "the options are those of {file:?}"
-        );
+        expect_options(&rt, rt.alloc(), words, *file, *options);
     }
-    Ok(())
 }
 
 // How much memory a line allows a run, if it says so.
@@ -118,13 +124,16 @@ const SIZES: &[(&str, u64)] = &[
     ("1024G", 1_099_511_627_776),
 ];
 
+fn expect_memory(rt: &impl Abort, alloc: Global, size: &str, bytes: u64) {
+    let met = memory_of(&line_of(rt, alloc, &["trac", "run", "--memory", size]));
+    assert!(rt; met == Some(bytes), "{size} is {bytes} bytes");
+}
+
 #[test]
-fn memory_asked_for(rt: HostRuntime) -> Result<(), Fail> {
+fn memory_asked_for(rt: HostRuntime) {
     for (size, bytes) in SIZES.iter() {
-        let line = line_of(rt.alloc(), &["trac", "run", "--memory", *size])?;
-        assert!(rt; memory_of(&line) == Some(*bytes), "{size} is {bytes} bytes");
+        expect_memory(&rt, rt.alloc(), *size, *bytes);
     }
-    Ok(())
 }
 
 // Whether a line shows help or the version.
@@ -161,15 +170,22 @@ const BAD: &[&[&str]] = &[
     &["trac", "debug"],
 ];
 
+fn expect_help(rt: &impl Abort, alloc: Global, words: &[&str]) {
+    let is_met = is_help(&line_of(rt, alloc, words));
+    assert!(rt; is_met, "{words:?} asks for help");
+}
+
+fn expect_bad(rt: &impl Abort, alloc: Global, words: &[&str]) {
+    let is_met = is_bad(&line_of(rt, alloc, words));
+    assert!(rt; is_met, "{words:?} is not understood");
+}
+
 #[test]
-fn lines_without_a_run(rt: HostRuntime) -> Result<(), Fail> {
+fn lines_without_a_run(rt: HostRuntime) {
     for words in HELP.iter() {
-        let line = line_of(rt.alloc(), words)?;
-        assert!(rt; is_help(&line), "{words:?} asks for help");
+        expect_help(&rt, rt.alloc(), words);
     }
     for words in BAD.iter() {
-        let line = line_of(rt.alloc(), words)?;
-        assert!(rt; is_bad(&line), "{words:?} is not understood");
+        expect_bad(&rt, rt.alloc(), words);
     }
-    Ok(())
 }
