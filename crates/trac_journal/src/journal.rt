@@ -1,37 +1,32 @@
 //! The journal: a record for each step, packed.
-ghost use Rattle.std.specs.Prelude.{◌≡◌, ◌+◌, ◌-◌, ◌<◌, ◌≤◌, ◌^◌, ◌++◌, ◌∷◌, [], length, replicate, IsOkUnless};
-ghost use Rattle.std.specs.Prelude.{MatchOption, OnErr, OnOk};
+ghost use Rattle.std.specs.Prelude.{◌≡◌, ◌+◌, ◌-◌, ◌<◌, ◌≤◌, ◌^◌, ◌++◌, ◌∷◌, [], length, replicate, MatchOption};
+ghost use Rattle.std.specs.Prelude.{OnErr, OnOk};
 ghost use Rattle.std.specs.List.{concat};
 ghost use Rattle.std.specs.VecDeque.{deque_capacity, deque_len};
 ghost use Rattle.trac_rules.specs.declared.limit.TheConstants.{JOURNAL_LIMIT};
-ghost use Rattle.trac_rules.specs.Records.{Called as CallOf, Idle, Moved};
+ghost use Rattle.trac_rules.specs.Records.{Moved};
 ghost use Rattle.trac_rules.specs.Weights.{meta_weight, undone_weight, weight};
-ghost use Rattle.trac_journal.specs.Journaled.{HasPlaceForCall, HasPlaceForIdle, IsLight};
-ghost use Rattle.trac_journal.specs.Listed.{newest_in, nothing_listed, AreSmall, IsBrief};
-ghost use Rattle.trac_text.specs.Pieces.{all_texts, frames_in};
-ghost use Rattle.trac_journal.specs.Told.{record_with, said_by, sum_by, FitsEntry, HasCallFirst, HasCallOut};
-ghost use Rattle.trac_journal.specs.Told.{IsCallFirst, IsIdleFirst, IsMovedFirst, IsShortFirst};
+ghost use Rattle.trac_journal.specs.Journaled.{HasPlaceForCall, HasPlaceForIdle};
+ghost use Rattle.trac_journal.specs.Listed.{newest_in, nothing_listed, IsBrief};
+ghost use Rattle.trac_journal.specs.Told.{said_by, sum_by, IsMovedFirst};
 ghost use Rattle.trac_change.specs.Undone.{undone_in};
 
 use crate::called::{Called, LentCall, Short};
 use crate::emptied::Emptied;
 use crate::entry::{Entry, Kept};
+use crate::keeper::Keeper;
 use crate::lists::{Lists, weigh_brief};
 use std::alloc::{AllocError, Allocator, Global};
 use std::collections::VecDeque;
 use std::marker::Model;
+use std::mem;
 use trac_change::Undone;
 use trac_rules::refusal::Refusal;
-use trac_text::Args;
+use trac_text::{Args, Functions};
 
 /// What the steps of a machine destroyed, a record for each: seen as the list of the rules' records, the newest first,
-/// and beside it how much room there is for more.
-///
-/// A step first reserves, then changes the machine, and pushes its record, which cannot be refused. On the way
-/// back the newest record is taken out by the function for its kind; that of a call is lent before, and taken out
-/// after its texts are put back. Bytes that were moved one after another are kept as their number, and their
-/// records take no memory. Only calls that reserve can be refused, with `Memory`, and then the records stay. A
-/// journal holds at most 1,048,576 records.
+/// and beside it how much room there is for more. Bytes that were moved one after another are kept as their number, and
+/// their records take no memory. A journal holds at most 1,048,576 records.
 #[derive(Drop)]
 pub struct Journal<A: Allocator + Copy = Global> {
     // how many bytes were moved since the last entry, a step each
@@ -94,40 +89,6 @@ impl<A: Allocator + Copy> Journal<A> {
         self.weight
     }
 
-    /// Makes room for one short record.
-    /// Refused with `Memory` if there is none yet and the allocator refuses it; the records stay.
-    pub fn reserve_short(&mut self) -> Result<(), Refusal>
-        ensures ok { OnOk result (1 ≤ self.new.places) }
-        ensures same { self.new.records ≡ self.old.records }
-        ensures err { IsOkUnless result Refusal.Memory }
-        ensures full { OnErr result (self.old.places ≡ 0) }
-    {
-        reserve_entry(&mut self.entries)?;
-        Ok(())
-    }
-
-    /// Makes room for the record of one call whose arguments have so many bytes, and so many commas between them.
-    /// Refused with `Memory` if the allocator refuses; the records stay.
-    pub fn reserve_call(&mut self, bytes: usize, commas: usize) -> Result<(), Refusal>
-        ensures ok { OnOk result (HasPlaceForCall bytes commas self.new) }
-        ensures same { self.new.records ≡ self.old.records }
-        ensures err { IsOkUnless result Refusal.Memory }
-    {
-        reserve_entry(&mut self.entries)?;
-        self.lists.reserve_call(bytes, commas)
-    }
-
-    /// Makes room for the record of one step that empties all texts.
-    /// Refused with `Memory` if the allocator refuses; the records stay.
-    pub fn reserve_idle(&mut self) -> Result<(), Refusal>
-        ensures ok { OnOk result (HasPlaceForIdle self.new) }
-        ensures same { self.new.records ≡ self.old.records }
-        ensures err { IsOkUnless result Refusal.Memory }
-    {
-        reserve_entry(&mut self.entries)?;
-        self.lists.reserve_idle()
-    }
-
     /// Keeps so many records more, the newest, each of a moved byte. They need no room.
     pub fn push_moved(&mut self, n: usize)
         requires { length self.old.records + n ≤ JOURNAL_LIMIT }
@@ -135,27 +96,6 @@ impl<A: Allocator + Copy> Journal<A> {
     {
         self.moved += n;
         self.len += n;
-    }
-
-    /// Keeps one short record more, the newest. There has to be room for it, and a protected text to be shorter than
-    /// 2^32 bytes, as every text of a machine is.
-    #[inline(always)]
-    pub fn push_short(&mut self, newest: Short)
-        requires not_full { length self.old.records < JOURNAL_LIMIT }
-        requires place { 1 ≤ self.old.places }
-        requires fits { FitsEntry newest }
-        ensures { self.new.records ≡ said_by newest ∷ self.old.records }
-    {
-        match newest {
-            Short::Moved => self.push_moved(1),
-            Short::Comma => self.push_brief(Kept::Comma),
-            Short::Begun => self.push_brief(Kept::Begun),
-            Short::Quoted { inner, closed } => self.push_brief(Kept::Quoted {
-                closed,
-                inner: inner as u32,
-            }),
-            Short::Deleted(byte) => self.push_brief(Kept::Deleted(byte)),
-        }
     }
 
     // Keeps one record more that an entry holds.
@@ -173,122 +113,6 @@ impl<A: Allocator + Copy> Journal<A> {
         self.moved = 0;
         self.len += 1;
         self.weight += weigh_brief(kept);
-    }
-
-    /// Keeps the record of one call more, the newest: what it says beside its arguments, these, and what it destroyed
-    /// of forms and blocks. There has to be room for it, each number to be below 2^32, and the record to weigh no more
-    /// than 2^42, as that of every step from a proper state does.
-    #[inline(always)]
-    pub fn push_call(&mut self, called: Called, arguments: &Args<'_>, undone: Undone<A>)
-        requires not_full { length self.old.records < JOURNAL_LIMIT }
-        requires small { AreSmall called (length (concat arguments.now)) (length arguments.now) }
-        requires light { IsLight (CallOf (record_with called arguments.now (undone_in undone))) }
-        requires room { HasPlaceForCall (length (concat arguments.now)) (length arguments.now - 1) self.old }
-        ensures { self.new.records ≡ CallOf (record_with called arguments.now (undone_in undone)) ∷ self.old.records }
-    {
-        let bytes = arguments.joined().len();
-        let weight = weigh_call(bytes + arguments.comma_count(), called.meta, &undone);
-        let kept = self.lists.push_call(called, arguments, undone);
-        self.entries.push_back_reserved(Entry {
-            moved: self.moved as u32,
-            kept,
-        });
-        self.moved = 0;
-        self.len += 1;
-        self.weight += weight;
-    }
-
-    /// Keeps the record of one step more that emptied all texts, the newest. There has to be room for it, and it may
-    /// not weigh more than 2^42, as that of no step from a proper state does.
-    pub fn push_idle(&mut self, emptied: Emptied<A>)
-        requires not_full { length self.old.records < JOURNAL_LIMIT }
-        requires light { IsLight (Idle emptied.base.items (frames_in emptied.frames.items)) }
-        requires room { HasPlaceForIdle self.old }
-        ensures { self.new.records ≡ Idle emptied.base.items (frames_in emptied.frames.items) ∷ self.old.records }
-    {
-        let weight = emptied.weight() as u64;
-        self.lists.push_idle(emptied);
-        self.entries.push_back_reserved(Entry {
-            moved: self.moved as u32,
-            kept: Kept::Idle,
-        });
-        self.moved = 0;
-        self.len += 1;
-        self.weight += weight;
-    }
-
-    /// Takes out the newest record and returns it, if its step performed no function and did not empty the texts; else
-    /// returns none, and changes nothing.
-    #[inline(always)]
-    pub fn pop_short(&mut self) -> Option<Short>
-        ensures { MatchOption result ((IsShortFirst self.old.records → ⊥) × (self.new ≡ self.old))
-            (λ short. self.old.records ≡ said_by short ∷ self.new.records) }
-    {
-        if self.moved > 0 {
-            self.moved -= 1;
-            self.len -= 1;
-            return Some(Short::Moved);
-        }
-        let entry = *self.entries.back()?;
-        let short = short_in(entry.kept)?;
-        self.entries.pop_back();
-        self.moved = entry.moved as usize;
-        self.len -= 1;
-        self.weight -= weigh_brief(entry.kept);
-        Some(short)
-    }
-
-    /// The newest record, lent, if it is of a call; else none.
-    #[inline(always)]
-    pub fn newest_call(&self) -> Option<LentCall<'_>>
-        ensures { MatchOption result (IsCallFirst self.now.records → ⊥)
-            (λ call. HasCallFirst call.called (all_texts call.arguments) self.now.records) }
-    {
-        if self.moved > 0 {
-            return None;
-        }
-        match self.entries.back()?.kept {
-            Kept::Call | Kept::Pointed(_) | Kept::Changed => Some(self.lists.newest_call()),
-            Kept::Comma | Kept::Begun | Kept::Quoted { .. } | Kept::Deleted(_) | Kept::Idle => None,
-        }
-    }
-
-    /// Takes out the newest record, which has to be of a call, and returns what its step destroyed of forms and blocks.
-    #[inline(always)]
-    pub fn pop_call(&mut self) -> Undone<A>
-        requires { IsCallFirst self.old.records }
-        ensures { HasCallOut (undone_in result) self.old.records self.new.records }
-    {
-        let Some(entry) = self.entries.pop_back() else {
-            unreachable!()
-        };
-        let undone = self.lists.pop_undone(entry.kept);
-        let weight = self.lists.pop_call();
-        self.moved = entry.moved as usize;
-        self.len -= 1;
-        self.weight -= weight + undone.weight() as u64;
-        undone
-    }
-
-    /// Takes out the newest record and returns what its step emptied, if it emptied all texts; else returns none, and
-    /// changes nothing.
-    pub fn pop_idle(&mut self) -> Option<Emptied<A>>
-        ensures { MatchOption result ((IsIdleFirst self.old.records → ⊥) × (self.new ≡ self.old)) (λ emptied.
-            self.old.records ≡ Idle emptied.base.items (frames_in emptied.frames.items) ∷ self.new.records) }
-    {
-        if self.moved > 0 {
-            return None;
-        }
-        let entry = *self.entries.back()?;
-        let Kept::Idle = entry.kept else {
-            return None;
-        };
-        let emptied = self.lists.pop_emptied();
-        self.entries.pop_back();
-        self.moved = entry.moved as usize;
-        self.len -= 1;
-        self.weight -= emptied.weight() as u64;
-        Some(emptied)
     }
 
     /// Takes out the records of the bytes that were moved last, up to `most` of them, and returns how many these are:
@@ -313,6 +137,141 @@ impl<A: Allocator + Copy> Journal<A> {
         self.moved = 0;
         self.len = 0;
         self.weight = 0;
+    }
+}
+
+impl<A: Allocator + Copy> Keeper<A> for Journal<A> {
+    ghost records = { λ j. j.records };
+
+    ghost most = { JOURNAL_LIMIT };
+
+    ghost places = { λ j. j.places };
+
+    ghost has_room = { λ j texts. HasPlaceForCall (length (concat texts)) (length texts - 1) j };
+
+    ghost has_idle_room = { λ j. HasPlaceForIdle j };
+
+    fn reserve_short(&mut self) -> Result<(), Refusal> {
+        reserve_entry(&mut self.entries)?;
+        Ok(())
+    }
+
+    fn reserve_call(&mut self, arguments: &Args<'_>) -> Result<(), Refusal> {
+        reserve_entry(&mut self.entries)?;
+        self.lists
+            .reserve_call(arguments.joined().len(), arguments.comma_count())
+    }
+
+    fn reserve_idle(&mut self) -> Result<(), Refusal> {
+        reserve_entry(&mut self.entries)?;
+        self.lists.reserve_idle()
+    }
+
+    #[inline(always)]
+    fn push_moved_byte(&mut self) {
+        self.push_moved(1);
+    }
+
+    #[inline(always)]
+    fn push_short(&mut self, newest: Short) {
+        match newest {
+            Short::Moved => self.push_moved(1),
+            Short::Comma => self.push_brief(Kept::Comma),
+            Short::Begun => self.push_brief(Kept::Begun),
+            Short::Quoted { inner, closed } => self.push_brief(Kept::Quoted {
+                closed,
+                inner: inner as u32,
+            }),
+            Short::Deleted(byte) => self.push_brief(Kept::Deleted(byte)),
+        }
+    }
+
+    #[inline(always)]
+    fn push_call(&mut self, called: Called, arguments: &Args<'_>, undone: &mut Undone<A>) {
+        let undone = mem::replace(undone, Undone::Nothing);
+        let bytes = arguments.joined().len();
+        let weight = weigh_call(bytes + arguments.comma_count(), called.meta, &undone);
+        let kept = self.lists.push_call(called, arguments, undone);
+        self.entries.push_back_reserved(Entry {
+            moved: self.moved as u32,
+            kept,
+        });
+        self.moved = 0;
+        self.len += 1;
+        self.weight += weight;
+    }
+
+    fn push_idle(&mut self, base: &mut Vec<u8, A>, frames: &mut Functions<A>) {
+        let alloc = *base.allocator();
+        let emptied = Emptied {
+            base: mem::replace(base, Vec::new(alloc)),
+            frames: mem::replace(frames, Vec::new(alloc)),
+        };
+        let weight = emptied.weight() as u64;
+        self.lists.push_idle(emptied);
+        self.entries.push_back_reserved(Entry {
+            moved: self.moved as u32,
+            kept: Kept::Idle,
+        });
+        self.moved = 0;
+        self.len += 1;
+        self.weight += weight;
+    }
+
+    #[inline(always)]
+    fn pop_short(&mut self) -> Option<Short> {
+        if self.moved > 0 {
+            self.moved -= 1;
+            self.len -= 1;
+            return Some(Short::Moved);
+        }
+        let entry = *self.entries.back()?;
+        let short = short_in(entry.kept)?;
+        self.entries.pop_back();
+        self.moved = entry.moved as usize;
+        self.len -= 1;
+        self.weight -= weigh_brief(entry.kept);
+        Some(short)
+    }
+
+    #[inline(always)]
+    fn newest_call(&self) -> Option<LentCall<'_>> {
+        if self.moved > 0 {
+            return None;
+        }
+        match self.entries.back()?.kept {
+            Kept::Call | Kept::Pointed(_) | Kept::Changed => Some(self.lists.newest_call()),
+            Kept::Comma | Kept::Begun | Kept::Quoted { .. } | Kept::Deleted(_) | Kept::Idle => None,
+        }
+    }
+
+    #[inline(always)]
+    fn pop_call(&mut self) -> Undone<A> {
+        let Some(entry) = self.entries.pop_back() else {
+            unreachable!()
+        };
+        let undone = self.lists.pop_undone(entry.kept);
+        let weight = self.lists.pop_call();
+        self.moved = entry.moved as usize;
+        self.len -= 1;
+        self.weight -= weight + undone.weight() as u64;
+        undone
+    }
+
+    fn pop_idle(&mut self) -> Option<Emptied<A>> {
+        if self.moved > 0 {
+            return None;
+        }
+        let entry = *self.entries.back()?;
+        let Kept::Idle = entry.kept else {
+            return None;
+        };
+        let emptied = self.lists.pop_emptied();
+        self.entries.pop_back();
+        self.moved = entry.moved as usize;
+        self.len -= 1;
+        self.weight -= emptied.weight() as u64;
+        Some(emptied)
     }
 }
 

@@ -9,6 +9,7 @@ pub mod emptied;
 mod emptied_weight;
 pub mod entry;
 pub mod journal;
+pub mod keeper;
 pub mod lists;
 
 pub use called::{Called, LentCall, Short};
@@ -18,6 +19,7 @@ pub use emptied_weight::{weigh_functions, weigh_pieces};
 #[doc(hidden)]
 pub use entry::{CallEntry, Entry, Kept};
 pub use journal::{Journal, weigh_call};
+pub use keeper::Keeper;
 #[doc(hidden)]
 pub use lists::Lists;
 pub use trac_change::{Undone, undone};

@@ -1,6 +1,5 @@
 -- A call that is ready is performed: its memory is taken, then forms and blocks are changed, and then it is ended.
-use Rattle.std.proofs.Common.{◌≡◌, ℕ, ◌+◌, ◌-◌, List, length, refl, sym, ap, ◌∙◌, subst, arith}
-use Rattle.std.specs.List.{concat}
+use Rattle.std.proofs.Common.{◌≡◌, ℕ, ◌+◌, List, length, refl, sym, ap, ◌∙◌, subst, arith}
 use Rattle.std.proofs.lemmas.Result.{err_from_is_err_and}
 use Rattle.std.specs.Prelude.{Err, Result}
 use Rattle.std.specs.Result.{IsErrAnd}
@@ -20,7 +19,6 @@ use Rattle.trac_text.specs.declared.calls.Beginning.{Beginning}
 use Rattle.trac_step.specs.declared.calling.Plan.{Plan}
 use Rattle.trac_step.specs.Calling.{BeginsInnermost, HasRoomFor, arguments_in, state_after, state_ended, with_storage}
 use Rattle.trac_journal.specs.declared.called.Called.{Called}
-use Rattle.trac_journal.specs.Journaled.{HasPlaceForCall, Journaled}
 use Rattle.trac_step.specs.Kept.{FitsJournal, HasRoomForCall, IsKeptAs}
 use Rattle.trac_step.specs.Layout.{Shown}
 use Rattle.trac_step.specs.Ready.{CanChange, CanEnd, IsReady}
@@ -50,17 +48,17 @@ module _ {A : Type 0} (s t : State) (beginning : Beginning) (change : UnnamedCha
   given_then = ap (λ (x : State). arguments_in (scan x)) is ∙ arguments_stay s can.front (changed (arguments_in (scan s)) change (storage_of s))
 
 -- the record of a call has the same room where it stands with the same arguments, and destroyed the same
-pub room_for_call : (s t : State) (called : Called) (said undone : Undone) (journal : Journaled) → arguments_in (scan t) ≡ arguments_in (scan s) → said ≡ undone →
-    HasRoomForCall s called undone journal → HasRoomForCall t called said journal
-room_for_call s t called said undone journal given same room = record {
-  not_full = room.not_full;
-  place = subst (λ (texts : List (List ℕ)). HasPlaceForCall (length (concat texts)) (length texts - 1) journal) (sym given) room.place;
-  fits = subst (λ (texts : List (List ℕ)). FitsJournal called texts said) (sym given) (subst (FitsJournal called (arguments_in (scan s))) (sym same) room.fits);
+pub room_for_call : (s t : State) (called : Called) (said undone : Undone) (records : List Record) (most : ℕ) (room : List (List ℕ) → Type 0) → arguments_in (scan t) ≡ arguments_in (scan s) → said ≡ undone →
+    HasRoomForCall s called undone records most room → HasRoomForCall t called said records most room
+room_for_call s t called said undone records most room given same has = record {
+  not_full = has.not_full;
+  place = subst room (sym given) has.place;
+  fits = subst (λ (texts : List (List ℕ)). FitsJournal called texts said) (sym given) (subst (FitsJournal called (arguments_in (scan s))) (sym same) has.fits);
 }
 
 -- memory is refused to a call
-pub not_kept : {R : Type 0} (r : Result R Refusal) (kept : Record) (state : State) (m n : Shown) (old new : Journaled) (e : Refusal) → IsErrAnd r (λ said. said ≡ e) → e ≡ Memory → n.state ≡ m.state → new.records ≡ old.records →
-    IsNoLess m n → IsKeptAs kept state r m n old new
+pub not_kept : {R : Type 0} (r : Result R Refusal) (kept : Record) (state : State) (m n : Shown) (old new : List Record) (e : Refusal) → IsErrAnd r (λ said. said ≡ e) → e ≡ Memory → n.state ≡ m.state → new ≡ old → IsNoLess m n →
+    IsKeptAs kept state r m n old new
 not_kept r kept state m n old new e is memory same records room =
     let why = err_from_is_err_and r is in
     subst (λ r. IsKeptAs kept state r m n old new) (sym (why.1 ∙ ap Err (why.2 ∙ memory))) (record { done = tt; added = tt; unchanged = (same, records); err = refl; room = room })

@@ -10,7 +10,7 @@ use Rattle.trac_gap.specs.Ends.{Ends, item_count}
 use Rattle.trac_rules.specs.declared.kind.Kind.{Kind}
 use Rattle.trac_rules.specs.Limits.{argument_bytes, marks, texts_fit}
 use Rattle.trac_rules.specs.Proper.{IsProper, IsProperStorage}
-use Rattle.trac_rules.specs.Records.{CallRecord, Rest, Texts, all_before_last, begun_again, end_taken_in, last_of, moved_back, moved_back_in, put_before, put_together, rest_before, rest_of, restored_call, texts_before, texts_in, value_taken}
+use Rattle.trac_rules.specs.Records.{CallRecord, Rest, Texts, all_before_last, begun_again, end_taken_in, last_of, moved_back_in, put_before, put_together, rest_before, rest_of, restored_call, texts_before, texts_in, value_taken}
 use Rattle.trac_rules.specs.Records as rules
 use Rattle.trac_rules.specs.Scanning.{scan}
 use Rattle.trac_rules.specs.State.{Frame, State, Storage, storage_of}
@@ -21,13 +21,12 @@ use Rattle.trac_forms.specs.Stored.{KnowsAll, Stored}
 use Rattle.trac_text.specs.declared.mark.Mark.{Mark}
 use Rattle.trac_text.specs.Neutral.{AreMarks, MarkedText, Neutral}
 use Rattle.trac_journal.specs.declared.called.Called.{Called}
-use Rattle.trac_storage.specs.Changing.{AreAmong}
-use Rattle.trac_step.specs.Calling.{arguments_in, with_storage}
+use Rattle.trac_step.specs.Calling.{arguments_in}
 use Rattle.trac_step.specs.Layout.{Parts, IsSound, Shown, parts_of, shown_by, state_of}
 use Rattle.trac_text.specs.Pieces.{Arguments, all_texts, frame_in}
 use Rattle.trac_text.specs.Marks.{function_marks}
 use Rattle.trac_text.specs.MovingBack.{HasValue, before_call, without_value}
-use Rattle.trac_step.specs.Room.{HasRoom, IsNoLess}
+use Rattle.trac_step.specs.Room.{HasRoom}
 use Rattle.trac_journal.specs.Told.{record_with}
 use Rattle.trac_step.specs.Undoing.{CanRestore, CanShow, IsBegunAgain, IsRestored}
 use Rattle.trac_step.proofs.Calls.{scan_call}
@@ -353,18 +352,6 @@ module _ (called : Called) (texts : List (List ℕ)) (undone : Undone) (m : Show
     module _ (k : Shown) (is : IsRestored undone n k) where
       pub all_back : restored_call (record_with called texts undone) m.state ≡ Some k.state
       all_back = (λ i. put_together (parts.0 i) ((sym storage_same ∙ is.back) i) (parts.2 i)) ∙ ap (λ (x : Shown). Some x.state) (sym is.others)
-
-      pub no_less_back : IsNoLess m k
-      no_less_back =
-          subst (IsNoLess m) (sym (is.others ∙ ap (λ (x : Shown). let y : Shown = record x { state = with_storage (storage_of k.state) n.state; recent = k.recent; spare = k.spare } in y) begun.others))
-          (record {
-            width = refl;
-            text = omega arith;
-            marks = omega arith;
-            output = omega arith;
-            names = λ name h. h;
-            recent = subst (λ (x : Shown). AreAmong x.recent k.recent) begun.others is.recent;
-          })
 
 -- a text with its marks is the same where both are
 pub marked_same : (text other : List ℕ) (ms others : List Mark) → text ≡ other → ms ≡ others →

@@ -1,4 +1,4 @@
--- What fits the entries of a journal, and what a step into one keeps.
+-- What fits the entries of a journal, and what a step keeps.
 use Rattle.std.proofs.Common.{◌≡◌, ℕ, ◌+◌, ◌<◌, ◌≤◌, ◌^◌, Bool, true, false, List, [], ◌∷◌, length, drop, refl, sym, ap, subst, arith}
 use Rattle.std.specs.Prelude.{Option, Some, None, Result, Ok, Err, OnOk, nat_le, ◌&&◌, option_and_then}
 use Rattle.std.specs.List.{concat}
@@ -20,7 +20,6 @@ use Rattle.trac_rules.specs.Undone.{Undone}
 use Rattle.trac_rules.proofs.Bounded.{loss_bounded}
 use Rattle.trac_rules.proofs.CallsBack.{record_leads_back}
 use Rattle.trac_rules.proofs.CallsWeighed.{record_within}
-use Rattle.trac_rules.proofs.Steps.{step_within}
 use Rattle.trac_text.specs.Frames.{all_arguments}
 use Rattle.trac_journal.specs.declared.called.Called as code
 use Rattle.trac_journal.specs.declared.called.Short.{Short}
@@ -32,6 +31,7 @@ use Rattle.trac_step.specs.Kept.{FitsJournal, IsAdded, IsKept}
 use Rattle.trac_step.proofs.CallsUndone.{then_is}
 use Rattle.trac_text.proofs.TakenOut.{sizes_of}
 use Rattle.trac_storage.proofs.Judged.{limits_kept}
+use Rattle.trac_step.proofs.Reading.{read_of_call}
 use Rattle.trac_step.proofs.Recorded.{call_parts, move_recorded, recorded_front}
 use Rattle.trac_step.proofs.Scans.{scan_front}
 
@@ -137,21 +137,21 @@ value_of_call call s t h = by_taken (value_taken call.scanned call.value (texts_
     by_taken (Some texts) is h = value_within call.scanned call.value t texts is
 
 -- the record of a call that is taken fits
-pub call_fits : (e : Environment) (s t : State) (called : code.Called) (undone : Undone) → IsProper s → IsProper t → front_of s.active ≡ front.Closing → 0 < length s.frames →
-    s.position ≤ length e.tape.bytes → length e.tape.bytes < 2 ^ 32 → step e s ≡ Ok t → record_of e s ≡ Some (Called (record_with called (arguments_in (scan s)) undone)) →
-    FitsJournal called (arguments_in (scan s)) undone
-call_fits e s t called undone proper after is inside position short taken kept =
+pub call_fits : (e : Environment) (s t : State) (called : code.Called) (undone : Undone) → IsProper s → IsProper t → front_of s.active ≡ front.Closing → 0 < length s.frames → step e s ≡ Ok t →
+    record_of e s ≡ Some (Called (record_with called (arguments_in (scan s)) undone)) → FitsJournal called (arguments_in (scan s)) undone
+call_fits e s t called undone proper after is inside taken kept =
     let call = record_with called (arguments_in (scan s)) undone in
     let back = call_parts e s t (Called call) call taken kept refl in
     let within = arguments_within s is inside proper in
     let rest = then_is (nat_le call.read t.position && nat_le call.printed (length t.output)) _ (rest_of s) back.2 in
     let both = and_parts (nat_le call.read t.position) (nat_le call.printed (length t.output)) rest.0 in
     let limits = limits_kept t after.texts in
+    let value = value_of_call call s t back.0 in
     record {
       small = record {
-        value = omega (arith, value_of_call call s t back.0, limits.text);
+        value = omega (arith, value, limits.text);
         printed = omega (arith, leb-true call.printed (length t.output) both.1, limits.output);
-        read = omega (arith, leb-true call.read t.position both.0, step_within e s t taken position, short);
+        read = omega (arith, value, limits.text, read_of_call e s call is inside kept);
         bytes = omega (arith, within.bytes);
         arguments = omega (arith, within.count);
       };

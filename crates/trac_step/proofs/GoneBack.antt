@@ -1,6 +1,6 @@
--- The machine can go back over the newest record of a journal.
-use Rattle.std.proofs.Common.{◌≡◌, List, ◌∷◌, sym, ap, ◌∙◌, subst}
-use Rattle.std.specs.Prelude.{Some, IsSomeAnd}
+-- The machine can go back over the newest record that is kept.
+use Rattle.std.proofs.Common.{◌≡◌, Bool, true, false, List, [], ◌∷◌, refl, sym, ap, ◌∙◌, subst}
+use Rattle.std.specs.Prelude.{Some, IsSomeAnd, IsTrue}
 use Rattle.trac_rules.specs.Proper.{IsProper}
 use Rattle.trac_rules.specs.Records.{Called, CallRecord, Record, restored, restored_call, state_before}
 use Rattle.trac_rules.specs.State.{State}
@@ -60,3 +60,15 @@ module _ (m : Shown) (records : List Record) (called : code.Called) (a : Argumen
 
       pub call_gone_back : HasGoneBack m.state k.state records new
       call_gone_back = gone_back m records told.older _ told.first can k.state new (all_back called (all_texts a) told.undone m proper room there begun again k is_restored) destroyed.1
+
+-- ---- it is the only record
+
+-- so this is the one that was gone back over
+pub gone_back_over : {P : Type 0} (r : Record) (m k : Shown) (new : List Record) (gone : Bool) → (IsTrue gone → HasGoneBack m.state k.state (r ∷ []) new) → (gone ≡ false → (r ∷ [] ≡ []) × P) →
+    state_before r m.state ≡ Some k.state
+gone_back_over r m k new true back none =
+    let over = back refl in
+    let both : r ∷ [] ≡ over.newest ∷ new = over.taken in
+    let same : over.newest ≡ r = cc in
+    subst (λ (x : Record). state_before x m.state ≡ Some k.state) same over.leads_back
+gone_back_over r m k new false back none = let all : r ∷ [] ≡ [] = (none refl).0 in absurd (cc)

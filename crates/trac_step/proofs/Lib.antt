@@ -15,6 +15,7 @@ pub mod Beginnings
 pub mod Ended
 pub mod Planned
 pub mod Recorded
+pub mod Reading
 pub mod Fitting
 pub mod Stepped
 pub mod ScanningBack

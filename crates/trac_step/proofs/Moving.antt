@@ -13,7 +13,7 @@ use Rattle.trac_rules.specs.declared.scan.Front.TheVariants.{Nothing, Opening, L
 use Rattle.trac_rules.specs.Bytes.{idle_program}
 use Rattle.trac_rules.specs.State.{Frame, State}
 use Rattle.trac_rules.specs.Matching.{protected}
-use Rattle.trac_rules.specs.Scanning.{Moves, front_of, scan, scan_at, protect, deleted, begun, comma_in, closing_in, gather_first}
+use Rattle.trac_rules.specs.Scanning.{Moves, front_of, scan, scan_at, protect, deleted, comma_in, closing_in, gather_first}
 use Rattle.trac_rules.specs.Limits.{texts_fit, marks}
 use Rattle.trac_rules.specs.Proper.{IsProper}
 use Rattle.trac_text.specs.declared.mark.Mark.{Mark}
@@ -24,7 +24,6 @@ use Rattle.trac_text.specs.Moving.{adds_mark}
 use Rattle.trac_text.specs.Marks.{mark_at}
 use Rattle.trac_step.proofs.Rules.{begins, next_argument, ordered_push, marks-parts}
 use Rattle.trac_step.proofs.Limited.{beyond_limits_of_marks, fits_deleted, within_limits}
-use Rattle.trac_storage.proofs.Judged.{limits_kept}
 use Rattle.trac_step.proofs.Scans.{is_move, scan_front}
 use Rattle.trac_step.proofs.Changes.{sound_push, sound_gather, gather_parts}
 use Rattle.trac_text.proofs.Protected.{protected_length}
@@ -134,16 +133,6 @@ module _ (p : Parts) (sound : IsSound p) where
       (by_front front (nat_lt (length p.marks) MARK_LIMIT) (ap (λ (m : State). front_of m.active) view ∙ sym at) (limited_with_mark front e))
 
 -- ---- what the outcome says of the state before
-
-pub room_to_begin : (s : State) (kind : Kind) (n : ℕ) → texts_fit (begun kind (deleted n s)) ≡ true → marks s.frames < MARK_LIMIT
-room_to_begin s kind n e = let kept = limits_kept (begun kind (deleted n s)) e in omega (arith, kept.marked)
-
-room_in : (s : State) (fs : List Frame) → 0 < length fs → texts_fit (comma_in fs s) ≡ true → marks fs < MARK_LIMIT
-room_in s [] h e = absurd (omega arith)
-room_in s (f ∷ fs) h e = let kept = limits_kept (comma_in (f ∷ fs) s) e in omega (arith, kept.marked, length-append f.arguments (f.gathered ∷ []))
-
-pub room_for_argument : (s : State) → 0 < length s.frames → texts_fit (comma_in s.frames (deleted 1 s)) ≡ true → marks s.frames < MARK_LIMIT
-room_for_argument s h e = room_in (deleted 1 s) s.frames h e
 
 -- scanning moves on to this state, so a fact of it holds
 pub of_moves : (s t : State) (P : State → Type 0) → scan s ≡ Moves t → IfMoves (scan s) P → P t

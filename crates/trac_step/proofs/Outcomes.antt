@@ -1,10 +1,9 @@
 -- The outcome of a step, from what scanning asks for and what is performed.
 use Rattle.std.proofs.Common.{◌≡◌, sym, ap, ◌∙◌, subst, true, false}
-use Rattle.std.specs.Prelude.{Option, Some, Result, Ok, Err, IfErr, IfOk, IsOkUnless, OnErr, OnOk}
+use Rattle.std.specs.Prelude.{Result, Ok, Err, IfErr, IsOkUnless, OnErr, OnOk}
 use Rattle.trac_rules.specs.declared.refusal.Refusal.{Refusal}
 use Rattle.trac_rules.specs.declared.refusal.Refusal.TheVariants.{Memory, TooLong}
 use Rattle.trac_rules.specs.State.{Environment, State}
-use Rattle.trac_rules.specs.Records.{Record}
 use Rattle.trac_rules.specs.Scanning.{Scanned, Moves, scan}
 use Rattle.trac_rules.specs.Limits.{texts_fit}
 use Rattle.trac_rules.specs.Outcomes.{limited, MayLackMemory}
@@ -18,14 +17,10 @@ pub refused_for_memory : {R P : Type 0} (r : Result R Refusal) (Q : Refusal → 
 refused_for_memory (Ok x) Q same is holds = tt
 refused_for_memory (Err e) Q same is holds = subst Q (sym is) (holds same)
 
--- a call that is the last one of another leads to the same state, and leaves the same record
+-- a call that is the last one of another leads to the same state
 pub taken_by : {R : Type 0} (r : Result R Refusal) (outcome : Result State Refusal) (s t : State) → outcome ≡ Ok s → OnOk r (t ≡ s) → OnOk r (outcome ≡ Ok t)
 taken_by (Ok x) outcome s t taken same = taken ∙ ap Ok (sym same)
 taken_by (Err e) outcome s t taken same = tt
-
-pub recorded_as : {R : Type 0} (r : Result R Refusal) (read : R → Record) (kept : Record) (wanted : Option Record) → wanted ≡ Some kept → IfOk r (λ x. read x ≡ kept) → IfOk r (λ x. wanted ≡ Some (read x))
-recorded_as (Ok x) read kept wanted is same = is ∙ ap Some (sym same)
-recorded_as (Err e) read kept wanted is same = tt
 
 -- what holds of every refusal
 pub if_err_always : {R : Type 0} (r : Result R Refusal) (Q : Refusal → Type 0) → ((e : Refusal) → Q e) → IfErr r Q

@@ -1,15 +1,14 @@
 -- What a step of scanning keeps, and when it lacks room.
-use Rattle.std.proofs.Common.{◌≡◌, ℕ, ◌+◌, ◌<◌, ◌≤◌, List, [], ◌∷◌, length, get_or, refl, sym, ap, subst, ◌∙◌, arith}
+use Rattle.std.proofs.Common.{◌≡◌, ◌+◌, ◌<◌, ◌≤◌, List, [], ◌∷◌, length, get_or, refl, sym, ap, subst, ◌∙◌, arith}
 use Rattle.std.proofs.lemmas.List.{length-append}
 use Rattle.std.proofs.lemmas.Result.{on_ok_weaker}
 use Rattle.std.specs.Prelude.{Some, Result, Ok, Err, IfOk, OnOk}
-use Rattle.trac_rules.specs.declared.kind.Kind.{Kind}
 use Rattle.trac_rules.specs.declared.refusal.Refusal.{Refusal}
 use Rattle.trac_rules.specs.declared.scan.Front.{Front}
 use Rattle.trac_rules.specs.declared.scan.Front.TheVariants as front
 use Rattle.trac_rules.specs.Limits.{marks}
 use Rattle.trac_rules.specs.Records.{CallRecord, Record, Called, Deleted, record_in, record_of, recorded, recorded_at, rest_before, rest_of, state_before, texts_before, texts_in}
-use Rattle.trac_rules.specs.Scanning.{Scanned, Calls, Moves, begun, closing_in, comma_in, deleted, front_of, scan}
+use Rattle.trac_rules.specs.Scanning.{Scanned, Calls, Moves, closing_in, comma_in, deleted, front_of, scan}
 use Rattle.trac_rules.specs.State.{Environment, Frame, State, storage_of}
 use Rattle.trac_rules.specs.Stepping.{step}
 use Rattle.trac_rules.specs.Proper.{IsProper}
@@ -91,10 +90,6 @@ module _ {R : Type 0} (read : R → Record) (e : Environment) (s t : State) wher
 pub lacks_a_mark : (m : Shown) (t : State) → m.mark_room ≤ marks m.state.frames → marks t.frames ≡ marks m.state.frames + 1 → scan m.state ≡ Moves t → LacksRoomAhead m
 lacks_a_mark m t full more moves other =
     subst (λ x. IfMoves x (λ u. HasRoom m u → ⊥)) (sym moves) (λ room. absurd (omega (arith, full, more, room.marks)))
-
--- so where a function is begun
-pub lacks_to_begin : (kind : Kind) (n : ℕ) (m : Shown) → m.mark_room ≤ marks m.state.frames → scan m.state ≡ Moves (begun kind (deleted n m.state)) → LacksRoomAhead m
-lacks_to_begin kind n m full moves = lacks_a_mark m (begun kind (deleted n m.state)) full (omega arith) moves
 
 -- a further argument is one mark more
 pub argument_marks : (fs : List Frame) (s : State) → 0 < length fs → marks (comma_in fs s).frames ≡ marks fs + 1

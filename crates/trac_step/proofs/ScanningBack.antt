@@ -50,13 +50,6 @@ module _ (r known : Record) (is : r ≡ known) (m : Shown) (room : IsSomeAnd (st
   pub known_goes_back : (s : State) → restored known m.state ≡ Some s → state_before r m.state ≡ Some s
   known_goes_back s back = before_is_restored r m m.state s room (ap (λ (x : Record). restored x m.state) is ∙ back)
 
-  -- it leads back by either name
-  pub leads_back : IsSomeAnd (state_before known m.state) (λ s. HasRoom m s)
-  leads_back = subst (λ (x : Record). IsSomeAnd (state_before x m.state) (λ s. HasRoom m s)) is room
-
-  pub leads_to : (s : State) → state_before known m.state ≡ Some s → state_before r m.state ≡ Some s
-  leads_to s back = ap (λ (x : Record). state_before x m.state) is ∙ back
-
 -- what can be shown is there
 pub shown_is_some : (m : Shown) (o : Option State) → CanShow m o → IsSome o
 shown_is_some m None h = absurd h

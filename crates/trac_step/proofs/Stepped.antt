@@ -1,8 +1,8 @@
 -- A step whose record is kept, from the rule that is carried out.
-use Rattle.std.proofs.Common.{◌≡◌, ℕ, ◌+◌, ◌<◌, ◌≤◌, List, [], ◌++◌, ◌∷◌, get_or, length, ◌⊎◌, inl, inr, refl, sym, ap, ◌∙◌, subst, arith, true, false}
+use Rattle.std.proofs.Common.{◌≡◌, ℕ, ◌+◌, ◌<◌, ◌≤◌, List, [], ◌∷◌, get_or, length, ◌⊎◌, inl, inr, refl, sym, ap, ◌∙◌, subst, arith, true, false}
 use Rattle.std.proofs.lemmas.Result.{err_from_is_err_and}
 use Rattle.std.specs.Result.{IsErrAnd}
-use Rattle.std.specs.Prelude.{Result, Ok, Err, Option, None, Some, replicate}
+use Rattle.std.specs.Prelude.{Result, Ok, Err, Option, None, Some}
 use Rattle.trac_rules.specs.declared.kind.Kind.{Kind}
 use Rattle.trac_rules.specs.declared.limit.TheConstants.{MARK_LIMIT}
 use Rattle.trac_rules.specs.declared.refusal.Refusal.{Refusal}
@@ -11,15 +11,16 @@ use Rattle.trac_rules.specs.declared.scan.Front.{Front}
 use Rattle.trac_rules.specs.declared.scan.Front.TheVariants.{Comma, Sharp, Plain}
 use Rattle.trac_rules.specs.Limits.{marks, texts_fit}
 use Rattle.trac_rules.specs.Records as told
-use Rattle.trac_rules.specs.Records.{Deleted, Moved, Record, comma_recorded, recorded, recorded_at}
+use Rattle.trac_rules.specs.Records.{Deleted, Moved, Record, comma_recorded, record_of, recorded, recorded_at}
 use Rattle.trac_rules.specs.Scanning.{Moves, comma_in, deleted, front_of, gather_first, scan, scan_at}
 use Rattle.trac_rules.specs.State.{Environment, Frame, State}
-use Rattle.trac_journal.specs.Journaled.{Journaled}
 use Rattle.trac_storage.proofs.Judged.{limits_kept}
 use Rattle.trac_storage.proofs.Outcomes.{refuses_memory}
 use Rattle.trac_step.specs.Calling.{IfMoves, IsMove, with_mark}
 use Rattle.trac_step.specs.Kept.{IsAdded, IsCarriedOut, IsStepped}
 use Rattle.trac_step.specs.Layout.{Shown}
+use Rattle.trac_step.specs.Record.{IsTaken, recorded_by}
+use Rattle.trac_step.specs.declared.record.Record as alone
 use Rattle.trac_step.specs.Room.{IsNoLess, LacksRoomAhead}
 use Rattle.trac_step.proofs.Moving.{of_moves}
 use Rattle.trac_step.proofs.Outcomes.{move_beyond, move_lacks, move_taken}
@@ -30,9 +31,9 @@ use Rattle.trac_step.proofs.Scans.{scan_front}
 -- ---- what carries out a rule
 
 -- memory is refused
-pub not_carried_out : {R : Type 0} (r : Result R Refusal) (m n : Shown) (old new : Journaled) → r ≡ Err Memory → n ≡ m → new.records ≡ old.records → (1 ≤ old.places → LacksRoomAhead m) →
-    IsCarriedOut r m n old new
-not_carried_out r m n old new is same records lacks = subst (λ r. IsCarriedOut r m n old new) (sym is) (record {
+pub not_carried_out : {R : Type 0} (r : Result R Refusal) (m n : Shown) (old new : List Record) (places : ℕ) → r ≡ Err Memory → n ≡ m → new ≡ old → (1 ≤ places → LacksRoomAhead m) →
+    IsCarriedOut r m n old new places
+not_carried_out r m n old new places is same records lacks = subst (λ r. IsCarriedOut r m n old new places) (sym is) (record {
   ok = tt;
   kept = tt;
   unchanged = (same, records);
@@ -41,16 +42,17 @@ not_carried_out r m n old new is same records lacks = subst (λ r. IsCarriedOut 
   room = subst (λ (k : Shown). IsNoLess m k) (sym same) (no_less m);
 })
 
--- by the journal, which has no place
-pub no_place : {R : Type 0} (r : Result R Refusal) (m : Shown) (old new : Journaled) (e : Refusal) → IsErrAnd r (λ said. said ≡ e) → e ≡ Memory → new.records ≡ old.records → old.places ≡ 0 → IsCarriedOut r m m old new
-no_place r m old new e is memory same full =
+-- for the record, which has no place
+pub no_place : {R : Type 0} (r : Result R Refusal) (m : Shown) (old new : List Record) (places : ℕ) (e : Refusal) → IsErrAnd r (λ said. said ≡ e) → e ≡ Memory → new ≡ old → places ≡ 0 →
+    IsCarriedOut r m m old new places
+no_place r m old new places e is memory same full =
     let why = err_from_is_err_and r is in
-    not_carried_out r m m old new (why.1 ∙ ap Err (why.2 ∙ memory)) refl same (λ place. absurd (omega (arith, place, full)))
+    not_carried_out r m m old new places (why.1 ∙ ap Err (why.2 ∙ memory)) refl same (λ place. absurd (omega (arith, place, full)))
 
 -- or the state is that to which scanning moves on, and the record is added
-pub carried_out : {R : Type 0} (x : R) (m n : Shown) (old new : Journaled) (t : State) → scan m.state ≡ Moves t → n.state ≡ t → new.records ≡ recorded m.state ∷ old.records → IsNoLess m n →
-    IsCarriedOut (Ok x) m n old new
-carried_out x m n old new t moves same added room = record {
+pub carried_out : {R : Type 0} (x : R) (m n : Shown) (old new : List Record) (places : ℕ) (t : State) → scan m.state ≡ Moves t → n.state ≡ t → new ≡ recorded m.state ∷ old → IsNoLess m n →
+    IsCarriedOut (Ok x) m n old new places
+carried_out x m n old new places t moves same added room = record {
   ok = moves ∙ ap Moves (sym same);
   kept = added;
   unchanged = tt;
@@ -59,23 +61,23 @@ carried_out x m n old new t moves same added room = record {
   room = room;
 }
 
-pub carried_so : {R : Type 0} (x : R) (m n : Shown) (old new : Journaled) (t : State) → scan m.state ≡ Moves t → n ≡ record m { state = t } → new.records ≡ recorded m.state ∷ old.records →
-    IsCarriedOut (Ok x) m n old new
-carried_so x m n old new t moves shown added =
-    carried_out x m n old new t moves (ap (λ (k : Shown). k.state) shown) added (subst (λ (k : Shown). IsNoLess m k) (sym shown) (no_less_state m t))
+pub carried_so : {R : Type 0} (x : R) (m n : Shown) (old new : List Record) (places : ℕ) (t : State) → scan m.state ≡ Moves t → n ≡ record m { state = t } → new ≡ recorded m.state ∷ old →
+    IsCarriedOut (Ok x) m n old new places
+carried_so x m n old new places t moves shown added =
+    carried_out x m n old new places t moves (ap (λ (k : Shown). k.state) shown) added (subst (λ (k : Shown). IsNoLess m k) (sym shown) (no_less_state m t))
 
 -- a byte goes to the current text
-pub gathered : {R : Type 0} (x : R) (m n : Shown) (old new : Journaled) (at : Front) → (at ≡ Sharp) ⊎ (at ≡ Plain) → at ≡ front_of m.state.active →
-    n ≡ record m { state = gather_first m.state } → new ≡ record old { records = replicate 1 Moved ++ old.records } → IsCarriedOut (Ok x) m n old new
-gathered x m n old new at which front self_is journal_is = elim which [
+pub gathered : {R : Type 0} (x : R) (m n : Shown) (old new : List Record) (places : ℕ) (at : Front) → (at ≡ Sharp) ⊎ (at ≡ Plain) → at ≡ front_of m.state.active →
+    n ≡ record m { state = gather_first m.state } → new ≡ Moved ∷ old → IsCarriedOut (Ok x) m n old new places
+gathered x m n old new places at which front self_is added = elim which [
   | inl is ↦ by_front Sharp refl refl (sym front ∙ is)
   | inr is ↦ by_front Plain refl refl (sym front ∙ is)
 ]
   where
-    by_front : (f : Front) → scan_at f m.state ≡ Moves (gather_first m.state) → recorded_at f m.state ≡ Moved → front_of m.state.active ≡ f → IsCarriedOut (Ok x) m n old new
+    by_front : (f : Front) → scan_at f m.state ≡ Moves (gather_first m.state) → recorded_at f m.state ≡ Moved → front_of m.state.active ≡ f → IsCarriedOut (Ok x) m n old new places
     by_front f scans records is =
-        carried_so x m n old new (gather_first m.state) (scan_front m.state f is ∙ scans) self_is
-        (ap (λ (j : Journaled). j.records) journal_is ∙ ap (λ (r : Record). r ∷ old.records) (sym (recorded_front m.state f is ∙ records)))
+        carried_so x m n old new places (gather_first m.state) (scan_front m.state f is ∙ scans) self_is
+        (added ∙ ap (λ (r : Record). r ∷ old) (sym (recorded_front m.state f is ∙ records)))
 
 -- ---- marks
 
@@ -109,17 +111,17 @@ comma_told s is inside = by_frames s.frames inside ∙ sym (recorded_front s Com
 -- ---- what that says of the step
 
 -- within the limits
-pub stepped : {R : Type 0} (e : Environment) (r : Result R Refusal) (m n : Shown) (old new : Journaled) → IsMove (scan m.state) → IfMoves (scan m.state) (λ t. true ≡ texts_fit t) →
-    IsCarriedOut r m n old new → IsStepped e r m n old new
-stepped e (Ok x) m n old new moves fits h = record {
+pub stepped : {R : Type 0} (e : Environment) (r : Result R Refusal) (m n : Shown) (old new : List Record) (places : ℕ) → IsMove (scan m.state) → IfMoves (scan m.state) (λ t. true ≡ texts_fit t) →
+    IsCarriedOut r m n old new places → IsStepped e r m n old new places
+stepped e (Ok x) m n old new places moves fits h = record {
   taken = move_taken e m.state n.state h.ok fits;
-  kept = subst (λ (o : Option Record). IsAdded o old.records new.records) (sym (move_recorded e m.state moves)) h.kept;
+  kept = subst (λ (o : Option Record). IsAdded o old new) (sym (move_recorded e m.state moves)) h.kept;
   refused = tt;
   unchanged = tt;
   lacking = tt;
   room = h.room;
 }
-stepped e (Err refusal) m n old new moves fits h = record {
+stepped e (Err refusal) m n old new places moves fits h = record {
   taken = tt;
   kept = tt;
   refused = refuses_memory _ refusal h.err (move_lacks e m.state moves);
@@ -129,8 +131,9 @@ stepped e (Err refusal) m n old new moves fits h = record {
 }
 
 -- and beyond them
-pub not_stepped : {R : Type 0} (e : Environment) (m : Shown) (j : Journaled) → IsMove (scan m.state) → IfMoves (scan m.state) (λ t. false ≡ texts_fit t) → IsStepped {R = R} e (Err TooLong) m m j j
-not_stepped e m j moves beyond = record {
+pub not_stepped : {R : Type 0} (e : Environment) (m : Shown) (records : List Record) (places : ℕ) → IsMove (scan m.state) → IfMoves (scan m.state) (λ t. false ≡ texts_fit t) →
+    IsStepped {R = R} e (Err TooLong) m m records records places
+not_stepped e m records places moves beyond = record {
   taken = tt;
   kept = tt;
   refused = move_beyond e m.state moves beyond;
@@ -138,3 +141,38 @@ not_stepped e m j moves beyond = record {
   lacking = λ is. absurd (cc);
   room = no_less m;
 }
+
+-- ---- a step whose record is kept by itself
+
+-- a record is added
+pub one_at_least : (o : Option Record) (old new : List Record) → IsAdded o old new → 0 < length new
+one_at_least None old new h = absurd h
+one_at_least (Some r) old new h = omega (arith, ap (λ (records : List Record). length records) h)
+
+-- it is the only one
+pub taken_alone : {R A : Type 0} (x : R) (r : alone.Record A) (e : Environment) (m n : Shown) (new : List Record) (places : ℕ) → IsStepped e (Ok x) m n [] new places → new ≡ recorded_by r ∷ [] →
+    IsTaken e (Ok r) m n
+taken_alone x r e m n new places h is = record {
+  taken = h.taken;
+  recorded = by_record (record_of e m.state) h.kept;
+  refused = tt;
+  lacking = tt;
+  room = h.room;
+}
+  where
+    by_record : (o : Option Record) → IsAdded o [] new → o ≡ Some (recorded_by r)
+    by_record None added = absurd added
+    by_record (Some newest) added = let both : newest ∷ [] ≡ recorded_by r ∷ [] = sym added ∙ is in cc
+
+-- or the step is refused
+pub not_taken : {R A : Type 0} (r : Result (alone.Record A) Refusal) (refusal : Refusal) (e : Environment) (m n : Shown) (old new : List Record) (places : ℕ) → IsErrAnd r (λ said. said ≡ refusal) → 1 ≤ places →
+    IsStepped {R = R} e (Err refusal) m n old new places → IsTaken e r m n
+not_taken {R} {A} r refusal e m n old new places is place h =
+    let why = err_from_is_err_and r is in
+    subst (λ (r : Result (alone.Record A) Refusal). IsTaken e r m n) (sym (why.1 ∙ ap Err why.2)) (record {
+      taken = tt;
+      recorded = tt;
+      refused = (h.unchanged.0, h.refused);
+      lacking = λ said. h.lacking said place;
+      room = h.room;
+    })

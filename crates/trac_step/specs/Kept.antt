@@ -1,12 +1,11 @@
--- Steps whose records go into a journal, and the way back over them.
-use Rattle.std.specs.Prelude.{◌≡◌, ◌<◌, ◌≤◌, ◌-◌, ◌^◌, ℕ, List, [], ◌∷◌, length, Option, None, Some, IsSomeAnd}
+-- Steps whose records are kept, and the way back over them.
+use Rattle.std.specs.Prelude.{◌≡◌, ◌<◌, ◌≤◌, ℕ, List, [], ◌∷◌, length, Option, None, Some, IsSomeAnd}
 use Rattle.std.specs.Prelude.{Result, Ok, IfErr, IsOkUnless, OnErr, OnOk}
 use Rattle.std.specs.List.{concat}
 use Rattle.trac_journal.specs.declared.called.Called.{Called}
-use Rattle.trac_journal.specs.Journaled.{HasPlaceForCall, IsLight, Journaled}
+use Rattle.trac_journal.specs.Journaled.{IsLight}
 use Rattle.trac_journal.specs.Listed.{AreSmall}
 use Rattle.trac_journal.specs.Told.{record_with}
-use Rattle.trac_rules.specs.declared.limit.TheConstants.{JOURNAL_LIMIT}
 use Rattle.trac_rules.specs.declared.refusal.Refusal.{Refusal}
 use Rattle.trac_rules.specs.declared.refusal.Refusal.TheVariants.{Memory}
 use Rattle.trac_rules.specs.Outcomes.{MayRefuse}
@@ -28,28 +27,28 @@ pub record FitsJournal (called : Called) (arguments : List (List ℕ)) (undone :
   pub small : AreSmall called (length (concat arguments)) (length arguments)
   pub light : IsLight (CallOf (record_with called arguments undone))
 
--- a journal has room for the record of the call at which a state stands, if this is said of the call, and this is what
--- it destroyed of forms and blocks
-pub record HasRoomForCall (s : State) (called : Called) (undone : Undone) (journal : Journaled) : Type 0 where
-  pub not_full : length journal.records < JOURNAL_LIMIT
-  pub place : HasPlaceForCall (length (concat (arguments_in (scan s)))) (length (arguments_in (scan s)) - 1) journal
+-- what keeps these records, so many at most, can keep that of the call at which a state stands too, if this is said of
+-- the call, and this is what it destroyed of forms and blocks. It has room for calls of such arguments
+pub record HasRoomForCall (s : State) (called : Called) (undone : Undone) (records : List Record) (most : ℕ)
+    (room : List (List ℕ) → Type 0) : Type 0 where
+  pub not_full : length records < most
+  pub place : room (arguments_in (scan s))
   pub fits : FitsJournal called (arguments_in (scan s)) undone
 
 -- a machine comes to this state, and this record is added; or memory is refused, and nothing but rooms changes
 pub record IsKeptAs {R : Type 0} (kept : Record) (state : State) (result : Result R Refusal) (before after : Shown)
-    (old new : Journaled) : Type 0 where
+    (old new : List Record) : Type 0 where
   pub done : OnOk result (after.state ≡ state)
-  pub added : OnOk result (new.records ≡ kept ∷ old.records)
-  pub unchanged : OnErr result ((after.state ≡ before.state) × (new.records ≡ old.records))
+  pub added : OnOk result (new ≡ kept ∷ old)
+  pub unchanged : OnErr result ((after.state ≡ before.state) × (new ≡ old))
   pub err : IsOkUnless result Memory
   pub room : IsNoLess before after
 
--- a machine may take a step whose record is added
-pub record CanStep (environment : Environment) (m : Shown) (journal : Journaled) : Type 0 where
+-- a machine may take a step whose record is added to these, of which there may be so many
+pub record CanStep (environment : Environment) (m : Shown) (records : List Record) (most : ℕ) : Type 0 where
   pub proper : IsProper m.state
   pub position : m.state.position ≤ length environment.tape.bytes
-  pub short : length environment.tape.bytes < 2 ^ 32
-  pub not_full : length journal.records < JOURNAL_LIMIT
+  pub not_full : length records < most
 
 -- the records have this one more, the newest
 abbrev pub IsAdded : Option Record → List Record → List Record → Type 0
@@ -66,25 +65,25 @@ pub record IsKept (environment : Environment) (before after : State) (old new : 
   pub added : new ≡ newest ∷ old
 
 -- the rule for the front of a machine's active text is carried out, which asks for no call, and its record is added; or
--- memory is refused, and nothing but rooms changes
-pub record IsCarriedOut {R : Type 0} (result : Result R Refusal) (before after : Shown) (old new : Journaled)
-    : Type 0 where
+-- memory is refused, and nothing but rooms changes. There were so many places for records
+pub record IsCarriedOut {R : Type 0} (result : Result R Refusal) (before after : Shown) (old new : List Record)
+    (places : ℕ) : Type 0 where
   pub ok : OnOk result (scan before.state ≡ Moves after.state)
-  pub kept : OnOk result (new.records ≡ recorded before.state ∷ old.records)
-  pub unchanged : OnErr result ((after ≡ before) × (new.records ≡ old.records))
-  pub lacking : OnErr result (1 ≤ old.places → LacksRoomAhead before)
+  pub kept : OnOk result (new ≡ recorded before.state ∷ old)
+  pub unchanged : OnErr result ((after ≡ before) × (new ≡ old))
+  pub lacking : OnErr result (1 ≤ places → LacksRoomAhead before)
   pub err : IsOkUnless result Memory
   pub room : IsNoLess before after
 
 -- a machine takes its next step and its record is added, or the step is refused, and nothing but rooms changes. A step
--- of scanning is refused memory only if the machine or the journal lacks room
+-- of scanning is refused memory only if the machine lacks room, or there was no place for its record
 pub record IsStepped {R : Type 0} (environment : Environment) (result : Result R Refusal) (before after : Shown)
-    (old new : Journaled) : Type 0 where
+    (old new : List Record) (places : ℕ) : Type 0 where
   pub taken : OnOk result (step environment before.state ≡ Ok after.state)
-  pub kept : OnOk result (IsAdded (record_of environment before.state) old.records new.records)
+  pub kept : OnOk result (IsAdded (record_of environment before.state) old new)
   pub refused : IfErr result (MayRefuse (step environment before.state))
-  pub unchanged : OnErr result ((after.state ≡ before.state) × (new.records ≡ old.records))
-  pub lacking : IfErr result (λ e. e ≡ Memory → 1 ≤ old.places → LacksRoomAhead before)
+  pub unchanged : OnErr result ((after.state ≡ before.state) × (new ≡ old))
+  pub lacking : IfErr result (λ e. e ≡ Memory → 1 ≤ places → LacksRoomAhead before)
   pub room : IsNoLess before after
 
 -- the newest of the records, if there is one, leads back to a state for which a machine has room

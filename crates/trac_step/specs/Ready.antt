@@ -1,6 +1,5 @@
 -- A call that is planned, and may be performed.
 use Rattle.std.specs.Prelude.{◌≡◌, ◌+◌, ◌≤◌, [], length, Option, None, Some, Ok}
-use Rattle.std.specs.List.{concat}
 use Rattle.trac_rules.specs.declared.scan.Front.TheVariants.{Closing}
 use Rattle.trac_rules.specs.Limits.{text_bytes}
 use Rattle.trac_rules.specs.Proper.{IsProper, IsProperStorage}
@@ -32,8 +31,6 @@ pub record IsReady {A : Type 0} (s : State) (made : Made A) (plan : Plan) (chang
   pub front : front_of s.active ≡ Closing
   pub begins : BeginsInnermost s plan.beginning
   pub position : plan.position ≡ s.position + plan.called.read
-  pub bytes : plan.bytes ≡ length (concat (arguments_in (scan s)))
-  pub commas : plan.commas + 1 ≡ length (arguments_in (scan s))
   pub pieces : PiecesAreOf (arguments_in (scan s)) (storage_of s) change
   pub proper : IsProper (state_after plan made change (scan s))
 

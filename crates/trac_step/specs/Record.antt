@@ -1,5 +1,5 @@
 -- What a record says of the state before its step.
-use Rattle.std.specs.Prelude.{◌≡◌, IfErr, IfOk, OnOk, Ok, Option, Result, Some}
+use Rattle.std.specs.Prelude.{◌≡◌, IfErr, IfOk, List, [], ◌∷◌, OnOk, Ok, Option, None, Result, Some}
 use Rattle.trac_rules.specs.declared.refusal.Refusal.{Refusal}
 use Rattle.trac_rules.specs.declared.refusal.Refusal.TheVariants.{Memory}
 use Rattle.trac_rules.specs.Outcomes.{MayRefuse}
@@ -33,6 +33,11 @@ recorded_by (Call kind arguments value scanned printed read meta trace change) =
       trace = trace;
       undone = undone_in change;
     })
+
+-- the records that are kept where there is a place for one
+abbrev pub kept_in : {A : Type 0} → Option (Record A) → List rules.Record
+kept_in None = []
+kept_in (Some r) = recorded_by r ∷ []
 
 -- the state before, from the record of a step and the state after it
 abbrev pub before : {A : Type 0} → Record A → State → Option State

@@ -8,7 +8,7 @@ ghost use Rattle.trac_step.specs.Room.{HasRoom, IsNoLess};
 use crate::engine::Core;
 use std::alloc::Allocator;
 use trac_gap::TwoEnds;
-use trac_journal::{Journal, Short};
+use trac_journal::{Journal, Keeper, Short};
 use trac_text::Mark;
 
 impl<E: TwoEnds<u8, A>, M: TwoEnds<Mark, A>, A: Allocator + Copy> Core<E, M, A> {
@@ -41,18 +41,31 @@ impl<E: TwoEnds<u8, A>, M: TwoEnds<Mark, A>, A: Allocator + Copy> Core<E, M, A> 
             (journal.old.records ≡ []) × ((journal.new.records ≡ []) × (self.new ≡ self.old)) }
         ensures room { IsNoLess self.old self.new }
     {
+        self.go_back(journal)
+    }
+
+    // The same, whatever keeps the records.
+    #[inline(always)]
+    pub(crate) fn go_back<K: Keeper<A>>(&mut self, keeper: &mut K) -> bool
+        requires { CanGoBack self.old (K.records keeper.old) }
+        ensures back { IsTrue result →
+            HasGoneBack self.old.state self.new.state (K.records keeper.old) (K.records keeper.new) }
+        ensures none { result ≡ false →
+            (K.records keeper.old ≡ []) × ((K.records keeper.new ≡ []) × (self.new ≡ self.old)) }
+        ensures room { IsNoLess self.old self.new }
+    {
         self.recall_room();
-        if let Some(short) = journal.pop_short() {
+        if let Some(short) = keeper.pop_short() {
             self.undo_short(short);
             return true;
         }
-        if let Some(call) = journal.newest_call() {
+        if let Some(call) = keeper.newest_call() {
             self.begin_again(call.called, &call.arguments);
-            let undone = journal.pop_call();
+            let undone = keeper.pop_call();
             self.restore_storage(undone);
             return true;
         }
-        if let Some(emptied) = journal.pop_idle() {
+        if let Some(emptied) = keeper.pop_idle() {
             let frames = emptied.frames;
             self.unload(emptied.base.as_slice(), frames);
             return true;

@@ -1,7 +1,6 @@
 //! The steps that perform a function.
 ghost use Rattle.std.specs.Prelude.{◌≡◌, ◌<◌, ◌≤◌, ◌+◌, ◌-◌, ◌++◌, ◌∷◌, length, drop, option_map, IfErr};
 ghost use Rattle.std.specs.Prelude.{IfOk, IsOkUnless, OnErr, OnOk, Ok};
-ghost use Rattle.trac_rules.specs.declared.limit.TheConstants.{JOURNAL_LIMIT};
 ghost use Rattle.trac_rules.specs.Outcomes.{MayRefuse};
 ghost use Rattle.trac_rules.specs.Records as rules;
 ghost use Rattle.trac_rules.specs.Records.{is_scanned};
@@ -16,19 +15,17 @@ ghost use Rattle.trac_step.specs.Calling.{BeginsInnermost, HasRoomFor, IsBegun, 
 ghost use Rattle.trac_step.specs.Calling.{with_change};
 ghost use Rattle.trac_step.specs.Kept.{CanStep, FitsJournal, HasRoomForCall, IsKeptAs, IsStepped};
 ghost use Rattle.trac_step.specs.Ready.{CanChange, CanEnd, IsFound, IsReady, recorded_after, undone_after};
-ghost use Rattle.trac_step.specs.Record.{IsTaken, recorded_by};
 ghost use Rattle.trac_step.specs.Room.{IsNoLess};
 
 use crate::engine::Core;
-use crate::record::Record;
 use std::alloc::Allocator;
 use trac_gap::{SlidingBuf, TwoEnds};
-use trac_journal::{Called, Journal, Undone};
+use trac_journal::{Called, Keeper, Undone};
 use trac_prims::{Deed, Made, Now, Tape, UnnamedChange, plan_into};
 use trac_rules::scan::Front;
 use trac_storage::change_forms;
 use trac_text::calls::{cut_function, put_value};
-use trac_text::{Args, Beginning, Kind, Mark, Pieces, Refusal, ends};
+use trac_text::{Args, Beginning, Kind, Mark, Refusal, ends};
 
 // What is known of a call that may be performed, but for the texts that it makes and what becomes of forms and blocks.
 #[derive(Clone, Copy)]
@@ -37,10 +34,6 @@ pub(crate) struct Plan {
     pub(crate) beginning: Beginning,
     // what its record says
     pub(crate) called: Called,
-    // how many bytes its arguments have together
-    pub(crate) bytes: usize,
-    // how many commas stand between them
-    pub(crate) commas: usize,
     // how many bytes of the tape are read then
     pub(crate) position: usize,
     // whether its value is scanned, though the function may be neutral
@@ -142,8 +135,6 @@ impl<E: TwoEnds<u8, A>, M: TwoEnds<Mark, A>, A: Allocator + Copy> Core<E, M, A> 
                 kind: function.kind,
             },
             called: called_by(function.kind, now, made, deed),
-            bytes: function.arguments.joined().len(),
-            commas: function.arguments.comma_count(),
             forced: deed.forced,
             position: now.position + deed.read,
             meta: deed.meta,
@@ -207,142 +198,108 @@ impl<E: TwoEnds<u8, A>, M: TwoEnds<Mark, A>, A: Allocator + Copy> Core<E, M, A> 
         self.position = plan.position;
     }
 
-    // Performs the call that is planned, and returns its record. It is refused memory alone, and then the state stays.
-    fn perform(
-        &mut self,
-        plan: &Plan,
-        made: &Made<A>,
-        change: &mut UnnamedChange<A>,
-    ) -> Result<Record<A>, Refusal>
-        requires { IsReady self.old.state made.now plan.now change.old }
-        ensures done { OnOk result (self.new.state ≡ state_after plan.now made.now change.old (scan self.old.state)) }
-        ensures recorded { IfOk result (λ r. recorded_by r ≡ recorded_after plan.now change.old self.old.state) }
-        ensures unchanged { OnErr result (self.new.state ≡ self.old.state) }
-        ensures err { IsOkUnless result Refusal.Memory }
-        ensures room { IsNoLess self.old self.new }
-    {
-        let lent = arguments_at(&self.text, &self.marks, plan.beginning);
-        let arguments = Pieces::of(*self.output.allocator(), &lent)?;
-        self.make_room(made)?;
-        let undone = self.change_storage(plan.beginning, change)?;
-        self.end_call(plan, made);
-        Ok(Record::of_call(plan.called, arguments, undone))
-    }
-
-    // A `)`: the innermost function is performed, or the `)` is deleted if none is begun.
-    pub(crate) fn close(&mut self, tape: Tape<'_>) -> Result<Record<A>, Refusal>
-        requires front { front_of self.old.state.active ≡ Front.Closing }
-        requires within { self.old.state.position ≤ length tape.bytes.now }
-        ensures { IsTaken (environment_of self.old.width tape.entry) result self.old self.new }
-    {
-        let mut made = Made::new(*self.output.allocator());
-        let mut change = UnnamedChange::Keep;
-        let Some(plan) = self.planned(tape, &mut made, &mut change)? else {
-            return self.move_step(Front::Closing);
-        };
-        self.perform(&plan, &made, &mut change)
-    }
-
-    // Keeps the record of the call that the next step performs in the journal, which has room for it: its arguments are
-    // copied there. This is what it destroyed of forms and blocks.
+    // Keeps the record of the call that the next step performs, for which there is room. This is what it destroyed of
+    // forms and blocks.
     #[inline(always)]
-    fn keep_call(&self, journal: &mut Journal<A>, plan: &Plan, undone: Undone<A>)
+    fn keep_call<K: Keeper<A>>(&self, keeper: &mut K, plan: &Plan, mut undone: Undone<A>)
         requires front { front_of self.now.state.active ≡ Front.Closing }
         requires begins { BeginsInnermost self.now.state plan.now.beginning }
-        requires room { HasRoomForCall self.now.state plan.now.called (undone_in undone) journal.old }
-        ensures { journal.new.records
+        requires room { HasRoomForCall self.now.state plan.now.called (undone_in undone) (K.records keeper.old) K.most
+            (K.has_room keeper.old) }
+        ensures { K.records keeper.new
             ≡ rules.Called (record_with plan.now.called (arguments_in (scan self.now.state)) (undone_in undone))
-            ∷ journal.old.records }
+            ∷ K.records keeper.old }
     {
         let arguments = arguments_at(&self.text, &self.marks, plan.beginning);
-        journal.push_call(plan.called, &arguments, undone);
+        keeper.push_call(plan.called, &arguments, &mut undone);
     }
 
-    // Changes forms and blocks as the call planned it, and keeps its record in the journal, which has room for it. It
-    // is refused memory alone, and then the state and the records stay. Most calls change nothing of forms and blocks,
+    // Changes forms and blocks as the call planned it, and keeps its record, for which there is room. It is refused
+    // memory alone, and then the state and the records stay. Most calls change nothing of forms and blocks,
     // and for these the compiler makes a way of its own.
-    fn change_into(
+    fn change_into<K: Keeper<A>>(
         &mut self,
-        journal: &mut Journal<A>,
+        keeper: &mut K,
         plan: &Plan,
         change: &mut UnnamedChange<A>,
     ) -> Result<(), Refusal>
         requires can { CanChange self.old.state plan.now.beginning change.old }
         requires room { HasRoomForCall self.old.state plan.now.called (undone_after change.old self.old.state)
-            journal.old }
+            (K.records keeper.old) K.most (K.has_room keeper.old) }
         ensures { IsKeptAs (recorded_after plan.now change.old self.old.state)
-            (with_change (scan self.old.state) change.old self.old.state) result self.old self.new journal.old
-            journal.new }
+            (with_change (scan self.old.state) change.old self.old.state) result self.old self.new
+            (K.records keeper.old) (K.records keeper.new) }
     {
         if let UnnamedChange::Keep = change {
-            self.keep_call(journal, plan, Undone::Nothing);
+            self.keep_call(keeper, plan, Undone::Nothing);
             return Ok(());
         }
-        self.change_storage_into(journal, *plan, change)
+        self.change_storage_into(keeper, *plan, change)
     }
 
     // The same, if something may change. It is lent no plan, so that this can stay in registers if nothing changes.
     #[inline(never)]
-    fn change_storage_into(
+    fn change_storage_into<K: Keeper<A>>(
         &mut self,
-        journal: &mut Journal<A>,
+        keeper: &mut K,
         plan: Plan,
         change: &mut UnnamedChange<A>,
     ) -> Result<(), Refusal>
         requires can { CanChange self.old.state plan.beginning change.old }
         requires room { HasRoomForCall self.old.state plan.called (undone_after change.old self.old.state)
-            journal.old }
+            (K.records keeper.old) K.most (K.has_room keeper.old) }
         ensures { IsKeptAs (recorded_after plan change.old self.old.state)
-            (with_change (scan self.old.state) change.old self.old.state) result self.old self.new journal.old
-            journal.new }
+            (with_change (scan self.old.state) change.old self.old.state) result self.old self.new
+            (K.records keeper.old) (K.records keeper.new) }
     {
         let undone = self.change_storage(plan.beginning, change)?;
-        self.keep_call(journal, &plan, undone);
+        self.keep_call(keeper, &plan, undone);
         Ok(())
     }
 
     // Performs the call that is planned, and keeps its record. It is refused memory alone, and then
     // the state and the records stay.
-    fn perform_into(
+    fn perform<K: Keeper<A>>(
         &mut self,
-        journal: &mut Journal<A>,
+        keeper: &mut K,
         plan: &Plan,
         made: &Made<A>,
         change: &mut UnnamedChange<A>,
     ) -> Result<(), Refusal>
         requires ready { IsReady self.old.state made.now plan.now change.old }
-        requires not_full { length journal.old.records < JOURNAL_LIMIT }
+        requires not_full { length (K.records keeper.old) < K.most }
         requires fits { FitsJournal plan.now.called (arguments_in (scan self.old.state))
             (undone_after change.old self.old.state) }
         ensures { IsKeptAs (recorded_after plan.now change.old self.old.state)
-            (state_after plan.now made.now change.old (scan self.old.state)) result self.old self.new journal.old
-            journal.new }
+            (state_after plan.now made.now change.old (scan self.old.state)) result self.old self.new
+            (K.records keeper.old) (K.records keeper.new) }
     {
-        journal.reserve_call(plan.bytes, plan.commas)?;
+        let arguments = arguments_at(&self.text, &self.marks, plan.beginning);
+        keeper.reserve_call(&arguments)?;
         self.make_room(made)?;
-        self.change_into(journal, plan, change)?;
+        self.change_into(keeper, plan, change)?;
         self.end_call(plan, made);
         Ok(())
     }
 
-    // A `)`, as `close` has it, but its record is kept in this journal. The texts of the call are made in these
-    // buffers. The loop of a walk calls this, and has the most frequent rules of scanning in itself.
+    // A `)`: the innermost function is performed, or the `)` is deleted if none is begun. The texts of the call are made
+    // in these buffers. The loop of a walk calls this, and has the most frequent rules of scanning in itself.
     #[inline(never)]
-    pub(crate) fn close_into(
+    pub(crate) fn close<K: Keeper<A>>(
         &mut self,
-        journal: &mut Journal<A>,
+        keeper: &mut K,
         tape: Tape<'_>,
         made: &mut Made<A>,
     ) -> Result<(), Refusal>
         requires front { front_of self.old.state.active ≡ Front.Closing }
-        requires can { CanStep (environment_of self.old.width tape) self.old journal.old }
-        ensures { IsStepped (environment_of self.old.width tape.entry) result self.old self.new journal.old
-            journal.new }
+        requires can { CanStep (environment_of self.old.width tape) self.old (K.records keeper.old) K.most }
+        ensures { IsStepped (environment_of self.old.width tape.entry) result self.old self.new (K.records keeper.old)
+            (K.records keeper.new) (K.places keeper.old) }
     {
         let mut change = UnnamedChange::Keep;
         let Some(plan) = self.planned(tape, made, &mut change)? else {
-            return self.delete_into(journal);
+            return self.delete_into(keeper);
         };
-        self.perform_into(journal, &plan, made, &mut change)
+        self.perform(keeper, &plan, made, &mut change)
     }
 }

@@ -9,6 +9,7 @@ pub mod engine;
 mod idle;
 pub mod loading;
 mod moves;
+mod one;
 mod readers;
 pub mod record;
 mod scanning;

@@ -1,17 +1,18 @@
 //! What a step leaves for the way back, and going back.
-ghost use Rattle.std.specs.Prelude.{◌≡◌, ◌<◌, ◌^◌, IsSomeAnd, Some};
+ghost use Rattle.std.specs.Prelude.{◌≡◌, ◌<◌, ◌^◌, [], ◌∷◌, IsSomeAnd, MatchOption, Some};
 ghost use Rattle.trac_rules.specs.Records as rules;
 ghost use Rattle.trac_rules.specs.Weights.{weight};
 ghost use Rattle.trac_text.specs.Pieces.{all_texts};
-ghost use Rattle.trac_journal.specs.Told.{record_with};
+ghost use Rattle.trac_journal.specs.Told.{HasCallFirst, IsCallFirst, IsShortFirst, record_with, said_by};
 ghost use Rattle.trac_change.specs.Undone.{undone_in};
 ghost use Rattle.trac_step.specs.Record.{before, recorded_by};
 ghost use Rattle.trac_step.specs.Room.{HasRoom, IsNoLess};
 
 use crate::engine::Core;
+use crate::one::One;
 use std::alloc::{Allocator, Global};
 use trac_gap::TwoEnds;
-use trac_journal::{Called, Short, Undone, weigh_call, weigh_functions, weigh_pieces};
+use trac_journal::{Called, LentCall, Short, Undone, weigh_call, weigh_functions, weigh_pieces};
 use trac_text::{Kind, Mark, Pieces};
 
 /// What one step of a machine destroyed, by which any machine that shows the state after it can go back. What a
@@ -66,6 +67,74 @@ pub enum Record<A: Allocator + Copy = Global> {
 }
 
 impl<A: Allocator + Copy> Record<A> {
+    // The record of which this is all.
+    pub(crate) fn of_short(short: Short) -> Self
+        ensures { recorded_by result ≡ said_by short }
+    {
+        match short {
+            Short::Moved => Record::Moved,
+            Short::Comma => Record::Comma,
+            Short::Begun => Record::Begun,
+            Short::Quoted { inner, closed } => Record::Quoted { inner, closed },
+            Short::Deleted(byte) => Record::Deleted(byte),
+        }
+    }
+
+    // All of the record, if its step performed no function and did not empty the texts; else none.
+    pub(crate) fn short(&self) -> Option<Short>
+        ensures { MatchOption result (IsShortFirst (recorded_by self.now ∷ []) → ⊥)
+            (λ short. recorded_by self.now ≡ said_by short) }
+    {
+        match self {
+            Record::Moved => Some(Short::Moved),
+            Record::Comma => Some(Short::Comma),
+            Record::Begun => Some(Short::Begun),
+            Record::Quoted { inner, closed } => Some(Short::Quoted {
+                inner: *inner,
+                closed: *closed,
+            }),
+            Record::Deleted(byte) => Some(Short::Deleted(*byte)),
+            Record::Idle { .. } | Record::Call { .. } => None,
+        }
+    }
+
+    // The record, lent, if it is of a call; else none.
+    pub(crate) fn call(&self) -> Option<LentCall<'_>>
+        ensures { MatchOption result (IsCallFirst (recorded_by self.now ∷ []) → ⊥)
+            (λ call. HasCallFirst call.called (all_texts call.arguments) (recorded_by self.now ∷ [])) }
+    {
+        match self {
+            Record::Call {
+                kind,
+                arguments,
+                value,
+                scanned,
+                printed,
+                read,
+                meta,
+                trace,
+                ..
+            } => Some(LentCall {
+                called: Called {
+                    kind: *kind,
+                    value: *value,
+                    scanned: *scanned,
+                    printed: *printed,
+                    read: *read,
+                    meta: *meta,
+                    trace: *trace,
+                },
+                arguments: arguments.lend(),
+            }),
+            Record::Moved
+            | Record::Comma
+            | Record::Begun
+            | Record::Quoted { .. }
+            | Record::Deleted(_)
+            | Record::Idle { .. } => None,
+        }
+    }
+
     // The record of a call, from what it says beside its arguments, these, and what the call
     // destroyed of forms and blocks.
     pub(crate) fn of_call(called: Called, arguments: Pieces<A>, undone: Undone<A>) -> Self
@@ -117,37 +186,11 @@ impl<E: TwoEnds<u8, A>, M: TwoEnds<Mark, A>, A: Allocator + Copy> Core<E, M, A> 
         ensures state { before taken self.old.state ≡ Some self.new.state }
         ensures room { IsNoLess self.old self.new }
     {
-        match taken {
-            Record::Moved => self.undo_short(Short::Moved),
-            Record::Comma => self.undo_short(Short::Comma),
-            Record::Begun => self.undo_short(Short::Begun),
-            Record::Quoted { inner, closed } => self.undo_short(Short::Quoted { inner, closed }),
-            Record::Deleted(byte) => self.undo_short(Short::Deleted(byte)),
-            Record::Idle { base, frames } => self.unload(base.as_slice(), frames),
-            Record::Call {
-                kind,
-                arguments,
-                value,
-                scanned,
-                printed,
-                read,
-                meta,
-                trace,
-                change: undone,
-            } => {
-                let called = Called {
-                    kind,
-                    value,
-                    scanned,
-                    printed,
-                    read,
-                    meta,
-                    trace,
-                };
-                self.recall_room();
-                self.begin_again(called, &arguments.lend());
-                self.restore_storage(undone);
-            }
-        }
+        let mut one = One {
+            taken: Some(taken),
+            arguments: None,
+            alloc: *self.output.allocator(),
+        };
+        self.go_back(&mut one);
     }
 }

@@ -1,6 +1,6 @@
 //! One step of the machine: it performs a function, or carries out a rule of scanning and performs none. If no function
 //! is begun, the step at a `)` deletes it, and is a step of scanning.
-ghost use Rattle.std.specs.Prelude.{◌≡◌, ◌<◌, ◌≤◌, ◌^◌, length, IfOk, IfErr, OnErr, OnOk, Ok, Some};
+ghost use Rattle.std.specs.Prelude.{◌≡◌, ◌<◌, ◌≤◌, length, IfOk, IfErr, OnErr, OnOk, Ok, Some};
 ghost use Rattle.trac_forms.specs.Stored.{KnowsAll};
 ghost use Rattle.trac_rules.specs.declared.limit.TheConstants.{JOURNAL_LIMIT};
 ghost use Rattle.trac_rules.specs.Outcomes.{MayRefuse};
@@ -16,10 +16,11 @@ ghost use Rattle.trac_step.specs.Record.{IsTaken, before, recorded_by};
 ghost use Rattle.trac_step.specs.Room.{HasRoom, IsNoLess, LacksRoomAhead};
 
 use crate::engine::Core;
+use crate::one::One;
 use crate::record::Record;
 use std::alloc::Allocator;
 use trac_gap::TwoEnds;
-use trac_journal::Journal;
+use trac_journal::{Journal, Keeper};
 use trac_prims::{Made, Tape};
 use trac_rules::scan::Front;
 use trac_text::front::front_at;
@@ -68,7 +69,7 @@ impl<E: TwoEnds<u8, A>, M: TwoEnds<Mark, A>, A: Allocator + Copy> Core<E, M, A> 
         ensures room { IsNoLess self.old self.new }
     {
         self.recall_room();
-        self.next_step(tape)
+        self.step_alone(tape)
     }
 
     /// Takes the next step, as `step` does, and adds its record to this journal, so that `step_back` can go back over
@@ -82,10 +83,9 @@ impl<E: TwoEnds<u8, A>, M: TwoEnds<Mark, A>, A: Allocator + Copy> Core<E, M, A> 
     /// A step that performs a function makes its value, and what it prints, in the buffers `made`. These serve step
     /// after step, and what they hold before does not matter.
     ///
-    /// The journal must have fewer than 1,048,576 records. The tape must have at least `position()` bytes, and fewer
-    /// than 2^32, as records count in 32 bits.
+    /// The journal must have fewer than 1,048,576 records. The tape must have at least `position()` bytes.
     // A session's loop over many steps has this function inlined, with the most frequent rules of scanning: a call for
-    // each step is slower. `close_into` and the other rules stay functions of their own.
+    // each step is slower. `close` and the other rules stay functions of their own.
     #[inline(always)]
     pub fn step_into(
         &mut self,
@@ -94,7 +94,6 @@ impl<E: TwoEnds<u8, A>, M: TwoEnds<Mark, A>, A: Allocator + Copy> Core<E, M, A> 
         made: &mut Made<A>,
     ) -> Result<(), Refusal>
         requires position { self.old.state.position ≤ length tape.bytes.now }
-        requires short { length tape.bytes.now < 2 ^ 32 }
         requires not_full { length journal.old.records < JOURNAL_LIMIT }
         ensures taken { OnOk result
             (step (environment_of self.old.width tape.entry) self.old.state ≡ Ok self.new.state) }
@@ -110,43 +109,49 @@ impl<E: TwoEnds<u8, A>, M: TwoEnds<Mark, A>, A: Allocator + Copy> Core<E, M, A> 
         ensures room { IsNoLess self.old self.new }
     {
         self.recall_room();
-        self.next_step_into(journal, tape, made)
+        self.next_step(journal, tape, made)
+    }
+
+    // The step, whose record is kept by itself.
+    fn step_alone(&mut self, tape: Tape<'_>) -> Result<Record<A>, Refusal>
+        requires proper { IsProper self.old.state }
+        requires position { self.old.state.position ≤ length tape.bytes.now }
+        ensures { IsTaken (environment_of self.old.width tape.entry) result self.old self.new }
+    {
+        let alloc = *self.output.allocator();
+        let mut one = One {
+            taken: None,
+            arguments: None,
+            alloc,
+        };
+        let mut made = Made::new(alloc);
+        self.next_step(&mut one, tape, &mut made)?;
+        Ok(one.into_record())
     }
 
     // The step itself. If the active text begins with a `)`, `close` performs the innermost function, or deletes the
-    // `)` if none is begun. Else, and also if the active text is empty, `move_step` carries out a rule of scanning.
-    fn next_step(&mut self, tape: Tape<'_>) -> Result<Record<A>, Refusal>
-        requires { self.old.state.position ≤ length tape.bytes.now }
-        ensures { IsTaken (environment_of self.old.width tape.entry) result self.old self.new }
-    {
-        let front = front_at(self.text.right());
-        if front == Front::Closing {
-            return self.close(tape);
-        }
-        self.move_step(front)
-    }
-
-    // As `next_step`, but the record is added to the journal. Scanning can pass one limit alone, that on marks: each
-    // argument of a begun function has a mark. `move_fits` checks this limit, here and in `move_step`.
+    // `)` if none is begun. Else, and also if the active text is empty, `carry_out` carries out a rule of scanning.
+    // This can pass one limit alone, that on marks, which `move_fits` judges: each argument of a begun function has a
+    // mark.
     #[inline(always)]
-    fn next_step_into(
+    fn next_step<K: Keeper<A>>(
         &mut self,
-        journal: &mut Journal<A>,
+        keeper: &mut K,
         tape: Tape<'_>,
         made: &mut Made<A>,
     ) -> Result<(), Refusal>
-        requires { CanStep (environment_of self.old.width tape) self.old journal.old }
-        ensures { IsStepped (environment_of self.old.width tape.entry) result self.old self.new journal.old
-            journal.new }
+        requires { CanStep (environment_of self.old.width tape) self.old (K.records keeper.old) K.most }
+        ensures { IsStepped (environment_of self.old.width tape.entry) result self.old self.new (K.records keeper.old)
+            (K.records keeper.new) (K.places keeper.old) }
     {
         let front = front_at(self.text.right());
         if front == Front::Closing {
-            return self.close_into(journal, tape, made);
+            return self.close(keeper, tape, made);
         }
         if !self.move_fits(front) {
             return Err(Refusal::TooLong);
         }
-        self.carry_out(journal, front)
+        self.carry_out(keeper, front)
     }
 
     // Does nothing when it runs. Its two calls tell the prover what holds of every machine: its state is within all

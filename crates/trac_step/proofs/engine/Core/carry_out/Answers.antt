@@ -20,7 +20,9 @@ delete_into-requires-clause-told g c = elim c.in-Layout.is [
 ]
 
 pub returns-in-Sharp : goal.returns-in-Sharp
-returns-in-Sharp g c = gathered _ c.args.self.now c.gather_first.new.self c.args.journal.now c.push_moved.new.self c.args.front c.in-Sharp.is c.requires.front c.gather_first.ensures c.push_moved.ensures
+returns-in-Sharp g c =
+    gathered _ c.args.self.now c.gather_first.new.self (g.K.Keeper.records c.args.keeper.now) (g.K.Keeper.records c.push_moved_byte.new.self) (g.K.Keeper.places c.args.keeper.now) c.args.front c.in-Sharp.is
+    c.requires.front c.gather_first.ensures c.push_moved_byte.ensures
 
 pub delete_into-requires-then-is_outside-clause-moves : goal.delete_into-requires-then-is_outside-clause-moves
 delete_into-requires-then-is_outside-clause-moves g c =

@@ -1,57 +1,84 @@
-use Rattle.std.proofs.Common.{◌≡◌, refl, sym, subst}
+use Rattle.std.proofs.Common.{◌≡◌, ◌≤◌, refl, sym, subst}
 use Rattle.std.proofs.lemmas.Result.{err_from_is_err_and}
 use Rattle.trac_rules.specs.declared.refusal.Refusal.TheVariants.{Memory}
 use Rattle.trac_rules.specs.Outcomes.{MayRefuse}
+use Rattle.trac_rules.specs.Records.{record_of}
 use Rattle.trac_rules.specs.Scanning.{scan}
 use Rattle.trac_rules.specs.Stepping.{step}
 use Rattle.trac_prims.specs.Tape.{environment_of}
 use Rattle.trac_step.specs.Calling.{state_after}
-use Rattle.trac_step.specs.Ready.{IsFound, recorded_after}
-use Rattle.trac_step.specs.Record.{recorded_by}
+use Rattle.trac_step.specs.Ready.{IsFound, recorded_after, undone_after}
 use Rattle.trac_step.specs.Room.{LacksRoomAhead}
 use Rattle.trac_step.proofs.Beginnings.{some_frame}
-use Rattle.trac_step.proofs.Moving.{closing_outside}
-use Rattle.trac_step.proofs.Outcomes.{if_err_always, recorded_as, refused_for_memory, taken_by, taken_lacks}
-use Rattle.trac_step.proofs.Recorded.{call_lacks_nothing}
+use Rattle.trac_step.proofs.Fitting.{added_as, call_fits}
+use Rattle.trac_step.proofs.Moving.{closing_fits, closing_move, closing_outside}
+use Rattle.trac_step.proofs.Outcomes.{if_err_always, refused_for_memory, taken_by, taken_lacks}
+use Rattle.trac_step.proofs.Recorded.{call_lacks_nothing, closing_kept}
 use Rattle.trac_step.proofs.Rooms.{no_less}
+use Rattle.trac_step.proofs.Stepped.{stepped}
 use Rattle.trac_step.proofs.engine.Core.close.Goals as goal
 
 pub returns-in_err-plan : goal.returns-in_err-plan
 returns-in_err-plan g c =
     let p = err_from_is_err_and c.from_residual.result c.from_residual.ensures.1 in
     rw p.1 (record {
-      room = no_less c.args.self.now;
-      recorded = tt;
       taken = tt;
-      refused = (refl, subst (MayRefuse (step (environment_of c.args.self.now.width c.args.tape) c.args.self.now.state)) (sym p.2) c.in_err-plan.ensures.refused);
-      lacking = λ is. call_lacks_nothing c.args.self.now c.requires.front c.in_err-plan.ensures.inside;
+      kept = tt;
+      refused = subst (MayRefuse (step (environment_of c.args.self.now.width c.args.tape) c.args.self.now.state)) (sym p.2) c.in_err-plan.ensures.refused;
+      unchanged = (refl, refl);
+      lacking = λ is place. call_lacks_nothing c.args.self.now c.requires.front c.in_err-plan.ensures.inside;
+      room = no_less c.args.self.now;
     })
 
-pub move_step-requires-clause-moves : goal.move_step-requires-clause-moves
-move_step-requires-clause-moves g c =
+-- ---- no function is begun
+
+pub delete_into-requires-clause-moves : goal.delete_into-requires-clause-moves
+delete_into-requires-clause-moves g c =
     let s = c.args.self.now.state in
     let none = subst (IsFound (environment_of c.args.self.now.width c.args.tape) s c.planned.new.made c.planned.new.change) c.in_default.is c.in_ok-plan.ensures.planned in
-    closing_outside s c.requires.front none
+    closing_move s c.requires.front (closing_outside s c.requires.front none)
+
+pub delete_into-requires-clause-told : goal.delete_into-requires-clause-told
+delete_into-requires-clause-told g c = closing_kept c.args.self.now.state c.requires.front
 
 pub returns-in_default : goal.returns-in_default
-returns-in_default g c = c.move_step.ensures (environment_of c.args.self.now.width c.args.tape)
+returns-in_default g c =
+    let s = c.args.self.now.state in
+    let e = environment_of c.args.self.now.width c.args.tape in
+    let none = subst (IsFound e s c.planned.new.made c.planned.new.change) c.in_default.is c.in_ok-plan.ensures.planned in
+    stepped e c.delete_into.result c.args.self.now c.delete_into.new.self (g.K.Keeper.records c.args.keeper.now) (g.K.Keeper.records c.delete_into.new.keeper) (g.K.Keeper.places c.args.keeper.now) (closing_outside s c.requires.front none)
+    (closing_fits s c.requires.can.proper c.requires.front none) c.delete_into.ensures
 
-pub perform-requires : goal.perform-requires
-perform-requires g c =
+-- ---- the innermost function is performed
+
+pub perform-requires-clause-ready : goal.perform-requires-clause-ready
+perform-requires-clause-ready g c =
     (subst (IsFound (environment_of c.args.self.now.width c.args.tape) c.args.self.now.state c.planned.new.made c.planned.new.change) c.in-Some.is c.in_ok-plan.ensures.planned).ready
+
+pub perform-requires-clause-fits : goal.perform-requires-clause-fits
+perform-requires-clause-fits g c =
+    let s = c.args.self.now.state in
+    let e = environment_of c.args.self.now.width c.args.tape in
+    let plan = c.in-Some.plan in
+    let planned = subst (IsFound e s c.planned.new.made c.planned.new.change) c.in-Some.is c.in_ok-plan.ensures.planned in
+    let can = c.requires.can in
+    call_fits e s (state_after plan c.planned.new.made c.planned.new.change (scan s)) plan.called (undone_after c.planned.new.change s) can.proper
+    planned.ready.proper c.requires.front (some_frame s.frames s.base plan.beginning planned.ready.begins) planned.taken planned.recorded
 
 pub returns : goal.returns
 returns g c =
     let s = c.args.self.now.state in
     let e = environment_of c.args.self.now.width c.args.tape in
+    let plan = c.in-Some.plan in
     let planned = subst (IsFound e s c.planned.new.made c.planned.new.change) c.in-Some.is c.in_ok-plan.ensures.planned in
-    let t = state_after c.in-Some.plan c.planned.new.made c.planned.new.change (scan s) in
+    let t = state_after plan c.planned.new.made c.planned.new.change (scan s) in
+    let done = c.perform.ensures in
     record {
-      taken = taken_by c.perform.result (step e s) t c.perform.new.self.state planned.taken c.perform.ensures.done;
-      recorded = recorded_as c.perform.result recorded_by (recorded_after c.in-Some.plan c.planned.new.change s) _ planned.recorded c.perform.ensures.recorded;
-      refused = refused_for_memory c.perform.result (λ refusal. (c.perform.new.self.state ≡ s) × MayRefuse (step e s) refusal) c.perform.ensures.unchanged c.perform.ensures.err
-          (λ same. (same, taken_lacks (step e s) t planned.taken));
-      lacking = if_err_always c.perform.result (λ refusal. refusal ≡ Memory → LacksRoomAhead c.args.self.now)
-          (λ refusal is. call_lacks_nothing c.args.self.now c.requires.front (some_frame s.frames s.base c.in-Some.plan.beginning planned.ready.begins));
-      room = c.perform.ensures.room;
+      taken = taken_by c.perform.result (step e s) t c.perform.new.self.state planned.taken done.done;
+      kept = added_as c.perform.result (record_of e s) (recorded_after plan c.planned.new.change s) (g.K.Keeper.records c.args.keeper.now) (g.K.Keeper.records c.perform.new.keeper) planned.recorded done.added;
+      refused = refused_for_memory c.perform.result (λ refusal. MayRefuse (step e s) refusal) done.unchanged done.err (λ same. taken_lacks (step e s) t planned.taken);
+      unchanged = done.unchanged;
+      lacking = if_err_always c.perform.result (λ refusal. refusal ≡ Memory → 1 ≤ g.K.Keeper.places c.args.keeper.now → LacksRoomAhead c.args.self.now)
+          (λ refusal is place. call_lacks_nothing c.args.self.now c.requires.front (some_frame s.frames s.base plan.beginning planned.ready.begins));
+      room = done.room;
     }

@@ -6,9 +6,9 @@ use Rattle.trac_step.proofs.engine.Core.delete_into.Goals as goal
 
 pub returns-in_err-reserve_short : goal.returns-in_err-reserve_short
 returns-in_err-reserve_short g c =
-    no_place c.from_residual.result c.args.self.now c.args.journal.now c.reserve_short.new.self _ c.from_residual.ensures.1 c.in_err-reserve_short.ensures.err c.reserve_short.ensures.same c.in_err-reserve_short.ensures.full
+    no_place c.from_residual.result c.args.self.now (g.K.Keeper.records c.args.keeper.now) (g.K.Keeper.records c.reserve_short.new.self) (g.K.Keeper.places c.args.keeper.now) _ c.from_residual.ensures.1 c.in_err-reserve_short.ensures.err c.reserve_short.ensures.same c.in_err-reserve_short.ensures.full
 
 pub returns : goal.returns
 returns g c =
-    carried_so _ c.args.self.now c.delete_first-byte.new.self c.args.journal.now c.push_short.new.self (deleted 1 c.args.self.now.state) c.requires.moves c.delete_first-byte.ensures.shown
+    carried_so _ c.args.self.now c.delete_first-byte.new.self (g.K.Keeper.records c.args.keeper.now) (g.K.Keeper.records c.push_short.new.self) (g.K.Keeper.places c.args.keeper.now) (deleted 1 c.args.self.now.state) c.requires.moves c.delete_first-byte.ensures.shown
     (c.push_short.ensures ∙ (λ i. (ap Deleted c.delete_first-byte.ensures.byte ∙ sym c.requires.told) i ∷ c.reserve_short.ensures.same i))

@@ -21,7 +21,7 @@ returns g c =
     let is = recorded_front c.args.self.now.state Nothing c.requires.front in
     record {
       ok = scan_front c.args.self.now.state Nothing c.requires.front ∙ ap Moves (sym c.in_ok-base.ensures.ok);
-      kept = c.push_idle.ensures ∙ (λ i. Idle (kept.0 i) (kept.1 i) ∷ c.reserve_idle.ensures.same i) ∙ ap (λ r. r ∷ c.args.journal.now.records) (sym is);
+      kept = c.push_idle.ensures ∙ (λ i. Idle (kept.0 i) (kept.1 i) ∷ c.reserve_idle.ensures.same i) ∙ ap (λ r. r ∷ g.K.Keeper.records c.args.keeper.now) (sym is);
       unchanged = tt;
       lacking = tt;
       err = tt;

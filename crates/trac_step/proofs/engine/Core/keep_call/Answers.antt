@@ -1,7 +1,7 @@
-use Rattle.std.proofs.Common.{List, ℕ, ◌-◌, ◌∷◌, length, sym, ap, ◌∙◌, subst}
+use Rattle.std.proofs.Common.{List, ℕ, ◌∷◌, length, sym, ap, ◌∙◌, subst}
 use Rattle.std.specs.List.{concat}
 use Rattle.trac_rules.specs.Records.{Called}
-use Rattle.trac_journal.specs.Journaled.{HasPlaceForCall, IsLight}
+use Rattle.trac_journal.specs.Journaled.{IsLight}
 use Rattle.trac_journal.specs.Listed.{AreSmall}
 use Rattle.trac_journal.specs.Told.{record_with}
 use Rattle.trac_change.specs.Undone.{undone_in}
@@ -23,11 +23,11 @@ push_call-requires g c =
       not_full = c.requires.room.not_full;
       small = subst (λ (texts : List (List ℕ)). AreSmall called (length (concat texts)) (length texts)) (sym given) c.requires.room.fits.small;
       light = subst (λ (texts : List (List ℕ)). IsLight (Called (record_with called texts (undone_in c.args.undone)))) (sym given) c.requires.room.fits.light;
-      room = subst (λ (texts : List (List ℕ)). HasPlaceForCall (length (concat texts)) (length texts - 1) c.args.journal.now) (sym given) c.requires.room.place;
+      room = subst (g.K.Keeper.has_room c.args.keeper.now) (sym given) c.requires.room.place;
     }
 
 pub returns : goal.returns
 returns g c =
     let i = c.self.inside in
     let given = c.arguments_at-arguments.ensures ∙ given_here (parts_of (g.E.TwoEnds.ends i.text) (g.M.TwoEnds.ends i.marks) i.store i.meta i.trace i.position i.output) c.args.self.now c.args.plan.now.beginning c.self.invariant.sound c.self.view_is c.requires.begins c.requires.front in
-    c.push_call.ensures ∙ ap (λ (texts : List (List ℕ)). Called (record_with c.args.plan.now.called texts (undone_in c.args.undone)) ∷ c.args.journal.now.records) given
+    c.push_call.ensures ∙ ap (λ (texts : List (List ℕ)). Called (record_with c.args.plan.now.called texts (undone_in c.args.undone)) ∷ g.K.Keeper.records c.args.keeper.now) given

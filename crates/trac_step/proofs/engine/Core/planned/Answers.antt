@@ -1,5 +1,4 @@
 use Rattle.std.proofs.Common.{List, ℕ, ◌+◌, ◌-◌, length, refl, sym, ap, ◌∙◌, subst, arith}
-use Rattle.std.specs.List.{concat}
 use Rattle.std.proofs.lemmas.Result.{err_from_is_err_and}
 use Rattle.trac_rules.specs.Proper.{IsProper}
 use Rattle.trac_rules.specs.Scanning.{scan}
@@ -12,7 +11,7 @@ use Rattle.trac_step.specs.Calling.{state_after}
 use Rattle.trac_step.specs.Layout.{parts_of, Shown}
 use Rattle.trac_step.proofs.Beginnings.{begins_innermost}
 use Rattle.trac_step.proofs.Calls.{call_of, step_unplanned}
-use Rattle.trac_step.proofs.CallsPlanned.{arguments_found, pieces_given, planned_recorded, planned_taken}
+use Rattle.trac_step.proofs.CallsPlanned.{pieces_given, planned_recorded, planned_taken}
 use Rattle.trac_step.proofs.Limited.{proper_of_sound}
 use Rattle.trac_step.proofs.Planned.{outer, count_within, frames_of, given_here, now_of, text_within}
 use Rattle.trac_step.proofs.engine.Core.planned.Goals as goal
@@ -84,14 +83,11 @@ returns-clause-planned g c =
     let plan : Plan = record {
       beginning = record { number = f.number; place = f.place; kind = f.kind };
       called = c.called_by.result;
-      bytes = length c.joined.result.now;
-      commas = c.comma_count.result;
       forced = deed.forced;
       position = c.self.inside.position + deed.read;
       meta = deed.meta;
       trace = deed.trace;
     } in
-    let found = arguments_found s c.neutral.result f.number f.place f.kind f.arguments c.requires.front c.neutral.ensures inner in
     let taken = planned_taken e s inner.frame rest c.requires.front frames f.kind f.arguments c.self.inside.store now given made change deed planned of_call plan
     told.kind told.value told.scanned told.printed told.read told.meta told.trace refl refl refl in
     rw width_is (record {
@@ -99,8 +95,6 @@ returns-clause-planned g c =
         front = c.requires.front;
         begins = begins_innermost s c.neutral.result f.number f.place f.kind f.arguments c.neutral.ensures inner;
         position = ap (λ (t : State). t.position + deed.read) state_is ∙ ap (λ (n : ℕ). s.position + n) (sym told.read);
-        bytes = ap (λ (bytes : List ℕ). length bytes) c.joined.ensures ∙ ap (λ (texts : List (List ℕ)). length (concat texts)) found;
-        commas = c.comma_count.ensures ∙ ap (λ (texts : List (List ℕ)). length texts) found;
         pieces = pieces_given e s inner.frame rest c.requires.front frames f.kind f.arguments c.self.inside.store now given made change deed planned of_call;
         proper = step_proper e s (state_after plan made change (scan s)) proper taken;
       };

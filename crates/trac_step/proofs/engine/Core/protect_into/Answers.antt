@@ -18,11 +18,11 @@ push_short-requires-clause-fits g c =
 
 pub returns-in_err-reserve_short : goal.returns-in_err-reserve_short
 returns-in_err-reserve_short g c =
-    no_place c.from_residual.result c.args.self.now c.args.journal.now c.reserve_short.new.self _ c.from_residual.ensures.1 c.in_err-reserve_short.ensures.err c.reserve_short.ensures.same c.in_err-reserve_short.ensures.full
+    no_place c.from_residual.result c.args.self.now (g.K.Keeper.records c.args.keeper.now) (g.K.Keeper.records c.reserve_short.new.self) (g.K.Keeper.places c.args.keeper.now) _ c.from_residual.ensures.1 c.in_err-reserve_short.ensures.err c.reserve_short.ensures.same c.in_err-reserve_short.ensures.full
 
 pub returns : goal.returns
 returns g c =
     let s = c.args.self.now.state in
     let told = (λ i. Quoted (c.protect-inner.ensures.inner i) (c.protect-inner.ensures.closed i)) ∙ sym (recorded_front s Opening c.requires.front) in
-    carried_so _ c.args.self.now c.protect-inner.new.self c.args.journal.now c.push_short.new.self (protect (protected (drop 1 s.active)) s) (scan_front s Opening c.requires.front) c.protect-inner.ensures.shown
+    carried_so _ c.args.self.now c.protect-inner.new.self (g.K.Keeper.records c.args.keeper.now) (g.K.Keeper.records c.push_short.new.self) (g.K.Keeper.places c.args.keeper.now) (protect (protected (drop 1 s.active)) s) (scan_front s Opening c.requires.front) c.protect-inner.ensures.shown
     (c.push_short.ensures ∙ (λ i. told i ∷ c.reserve_short.ensures.same i))

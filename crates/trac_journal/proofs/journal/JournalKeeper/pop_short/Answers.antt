@@ -5,7 +5,7 @@ use Rattle.trac_journal.specs.Journaled.{Journaled}
 use Rattle.trac_journal.proofs.Counted.{moved_first, moved_less}
 use Rattle.trac_journal.proofs.Ends.{last_out}
 use Rattle.trac_journal.proofs.Newest.{short_less}
-use Rattle.trac_journal.proofs.journal.Journal.pop_short.Goals as goal
+use Rattle.trac_journal.proofs.journal.JournalKeeper.pop_short.Goals as goal
 
 pub overflow_sub-self-then-self-gt0 : goal.overflow_sub-self-then-self-gt0
 overflow_sub-self-then-self-gt0 g c =

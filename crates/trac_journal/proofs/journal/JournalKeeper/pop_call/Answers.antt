@@ -5,9 +5,9 @@ use Rattle.trac_journal.specs.Journaled.{Journaled}
 use Rattle.trac_journal.specs.Told.{IsCallFirst}
 use Rattle.trac_journal.proofs.Counted.{IsSound}
 use Rattle.trac_journal.proofs.Newest.{call_less, call_there, CallLess}
-use Rattle.trac_journal.proofs.journal.Journal.pop_call.Given.{Over}
-use Rattle.trac_journal.proofs.journal.Journal.pop_call.Goals as goal
-use Rattle.trac_journal.proofs.journal.Journal.pop_call.Goals.{After-pop_call-weight}
+use Rattle.trac_journal.proofs.journal.JournalKeeper.pop_call.Given.{Over}
+use Rattle.trac_journal.proofs.journal.JournalKeeper.pop_call.Goals as goal
+use Rattle.trac_journal.proofs.journal.JournalKeeper.pop_call.Goals.{After-pop_call-weight}
 
 pub pop_call-weight-requires : goal.pop_call-weight-requires
 pop_call-weight-requires g c =

@@ -9,9 +9,9 @@ use Rattle.trac_journal.specs.Told.{IsIdleFirst}
 use Rattle.trac_journal.proofs.Counted.{IsSound, OneLess}
 use Rattle.trac_journal.proofs.Ends.{last_out}
 use Rattle.trac_journal.proofs.Newest.{idle_less, none_moved}
-use Rattle.trac_journal.proofs.journal.Journal.pop_idle.Given.{Over}
-use Rattle.trac_journal.proofs.journal.Journal.pop_idle.Goals as goal
-use Rattle.trac_journal.proofs.journal.Journal.pop_idle.Goals.{After-pop_back}
+use Rattle.trac_journal.proofs.journal.JournalKeeper.pop_idle.Given.{Over}
+use Rattle.trac_journal.proofs.journal.JournalKeeper.pop_idle.Goals as goal
+use Rattle.trac_journal.proofs.journal.JournalKeeper.pop_idle.Goals.{After-pop_back}
 
 pub returns-then-self-gt0 : goal.returns-then-self-gt0
 returns-then-self-gt0 g c = (

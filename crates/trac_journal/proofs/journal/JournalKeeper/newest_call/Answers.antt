@@ -4,7 +4,7 @@ use Rattle.std.specs.Prelude.{reverse}
 use Rattle.trac_journal.specs.Journaled.{Journaled}
 use Rattle.trac_journal.specs.Told.{IsCallFirst}
 use Rattle.trac_journal.proofs.Newest.{none_moved}
-use Rattle.trac_journal.proofs.journal.Journal.newest_call.Goals as goal
+use Rattle.trac_journal.proofs.journal.JournalKeeper.newest_call.Goals as goal
 
 pub returns-then-self-gt0 : goal.returns-then-self-gt0
 returns-then-self-gt0 g c =
