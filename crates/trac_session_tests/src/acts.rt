@@ -1,14 +1,12 @@
 //! A session, told what to do by a table: what each act must answer, and what the session must show.
-use crate::sessions::{let_go, made};
+use crate::sessions::{Subject, SubjectOver, made};
 use std::alloc::{Allocator, Global};
 use std::process::Abort;
 use trac_faults::Refusing;
-use trac_gap::TwoEnds;
-use trac_machine_tests::{Memory, texts_shown};
+use trac_machine_tests::Memory;
 use trac_rules::refusal::Refusal;
 use trac_rules::width::Width;
 use trac_session::{Session, Walk};
-use trac_step::{Core, Mark};
 
 /// One act on a session with what it answers, or one part of what it shows then.
 pub(crate) enum Act {
@@ -70,7 +68,7 @@ fn letters(rt: &impl Abort, alloc: Global, count: usize) -> Vec<u8> {
 
 fn feed_letters(
     rt: &impl Abort,
-    session: &mut Session<Memory<'_>>,
+    session: &mut impl Subject,
     alloc: Global,
     count: usize,
     answer: Result<(), Refusal>,
@@ -79,7 +77,7 @@ fn feed_letters(
 }
 
 // The refusal that ends all steps forward, of which there may be a thousand.
-fn forward_to_end(session: &mut Session<Memory<'_>>) -> Result<(), Refusal> {
+fn forward_to_end(session: &mut impl Subject) -> Result<(), Refusal> {
     match session.forward(1_000).why {
         Some(why) => Err(why),
         None => Ok(()),
@@ -87,7 +85,7 @@ fn forward_to_end(session: &mut Session<Memory<'_>>) -> Result<(), Refusal> {
 }
 
 // Whether these bytes are fed, or refused so.
-fn feeds(session: &mut Session<Memory<'_>>, bytes: &[u8], answer: Result<(), Refusal>) -> bool {
+fn feeds(session: &mut impl Subject, bytes: &[u8], answer: Result<(), Refusal>) -> bool {
     session.feed(bytes) == answer
 }
 
@@ -96,21 +94,16 @@ fn is_walk(walk: Walk, done: u64, why: Option<Refusal>) -> bool {
     walk.done == done && walk.why == why
 }
 
-fn goes_forward(
-    session: &mut Session<Memory<'_>>,
-    n: u64,
-    done: u64,
-    why: Option<Refusal>,
-) -> bool {
+fn goes_forward(session: &mut impl Subject, n: u64, done: u64, why: Option<Refusal>) -> bool {
     is_walk(session.forward(n), done, why)
 }
 
-fn goes_back(session: &mut Session<Memory<'_>>, n: u64, done: u64, why: Option<Refusal>) -> bool {
+fn goes_back(session: &mut impl Subject, n: u64, done: u64, why: Option<Refusal>) -> bool {
     is_walk(session.back(n), done, why)
 }
 
 fn goes_back_until(
-    session: &mut Session<Memory<'_>>,
+    session: &mut impl Subject,
     name: &[u8],
     done: u64,
     why: Option<Refusal>,
@@ -119,7 +112,7 @@ fn goes_back_until(
 }
 
 // Makes a commit that keeps so many steps, and says whether this is what it releases.
-fn commits(session: &mut Session<Memory<'_>>, keep: usize, released: &[u8]) -> bool {
+fn commits(session: &mut impl Subject, keep: usize, released: &[u8]) -> bool {
     let is_met = session.pending_before(keep) == released;
     session.commit(keep);
     is_met
@@ -127,7 +120,7 @@ fn commits(session: &mut Session<Memory<'_>>, keep: usize, released: &[u8]) -> b
 
 // Whether so many steps are taken, each with a commit after it. Before a commit there is one record
 // more than it keeps at most.
-fn goes_in_window(session: &mut Session<Memory<'_>>, n: u64, keep: usize) -> bool {
+fn goes_in_window(session: &mut impl Subject, n: u64, keep: usize) -> bool {
     for _ in 0..n {
         let is_taken = session.forward(1).why.is_none();
         if !is_taken || session.len() > keep.saturating_add(1) {
@@ -139,7 +132,7 @@ fn goes_in_window(session: &mut Session<Memory<'_>>, n: u64, keep: usize) -> boo
 }
 
 // Carries out one act that may change the session, and says whether it is answered so.
-fn carry_out(rt: &impl Abort, alloc: Global, session: &mut Session<Memory<'_>>, act: &Act) -> bool {
+fn carry_out(rt: &impl Abort, alloc: Global, session: &mut impl Subject, act: &Act) -> bool {
     match *act {
         Act::Feed(bytes) => feeds(session, bytes, Ok(())),
         Act::FeedRefused(bytes, why) => feeds(session, bytes, Err(why)),
@@ -160,7 +153,7 @@ fn carry_out(rt: &impl Abort, alloc: Global, session: &mut Session<Memory<'_>>, 
 
 // Goes back as an act says, while every request for memory is refused, and says whether it is
 // answered so. None is made.
-fn go_back(memory: Memory<'_>, session: &mut Session<Memory<'_>>, act: &Act) -> bool {
+fn go_back(memory: Memory<'_>, session: &mut impl Subject, act: &Act) -> bool {
     let requests = memory.requests();
     memory.refuse_all();
     let is_met = match *act {
@@ -175,71 +168,37 @@ fn go_back(memory: Memory<'_>, session: &mut Session<Memory<'_>>, act: &Act) -> 
 }
 
 // Whether the texts are these.
-fn shows<E: TwoEnds<u8, A>, M: TwoEnds<Mark, A>, A: Allocator + Copy>(
-    rt: &impl Abort,
-    alloc: Global,
-    machine: &Core<E, M, A>,
-    text: &[u8],
-) -> bool {
-    let shown = texts_shown(alloc, machine).expect(rt, "there was no memory");
+fn shows(rt: &impl Abort, alloc: Global, session: &impl Subject, text: &[u8]) -> bool {
+    let shown = session.texts(alloc).expect(rt, "there was no memory");
     shown.as_slice() == text
 }
 
-// Whether all parts but the texts are those in which a processor begins.
-fn has_initial_parts<E: TwoEnds<u8, A>, M: TwoEnds<Mark, A>, A: Allocator + Copy>(
-    machine: &Core<E, M, A>,
-) -> bool {
-    machine.output().is_empty()
-        && machine.position() == 0
-        && machine.store().form_count() == 0
-        && machine.meta() == b'\''
-        && !machine.trace()
+fn is_initial(rt: &impl Abort, alloc: Global, session: &impl Subject) -> bool {
+    session.has_initial_parts() && shows(rt, alloc, session, b"^#(ps,#(rs))")
 }
 
-// Whether the part of a machine that an act speaks of is so. It is any machine: a proof for a certain one would show
-// anew, at each call, what its lists are.
-fn look_at<E: TwoEnds<u8, A>, M: TwoEnds<Mark, A>, A: Allocator + Copy>(
-    rt: &impl Abort,
-    alloc: Global,
-    machine: &Core<E, M, A>,
-    act: &Act,
-) -> bool {
-    match *act {
-        Act::Shows(text) => shows(rt, alloc, machine, text),
-        Act::Active(text) => machine.active() == text,
-        Act::Position(count) => machine.position() == count,
-        Act::Forms(count) => machine.store().form_count() == count,
-        Act::Initial => has_initial_parts(machine) && shows(rt, alloc, machine, b"^#(ps,#(rs))"),
-        _ => true,
-    }
-}
-
-fn has_letters(
-    rt: &impl Abort,
-    alloc: Global,
-    session: &Session<Memory<'_>>,
-    count: usize,
-) -> bool {
+fn has_letters(rt: &impl Abort, alloc: Global, session: &impl Subject, count: usize) -> bool {
     session.unread() == letters(rt, alloc, count).as_slice()
 }
 
-fn has_records(session: &Session<Memory<'_>>, count: usize) -> bool {
+fn has_records(session: &impl Subject, count: usize) -> bool {
     session.len() == count && session.is_empty() == (count == 0)
 }
 
-fn weighs(session: &Session<Memory<'_>>, weight: u64) -> bool {
-    session.weight() == weight
-}
-
 // Whether the part that an act speaks of is so.
-fn look(rt: &impl Abort, alloc: Global, session: &Session<Memory<'_>>, act: &Act) -> bool {
+fn look(rt: &impl Abort, alloc: Global, session: &impl Subject, act: &Act) -> bool {
     match *act {
         Act::UnreadLetters(count) => has_letters(rt, alloc, session, count),
         Act::Records(count) => has_records(session, count),
-        Act::Weighs(weight) => weighs(session, weight),
+        Act::Weighs(weight) => session.weight() == weight,
         Act::Pending(text) => session.pending() == text,
         Act::PendingBefore(keep, text) => session.pending_before(keep) == text,
-        _ => look_at(rt, alloc, session.machine(), act),
+        Act::Shows(text) => shows(rt, alloc, session, text),
+        Act::Active(text) => session.active() == text,
+        Act::Position(count) => session.position() == count,
+        Act::Forms(count) => session.form_count() == count,
+        Act::Initial => is_initial(rt, alloc, session),
+        _ => true,
     }
 }
 
@@ -247,7 +206,7 @@ fn play_all(
     rt: &impl Abort,
     alloc: Global,
     memory: Memory<'_>,
-    session: &mut Session<Memory<'_>>,
+    session: &mut impl Subject,
     acts: &[Act],
 ) {
     for (at, act) in acts.iter().enumerate() {
@@ -258,10 +217,19 @@ fn play_all(
     }
 }
 
+fn play_on<A: Allocator + Copy, S: SubjectOver<A>>(
+    rt: &impl Abort,
+    plain: Global,
+    (memory, alloc): (Memory<'_>, A),
+    limit: usize,
+    acts: &[Act],
+) {
+    let mut session: S = made(rt, memory, alloc, limit, Width::W128);
+    play_all(rt, plain, memory, &mut session, acts);
+}
+
 /// Carries out these acts, one after another, on a new session whose journal may hold so many records.
 pub(crate) fn play(rt: &impl Abort, alloc: Global, limit: usize, acts: &[Act]) {
     let memory = Refusing::new(alloc);
-    let mut session = made(rt, &memory, limit, Width::W128);
-    play_all(rt, alloc, &memory, &mut session, acts);
-    let_go(session);
+    play_on::<Memory<'_>, Session<Memory<'_>>>(rt, alloc, (&memory, &memory), limit, acts);
 }

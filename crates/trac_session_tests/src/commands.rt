@@ -1,5 +1,5 @@
 //! Lists of commands to a session.
-use crate::sessions::{let_go, made};
+use crate::sessions::{Subject, SubjectOver, made};
 use std::alloc::Global;
 use std::process::Abort;
 use trac_faults::Refusing;
@@ -43,37 +43,28 @@ fn letter_of(reply: Reply) -> u8 {
     }
 }
 
-// Adds what each command of a list is replied to, or says why nothing was done.
-fn perform(
-    session: &mut Session<Memory<'_>>,
-    commands: &[Command<'_>],
-    replies: &mut Vec<u8>,
-) -> Result<(), Refusal> {
-    let added = session.perform(commands)?;
-    for reply in added.iter() {
-        if replies.push(letter_of(*reply)).is_err() {
+/// Adds a letter for each of these replies.
+pub(crate) fn add_letters(replies: &[Reply], letters: &mut Vec<u8>) -> Result<(), Refusal> {
+    for reply in replies.iter() {
+        if letters.push(letter_of(*reply)).is_err() {
             return Err(Refusal::Memory);
         }
     }
     Ok(())
 }
 
-fn perform_list(session: &mut Session<Memory<'_>>, replies: &mut Vec<u8>) -> Result<(), Refusal> {
-    perform(session, COMMANDS, replies)
+fn perform_list(session: &mut impl Subject, replies: &mut Vec<u8>) -> Result<(), Refusal> {
+    session.carry_out_all(COMMANDS, replies)
 }
 
 // There is nothing to go back over, and so much is not read yet.
-fn is_at_start(session: &Session<Memory<'_>>, unread: &[u8]) -> bool {
+fn is_at_start(session: &impl Subject, unread: &[u8]) -> bool {
     session.is_empty() && session.unread() == unread
 }
 
 // Performs the list. If there is no memory for the replies, nothing is done, and the next try is accepted: whether that
 // was so.
-fn is_performed_again(
-    rt: &impl Abort,
-    session: &mut Session<Memory<'_>>,
-    replies: &mut Vec<u8>,
-) -> bool {
+fn is_performed_again(rt: &impl Abort, session: &mut impl Subject, replies: &mut Vec<u8>) -> bool {
     let Err(refusal) = perform_list(session, replies) else {
         return false;
     };
@@ -84,7 +75,7 @@ fn is_performed_again(
 
 // If no command is refused memory, the replies are these, and the text is not read again after the commit and the last
 // step.
-fn is_replied(session: &Session<Memory<'_>>, replies: &[u8]) -> bool {
+fn is_replied(session: &impl Subject, replies: &[u8]) -> bool {
     replies == REPLIES && is_at_start(session, b"AB'")
 }
 
@@ -92,7 +83,7 @@ fn is_replied(session: &Session<Memory<'_>>, replies: &[u8]) -> bool {
 fn expect_replies(
     rt: &impl Abort,
     memory: Memory<'_>,
-    session: &mut Session<Memory<'_>>,
+    session: &mut impl Subject,
     replies: &mut Vec<u8>,
 ) {
     let refusals = memory.refusals();
@@ -103,28 +94,31 @@ fn expect_replies(
     assert!(rt; is_said || is_replied(session, replies.as_slice()));
 }
 
-fn has_active(session: &Session<Memory<'_>>, text: &[u8]) -> bool {
-    session.machine().active() == text
-}
-
 // A list of none has no replies.
-fn commands_and_replies(rt: &impl Abort, plain: Global, memory: Memory<'_>) {
-    let mut session = made(rt, memory, 4, Width::W128);
+fn commands_and_replies<'a, S: SubjectOver<Memory<'a>>>(
+    rt: &impl Abort,
+    plain: Global,
+    memory: Memory<'a>,
+) {
+    let mut session: S = made(rt, memory, memory, 4, Width::W128);
     let mut replies = Vec::new(plain);
-    perform(&mut session, &[], &mut replies).expect(rt, "it was refused");
+    session
+        .carry_out_all(&[], &mut replies)
+        .expect(rt, "it was refused");
     expect_replies(rt, memory, &mut session, &mut replies);
-    assert!(rt; has_active(&session, b",#(rs))"));
-    let_go(session);
+    assert!(rt; session.active() == b",#(rs))".as_slice());
 }
 
 // In the last run none is refused.
-#[test]
-fn each_request_of_a_list(rt: HostRuntime) {
-    let memory = Refusing::new(rt.alloc());
+fn expect_each_request<'a, S: SubjectOver<Memory<'a>>>(
+    rt: &impl Abort,
+    plain: Global,
+    memory: Memory<'a>,
+) {
     for nth in 1..1_000 {
         let refusals = memory.refusals();
         memory.refuse_nth(nth);
-        commands_and_replies(&rt, rt.alloc(), &memory);
+        commands_and_replies::<S>(rt, plain, memory);
         memory.accept_all();
         if memory.refusals() == refusals {
             assert!(rt; nth > 2, "{nth} runs");
@@ -132,4 +126,10 @@ fn each_request_of_a_list(rt: HostRuntime) {
         }
     }
     panic!(rt; "too few runs");
+}
+
+#[test]
+fn each_request_of_a_list(rt: HostRuntime) {
+    let memory = Refusing::new(rt.alloc());
+    expect_each_request::<Session<Memory<'_>>>(&rt, rt.alloc(), &memory);
 }

@@ -2,7 +2,7 @@
 //! records weigh. So no copy of a state hides in it, which no clause could tell: clauses speak of what a session shows.
 ghost use Rattle.std.specs.Prelude.{◌≤◌};
 
-use crate::sessions::let_go;
+use crate::sessions::{Subject, SubjectOver};
 use linked_list_allocator::LocalHeap;
 use std::alloc::Global;
 use std::process::Abort;
@@ -35,15 +35,15 @@ const REPEATED: &[u8] = b"#(eq,a,b,c,(d))##(ds,G,x)#(cc,F)\t(e)#f";
 
 const TIMES: usize = 200;
 
-fn new_session(heap: Heap<'_>) -> Result<Session<Heap<'_>>, Refusal> {
-    Session::new(heap, JOURNAL_LIMIT, Width::W128)
+fn new_session<'a, S: SubjectOver<Heap<'a>>>(rt: &impl Abort, heap: Heap<'a>) -> S {
+    S::new_one(heap, JOURNAL_LIMIT, Width::W128).expect(rt, "there was no memory")
 }
 
-fn feed(session: &mut Session<Heap<'_>>, bytes: &[u8]) -> Result<(), Refusal> {
+fn feed(session: &mut impl Subject, bytes: &[u8]) -> Result<(), Refusal> {
     session.feed(bytes)
 }
 
-fn go_on(session: &mut Session<Heap<'_>>, n: u64) -> Option<Refusal> {
+fn go_on(session: &mut impl Subject, n: u64) -> Option<Refusal> {
     session.forward(n).why
 }
 
@@ -51,7 +51,7 @@ fn go_on(session: &mut Session<Heap<'_>>, n: u64) -> Option<Refusal> {
 fn feed_many(
     rt: &impl Abort,
     alloc: Global,
-    session: &mut Session<Heap<'_>>,
+    session: &mut impl Subject,
     before: &[u8],
     (text, times): (&[u8], usize),
     after: &[u8],
@@ -71,21 +71,21 @@ fn add(rt: &impl Abort, out: &mut Vec<u8>, text: &[u8]) {
 }
 
 // Defines a long form, and forgets the steps.
-fn define(rt: &impl Abort, alloc: Global, session: &mut Session<Heap<'_>>) {
+fn define(rt: &impl Abort, alloc: Global, session: &mut impl Subject) {
     feed_many(rt, alloc, session, b"#(ds,F,(", (b"a", LONG), b"))'");
     assert!(rt; go_on(session, u64::MAX) == Some(Refusal::NeedInput));
     session.commit(0);
 }
 
 // How many bytes the records may take.
-fn records_take(session: &Session<Heap<'_>>) -> usize {
+fn records_take(session: &impl Subject) -> usize {
     let records = session.len().saturating_mul(RECORD_BYTES);
     let weight = (session.weight() as usize).saturating_mul(WEIGHT_BYTES);
     records.saturating_add(weight)
 }
 
 // Of so many bytes that were held before, the session holds no more than these, its rooms, and its records.
-fn expect_held(rt: &impl Abort, heap: Heap<'_>, session: &Session<Heap<'_>>, before: usize) {
+fn expect_held(rt: &impl Abort, heap: Heap<'_>, session: &impl Subject, before: usize) {
     let most = before
         .saturating_add(ROOMS)
         .saturating_add(records_take(session));
@@ -96,7 +96,7 @@ fn expect_held(rt: &impl Abort, heap: Heap<'_>, session: &Session<Heap<'_>>, bef
 fn go_through(
     rt: &impl Abort,
     heap: Heap<'_>,
-    session: &mut Session<Heap<'_>>,
+    session: &mut impl Subject,
     part: u64,
     window: Option<usize>,
 ) {
@@ -115,14 +115,23 @@ fn go_through(
     panic!(rt; "too few parts");
 }
 
-fn expect_run(rt: &impl Abort, alloc: Global, part: u64, window: Option<usize>) {
-    let heap = LocalHeap::new(alloc, HEAP_SIZE).expect(rt, "there was no memory");
-    let mut session = new_session(&heap).expect(rt, "there was no memory");
+fn expect_run_on<'a, S: SubjectOver<Heap<'a>>>(
+    rt: &impl Abort,
+    alloc: Global,
+    heap: Heap<'a>,
+    part: u64,
+    window: Option<usize>,
+) {
+    let mut session: S = new_session(rt, heap);
     define(rt, alloc, &mut session);
     let many = (REPEATED, TIMES);
     feed_many(rt, alloc, &mut session, b"##(cl,F)#(pf,F)", many, b"'");
-    go_through(rt, &heap, &mut session, part, window);
-    let_go(session);
+    go_through(rt, heap, &mut session, part, window);
+}
+
+fn expect_run(rt: &impl Abort, alloc: Global, part: u64, window: Option<usize>) {
+    let heap = LocalHeap::new(alloc, HEAP_SIZE).expect(rt, "there was no memory");
+    expect_run_on::<Session<Heap<'_>>>(rt, alloc, &heap, part, window);
 }
 
 #[test]
@@ -140,7 +149,7 @@ fn put_and_delete(
     rt: &impl Abort,
     alloc: Global,
     heap: Heap<'_>,
-    session: &mut Session<Heap<'_>>,
+    session: &mut impl Subject,
     keep: usize,
     number: usize,
 ) -> usize {
@@ -156,12 +165,16 @@ fn put_and_delete(
 }
 
 // Many forms are put and deleted, with a commit after each that keeps so many steps.
-fn expect_names(rt: &impl Abort, alloc: Global, keep: usize) {
-    let heap = LocalHeap::new(alloc, HEAP_SIZE).expect(rt, "there was no memory");
-    let mut session = new_session(&heap).expect(rt, "there was no memory");
+fn expect_names_on<'a, S: SubjectOver<Heap<'a>>>(
+    rt: &impl Abort,
+    alloc: Global,
+    heap: Heap<'a>,
+    keep: usize,
+) {
+    let mut session: S = new_session(rt, heap);
     let mut most = 0;
     for number in 0..NAMES {
-        let held = put_and_delete(rt, alloc, &heap, &mut session, keep, number);
+        let held = put_and_delete(rt, alloc, heap, &mut session, keep, number);
         if number < 9 {
             most = held.max(most);
         }
@@ -170,7 +183,11 @@ fn expect_names(rt: &impl Abort, alloc: Global, keep: usize) {
             "{held} bytes of {most} at {number}, {keep} steps kept"
         );
     }
-    let_go(session);
+}
+
+fn expect_names(rt: &impl Abort, alloc: Global, keep: usize) {
+    let heap = LocalHeap::new(alloc, HEAP_SIZE).expect(rt, "there was no memory");
+    expect_names_on::<Session<Heap<'_>>>(rt, alloc, &heap, keep);
 }
 
 // Names of deleted forms take nothing once a commit keeps the last state alone, or steps that need none of them.

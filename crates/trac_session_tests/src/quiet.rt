@@ -1,97 +1,120 @@
 //! What may never ask for memory asks for none: while the calls that go back, let go, change what is there or lend it
 //! are made, the count of requests stays. A body that asks, and goes on if it is refused, is proved; it fails here.
-use crate::sessions::{let_go, made};
+use crate::sessions::{Subject, SubjectOver, made};
+use std::alloc::Allocator;
 use std::process::Abort;
 use trac_faults::Refusing;
 use trac_forms::{Block, Form, FormError, Store};
+use trac_gap::TwoEnds;
 use trac_machine_tests::Memory;
 use trac_rules::refusal::Refusal;
 use trac_rules::width::Width;
 use trac_session::Session;
-
-type Forms<'a> = Store<Memory<'a>>;
+use trac_step::{Core, Mark};
 
 // A program that defines, cuts, reads, puts aside, erases, deletes, protects and prints.
 const PROGRAM: &[u8] =
     b"#(ds,A,abcb)#(ss,A,b)#(cs,A)#(ds,A,x)#(ds,B,y)#(sb,G,B)#(fb,G)#(eb,G)#(dd,A)#(da)(p)\t#(ps,q)'";
 
-fn feed(session: &mut Session<Memory<'_>>, bytes: &[u8]) -> Result<(), Refusal> {
-    session.feed(bytes)
-}
-
 // Goes forward until the input has to go on.
-fn go_forward(session: &mut Session<Memory<'_>>) -> bool {
+fn go_forward(session: &mut impl Subject) -> bool {
     session.forward(u64::MAX).why == Some(Refusal::NeedInput)
 }
 
-fn go_back(session: &mut Session<Memory<'_>>, n: u64) -> u64 {
-    session.back(n).done
-}
-
-fn go_back_until(session: &mut Session<Memory<'_>>, name: &[u8]) -> bool {
-    session.back_until(name).why.is_none()
-}
-
-// How much a session lends, so that each of its readers is called.
-fn lent(session: &Session<Memory<'_>>) -> usize {
-    let machine = session.machine();
+// How much texts and counts a machine lends, so that each of its readers is called.
+fn texts_lent<E: TwoEnds<u8, A>, M: TwoEnds<Mark, A>, A: Allocator + Copy>(
+    machine: &Core<E, M, A>,
+) -> usize {
     let texts = machine.active().len() | machine.base().len() | machine.output().len();
     let name = machine.at_call().map_or(0, <[u8]>::len);
-    let counts = machine.depth() | machine.position() | machine.store().form_count();
-    texts | name | counts | session.pending().len() | session.pending_before(1).len()
+    texts | name | machine.depth() | machine.position()
 }
 
-// How much it lends beside these: a form, a block, the arguments of a begun function, and what it counts.
-fn lent_beside(session: &Session<Memory<'_>>) -> usize {
-    let machine = session.machine();
-    let form = machine.store().get(b"A").map_or(0, |form| form.len());
-    let block = machine.store().block(0).map_or(0, |block| block.len());
+// How many arguments of a begun function it lends, and whether one is begun.
+fn arguments_lent<E: TwoEnds<u8, A>, M: TwoEnds<Mark, A>, A: Allocator + Copy>(
+    machine: &Core<E, M, A>,
+) -> usize {
     let arguments = machine.frame(0).map_or(0, |frame| frame.1.count());
     let begun = machine.begun_functions().next().is_some();
-    let shared = machine.store().shared_name(b"A").is_some();
-    let counts = session.len() | session.weight() as usize | begun as usize | shared as usize;
-    form | block | arguments | counts | session.unread().len()
+    arguments | begun as usize
+}
+
+// How much of a form and of a block a store lends, and what it counts.
+fn forms_lent<A: Allocator + Copy>(store: &Store<A>) -> usize {
+    let form = store.get(b"A").map_or(0, |form| form.len());
+    let block = store.block(0).map_or(0, |block| block.len());
+    let shared = store.shared_name(b"A").is_some();
+    form | block | shared as usize | store.form_count()
+}
+
+/// How much the machine of a session lends: texts, arguments and forms.
+pub(crate) fn machine_lends<E: TwoEnds<u8, A>, M: TwoEnds<Mark, A>, A: Allocator + Copy>(
+    machine: &Core<E, M, A>,
+) -> usize {
+    texts_lent(machine) | arguments_lent(machine) | forms_lent(machine.store())
+}
+
+// How much a session itself lends, and what it counts.
+fn lent(session: &impl Subject) -> usize {
+    let texts = session.pending().len() | session.pending_before(1).len();
+    let counts = session.len() | session.weight() as usize;
+    texts | counts | session.unread().len()
 }
 
 // A session goes back over each kind of call, and to the start.
-fn all_goes_back(session: &mut Session<Memory<'_>>) -> bool {
-    let is_found = go_back_until(session, b"cs");
-    is_found & (lent(session) > 0) & (lent_beside(session) > 0) & (go_back(session, u64::MAX) > 0)
+fn all_goes_back(session: &mut impl Subject) -> bool {
+    let is_found = session.back_until(b"cs").why.is_none();
+    let is_lent = (session.machine_lends() > 0) & (lent(session) > 0);
+    is_found & is_lent & (session.back(u64::MAX).done > 0)
 }
 
 // A session lets steps go, some and then all, and ends its input.
-fn lets_go(session: &mut Session<Memory<'_>>) -> bool {
+fn lets_go(session: &mut impl Subject) -> bool {
     session.commit(3);
     session.end();
     session.commit(0);
     session.is_empty()
 }
 
-#[test]
-fn sessions_go_back_and_commit(rt: HostRuntime) {
-    let memory = Refusing::new(rt.alloc());
-    let mut session = made(&rt, &memory, 1_000, Width::W128);
-    feed(&mut session, PROGRAM).expect(&rt, "it was refused");
+fn expect_quiet<'a, S: SubjectOver<Memory<'a>>>(rt: &impl Abort, memory: Memory<'a>) {
+    let mut session: S = made(rt, memory, memory, 1_000, Width::W128);
+    session.feed(PROGRAM).expect(rt, "it was refused");
     assert!(rt; go_forward(&mut session));
     let requests = memory.requests();
     assert!(rt; all_goes_back(&mut session) && memory.requests() == requests);
     assert!(rt; go_forward(&mut session));
     let requests = memory.requests();
     assert!(rt; lets_go(&mut session) && memory.requests() == requests);
-    let_go(session);
+}
+
+#[test]
+fn sessions_go_back_and_commit(rt: HostRuntime) {
+    let memory = Refusing::new(rt.alloc());
+    expect_quiet::<Session<Memory<'_>>>(&rt, &memory);
+}
+
+fn new_form<A: Allocator + Copy>(rt: &impl Abort, alloc: A, text: &[u8]) -> Form<A> {
+    Form::new(alloc, text).expect(rt, "there was no memory")
+}
+
+fn put<A: Allocator + Copy>(rt: &impl Abort, store: &mut Store<A>, name: &[u8], form: Form<A>) {
+    let _none = store.insert(name, form).expect(rt, "there was no memory");
 }
 
 // A store of two forms, with a place for a block.
-fn stored(memory: Memory<'_>) -> Result<Forms<'_>, FormError> {
-    let mut store = Store::new(memory);
-    let _none = store.insert(b"A", Form::new(memory, b"abcb")?)?;
-    let _none = store.insert(b"B", Form::new(memory, b"y")?)?;
-    store.reserve_blocks(1)?;
-    Ok(store)
+fn stored<A: Allocator + Copy>(rt: &impl Abort, alloc: A) -> Store<A> {
+    let mut store = Store::new(alloc);
+    put(rt, &mut store, b"A", new_form(rt, alloc, b"abcb"));
+    put(rt, &mut store, b"B", new_form(rt, alloc, b"y"));
+    store.reserve_blocks(1).expect(rt, "there was no memory");
+    store
 }
 
 // Texts are cut out of a form, once memory for the cut is there.
-fn is_cut<'a>(memory: Memory<'a>, store: &mut Forms<'a>) -> Result<bool, FormError> {
+fn is_cut<A: Allocator + Copy>(
+    memory: Memory<'_>,
+    store: &mut Store<A>,
+) -> Result<bool, FormError> {
     let texts: &[&[u8]] = &[b"b"];
     let Some(form) = store.get(b"A") else {
         return Ok(false);
@@ -103,7 +126,7 @@ fn is_cut<'a>(memory: Memory<'a>, store: &mut Forms<'a>) -> Result<bool, FormErr
 }
 
 // A form is taken and put again under its name, which is known, and its pointer is set.
-fn is_put_again(store: &mut Forms<'_>) -> bool {
+fn is_put_again<A: Allocator + Copy>(store: &mut Store<A>) -> bool {
     let Some(form) = store.take(b"A") else {
         return false;
     };
@@ -114,7 +137,7 @@ fn is_put_again(store: &mut Forms<'_>) -> bool {
 }
 
 // A block is put at the end, for which there is a place, and taken.
-fn is_taken<'a>(store: &mut Forms<'a>, block: Block<Memory<'a>>) -> bool {
+fn is_taken<A: Allocator + Copy>(store: &mut Store<A>, block: Block<A>) -> bool {
     let Ok(()) = store.reserve_blocks(1) else {
         return false;
     };
@@ -124,19 +147,32 @@ fn is_taken<'a>(store: &mut Forms<'a>, block: Block<Memory<'a>>) -> bool {
 }
 
 // All forms leave, and then the names.
-fn is_emptied(store: &mut Forms<'_>) -> bool {
+fn is_emptied<A: Allocator + Copy>(store: &mut Store<A>) -> bool {
     store.clear();
     store.sweep();
     store.form_count() == 0
 }
 
+fn expect_quiet_changes<A: Allocator + Copy>(
+    rt: &impl Abort,
+    memory: Memory<'_>,
+    store: &mut Store<A>,
+    block: Block<A>,
+) {
+    assert!(rt; is_cut(memory, store) == Ok(true));
+    let requests = memory.requests();
+    assert!(rt; is_put_again(store) && is_taken(store, block) && is_emptied(store));
+    assert!(rt; memory.requests() == requests);
+}
+
+fn expect_quiet_store<A: Allocator + Copy>(rt: &impl Abort, memory: Memory<'_>, alloc: A) {
+    let mut store = stored(rt, alloc);
+    let block = Block::with_room(alloc, 1).expect(rt, "there was no memory");
+    expect_quiet_changes(rt, memory, &mut store, block);
+}
+
 #[test]
 fn stores_change_what_is_there(rt: HostRuntime) {
     let memory = Refusing::new(rt.alloc());
-    let mut store = stored(&memory).expect(&rt, "there was no memory");
-    let block = Block::with_room(&memory, 1).expect(&rt, "there was no memory");
-    assert!(rt; is_cut(&memory, &mut store) == Ok(true));
-    let requests = memory.requests();
-    assert!(rt; is_put_again(&mut store) && is_taken(&mut store, block) && is_emptied(&mut store));
-    assert!(rt; memory.requests() == requests);
+    expect_quiet_store(&rt, &memory, &memory);
 }

@@ -1,11 +1,11 @@
 //! Whole runs of a session, step by step: to the end, and all the way back, where each state is the one on the way out.
 //! Each request for memory is refused in turn on the way out, and all of them on the way back. With a commit after each
 //! step that keeps so many, the states are the same but for what was released, and the way back goes so far.
-use crate::sessions::{let_go, made};
+use crate::sessions::{Subject, SubjectOver, made};
 use std::alloc::Global;
 use std::process::Abort;
 use trac_faults::Refusing;
-use trac_machine_tests::{EACH_PRIMITIVE, Memory, programs, shown_after};
+use trac_machine_tests::{EACH_PRIMITIVE, Memory, programs};
 use trac_rules::refusal::Refusal;
 use trac_rules::width::Width;
 use trac_session::{Session, Walk};
@@ -84,65 +84,42 @@ fn expect_text(rt: &impl Abort, text: &[u8], wanted: &[u8]) {
 }
 
 // What the session shows of its last state, with all that was released before it.
-fn shown(
-    rt: &impl Abort,
-    run: &Run<'_>,
-    session: &Session<Memory<'_>>,
-    released: Released,
-) -> Vec<u8> {
+fn shown(rt: &impl Abort, run: &Run<'_>, session: &impl Subject, released: Released) -> Vec<u8> {
     let printed = front(run.output, released.printed);
-    shown_after(run.plain, session.machine(), printed, released.read).expect(
-        rt,
-        "there was no memory",
-    )
+    session
+        .shown(run.plain, printed, released.read)
+        .expect(rt, "there was no memory")
 }
 
 // A session shows this, with what was released.
 fn expect_shown(
     rt: &impl Abort,
     run: &Run<'_>,
-    session: &Session<Memory<'_>>,
+    session: &impl Subject,
     released: Released,
     state: &[u8],
 ) {
     expect_text(rt, shown(rt, run, session, released).as_slice(), state);
 }
 
-fn forward(session: &mut Session<Memory<'_>>, n: u64) -> Walk {
-    session.forward(n)
-}
-
-fn back(session: &mut Session<Memory<'_>>, n: u64) -> Walk {
-    session.back(n)
-}
-
 fn expect_walk(rt: &impl Abort, walk: Walk, done: u64, why: Refusal) {
     assert!(rt; walk.done == done && walk.why == Some(why));
 }
 
-fn feed(session: &mut Session<Memory<'_>>, input: &[u8]) -> Result<(), Refusal> {
-    session.feed(input)
-}
-
 // All of the input is fed, and then it ends. One request may be refused: that is answered as such, the tape is as
 // before, and the next try is accepted.
-fn feed_all(rt: &impl Abort, run: &Run<'_>, session: &mut Session<Memory<'_>>) {
+fn feed_all(rt: &impl Abort, run: &Run<'_>, session: &mut impl Subject) {
     let refusals = run.memory.refusals();
-    if let Err(refusal) = feed(session, run.input) {
+    if let Err(refusal) = session.feed(run.input) {
         assert!(rt; refusal == Refusal::Memory && run.memory.refusals() > refusals);
         assert!(rt; session.unread().is_empty());
-        feed(session, run.input).expect(rt, "it was refused again");
+        session.feed(run.input).expect(rt, "it was refused again");
     }
     session.end();
 }
 
-// How many bytes are read of the tape as the session has it.
-fn position(session: &Session<Memory<'_>>) -> usize {
-    session.machine().position()
-}
-
 // Commits, for which no memory is wanted.
-fn commit_at(rt: &impl Abort, memory: Memory<'_>, session: &mut Session<Memory<'_>>, keep: usize) {
+fn commit_at(rt: &impl Abort, memory: Memory<'_>, session: &mut impl Subject, keep: usize) {
     let requests = memory.requests();
     session.commit(keep);
     assert!(rt; memory.requests() == requests);
@@ -152,7 +129,7 @@ fn commit_at(rt: &impl Abort, memory: Memory<'_>, session: &mut Session<Memory<'
 fn released_by(
     rt: &impl Abort,
     run: &Run<'_>,
-    session: &Session<Memory<'_>>,
+    session: &impl Subject,
     printed: usize,
     keep: usize,
 ) -> usize {
@@ -165,16 +142,16 @@ fn released_by(
 fn commit(
     rt: &impl Abort,
     run: &Run<'_>,
-    session: &mut Session<Memory<'_>>,
+    session: &mut impl Subject,
     released: Released,
 ) -> Released {
     let Some(keep) = run.window else {
         return released;
     };
     let more = released_by(rt, run, session, released.printed, keep);
-    let before = position(session);
+    let before = session.position();
     commit_at(rt, run.memory, session, keep);
-    let dropped = before.saturating_sub(position(session));
+    let dropped = before.saturating_sub(session.position());
     Released {
         printed: released.printed.saturating_add(more),
         read: released.read.saturating_add(dropped),
@@ -186,25 +163,25 @@ fn commit(
 fn step_from(
     rt: &impl Abort,
     run: &Run<'_>,
-    session: &mut Session<Memory<'_>>,
+    session: &mut impl Subject,
     released: Released,
     state: &[u8],
 ) -> Option<Refusal> {
     let refusals = run.memory.refusals();
-    let why = forward(session, 1).why;
+    let why = session.forward(1).why;
     assert!(rt; (why == Some(Refusal::Memory)) == (run.memory.refusals() > refusals));
     if why != Some(Refusal::Memory) {
         return why;
     }
     expect_shown(rt, run, session, released, state);
-    forward(session, 1).why
+    session.forward(1).why
 }
 
 // To the end, step by step: the state before each step, and the last one. Returns what is released.
 fn to_end(
     rt: &impl Abort,
     run: &Run<'_>,
-    session: &mut Session<Memory<'_>>,
+    session: &mut impl Subject,
     states: &mut Vec<Vec<u8>>,
 ) -> Released {
     let mut released = NOTHING_RELEASED;
@@ -226,7 +203,7 @@ fn to_end(
 fn to_start(
     rt: &impl Abort,
     run: &Run<'_>,
-    session: &mut Session<Memory<'_>>,
+    session: &mut impl Subject,
     released: Released,
     states: &[Vec<u8>],
 ) {
@@ -234,10 +211,10 @@ fn to_start(
     run.memory.refuse_all();
     for state in states.iter().rev() {
         expect_shown(rt, run, session, released, state.as_slice());
-        back(session, 1);
+        session.back(1);
     }
-    expect_walk(rt, back(session, 1), 0, Refusal::AtStart);
-    assert!(rt; session.pending().is_empty() && position(session) == 0);
+    expect_walk(rt, session.back(1), 0, Refusal::AtStart);
+    assert!(rt; session.pending().is_empty() && session.position() == 0);
     assert!(rt; run.memory.requests() == requests);
     run.memory.accept_all();
 }
@@ -258,7 +235,7 @@ fn rest_of(states: &[Vec<u8>], count: usize) -> &[Vec<u8>] {
 fn there_and_back(
     rt: &impl Abort,
     run: &Run<'_>,
-    session: &mut Session<Memory<'_>>,
+    session: &mut impl Subject,
     states: &mut Vec<Vec<u8>>,
 ) {
     feed_all(rt, run, session);
@@ -267,7 +244,7 @@ fn there_and_back(
     let kept = kept_of(states.as_slice(), run.window);
     to_start(rt, run, session, released, kept);
     let steps = kept.len().saturating_sub(1) as u64;
-    expect_walk(rt, forward(session, u64::MAX), steps, Refusal::Ended);
+    expect_walk(rt, session.forward(u64::MAX), steps, Refusal::Ended);
 }
 
 // How many records the journal of a run has to hold: with commits one more than they keep.
@@ -279,26 +256,39 @@ fn journal_of(window: Option<usize>) -> usize {
 }
 
 // The states of such a run, the first one first.
-fn states_of(rt: &impl Abort, run: &Run<'_>) -> Vec<Vec<u8>> {
-    let mut session = made(rt, run.memory, journal_of(run.window), run.width);
+fn states_of<'a, S: SubjectOver<Memory<'a>>>(rt: &impl Abort, run: &Run<'a>) -> Vec<Vec<u8>> {
+    let mut session: S = made(
+        rt,
+        run.memory,
+        run.memory,
+        journal_of(run.window),
+        run.width,
+    );
     let mut states = Vec::new(run.plain);
     there_and_back(rt, run, &mut session, &mut states);
-    let_go(session);
     states
 }
 
 // A run with commits, or in which a request is refused, has these states too.
-fn expect_states(rt: &impl Abort, run: &Run<'_>, states: &[Vec<u8>]) {
-    assert!(rt; states_of(rt, run).as_slice() == states);
+fn expect_states<'a, S: SubjectOver<Memory<'a>>>(
+    rt: &impl Abort,
+    run: &Run<'a>,
+    states: &[Vec<u8>],
+) {
+    assert!(rt; states_of::<S>(rt, run).as_slice() == states);
 }
 
 // The run again and again, with one more request accepted before the refused one each time, until none is refused. A
 // moved byte takes no memory, so there may be fewer requests than steps.
-fn expect_each_request(rt: &impl Abort, run: &Run<'_>, states: &[Vec<u8>]) {
+fn expect_each_request<'a, S: SubjectOver<Memory<'a>>>(
+    rt: &impl Abort,
+    run: &Run<'a>,
+    states: &[Vec<u8>],
+) {
     for nth in 1..10_000 {
         let refusals = run.memory.refusals();
         run.memory.refuse_nth(nth);
-        expect_states(rt, run, states);
+        expect_states::<S>(rt, run, states);
         run.memory.accept_all();
         if run.memory.refusals() == refusals {
             assert!(rt; nth > 10, "{nth} runs");
@@ -309,7 +299,26 @@ fn expect_each_request(rt: &impl Abort, run: &Run<'_>, states: &[Vec<u8>]) {
 }
 
 // A run without a commit, and one with each of these windows; each request is refused in turn, or none.
-fn expect_runs(
+fn expect_runs<'a, S: SubjectOver<Memory<'a>>>(
+    rt: &impl Abort,
+    run: Run<'a>,
+    windows: &[Option<usize>],
+    is_refused: bool,
+) {
+    let states = states_of::<S>(rt, &run);
+    for window in windows.iter() {
+        let window = *window;
+        let further = Run { window, ..run };
+        if is_refused {
+            expect_each_request::<S>(rt, &further, states.as_slice());
+        } else {
+            expect_states::<S>(rt, &further, states.as_slice());
+        }
+    }
+}
+
+// The same, over memory that no other run takes.
+fn expect_program(
     rt: &(impl Abort + AllocGlobal),
     width: Width,
     (input, output): (&[u8], &[u8]),
@@ -317,7 +326,7 @@ fn expect_runs(
     is_refused: bool,
 ) {
     let memory = Refusing::new(rt.alloc());
-    let mut run = Run {
+    let run = Run {
         plain: rt.alloc(),
         memory: &memory,
         width,
@@ -325,21 +334,13 @@ fn expect_runs(
         output,
         window: None,
     };
-    let states = states_of(rt, &run);
-    for window in windows.iter() {
-        run.window = *window;
-        if is_refused {
-            expect_each_request(rt, &run, states.as_slice());
-        } else {
-            expect_states(rt, &run, states.as_slice());
-        }
-    }
+    expect_runs::<Session<Memory<'_>>>(rt, run, windows, is_refused);
 }
 
 #[test]
 fn each_state_on_the_way_back(rt: HostRuntime) {
     for program in programs().iter() {
-        expect_runs(&rt, Width::W128, *program, WINDOWS, false);
+        expect_program(&rt, Width::W128, *program, WINDOWS, false);
     }
 }
 
@@ -347,7 +348,7 @@ fn each_state_on_the_way_back(rt: HostRuntime) {
 fn each_request(rt: HostRuntime) {
     for program in SHORT_RUNS.iter() {
         for width in WIDTHS.iter() {
-            expect_runs(&rt, *width, *program, REFUSED_RUNS, true);
+            expect_program(&rt, *width, *program, REFUSED_RUNS, true);
         }
     }
 }
