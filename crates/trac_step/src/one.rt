@@ -25,9 +25,7 @@ impl<A: Allocator + Copy> One<A> {
         ensures { kept_in self.taken ≡ recorded_by result ∷ [] }
     {
         let One { taken, .. } = self;
-        let Some(taken) = taken else {
-            unreachable!()
-        };
+        let Some(taken) = taken else { unreachable!() };
         taken
     }
 
