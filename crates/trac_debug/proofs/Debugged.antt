@@ -1,17 +1,14 @@
 -- A session of the debugger, line by line.
-use Rattle.std.proofs.Common.{◌≡◌, ℕ, ◌+◌, ◌-◌, ◌*◌, ◌==◌, ◌<◌, ◌≤◌, not, Bool, true, false, List, [], ◌∷◌, ◌++◌, length, take, drop, refl, sym, ap, subst, ◌∙◌, arith, inl, inr, ⊎_elim}
-use Rattle.std.specs.Prelude.{◌⊎◌, Option, None, Some, Result, Ok, Err, IfErr, OnErr, IsOkUnless, nat_le, if◌then◌else◌}
+use Rattle.std.proofs.Common.{◌≡◌, ℕ, ◌+◌, ◌-◌, ◌*◌, ◌<◌, ◌≤◌, not, Bool, true, false, List, [], ◌∷◌, ◌++◌, length, take, drop, refl, sym, ap, subst, ◌∙◌, arith, inl, inr, ⊎_elim}
+use Rattle.std.specs.Prelude.{◌⊎◌, Option, None, Some, nat_le, if◌then◌else◌}
 use Rattle.std.specs.Io.KnownBytes.{Appends, Consumes, IsAtEnd, Keeps}
 use Rattle.std.proofs.lemmas.Bool.{false≢true, cond-true, cond-false, le-leb, lt-leb, cases_lt}
-use Rattle.std.proofs.lemmas.Bool.Decides.{nat_tests}
 use Rattle.std.proofs.lemmas.List.{append-nil, append_assoc, length-append, length-drop, length-take-le}
 use Rattle.std.proofs.Math.Seq.{drop-append_seam, take-append_seam}
 use Rattle.trac_rules.specs.declared.width.Width.{Width}
 use Rattle.trac_rules.specs.declared.limit.TheConstants.{TAPE_LIMIT}
 use Rattle.trac_rules.specs.Fronts.{IsFrontOf}
-use Rattle.trac_rules.specs.Session.{PlainSession, Feed, End, answer, done, new_session}
-use Rattle.trac_rules.proofs.Replies.{End_done, Feed_done, with_end, with_more}
-use Rattle.trac_streams.specs.Written.{WritesFront}
+use Rattle.trac_rules.specs.Session.{PlainSession, done}
 use Rattle.trac_streams.specs.declared.ending.Ending.{Ending}
 use Rattle.trac_streams.specs.declared.ending.Ending.TheVariants.{Ended, Budget, Limit, Memory, Read, Write, NotUnderstood}
 use Rattle.trac_streams.proofs.Known.{Appends-nothing, Appends-both, Appends-kept, Consumes-nothing, Consumes-both, front_after, front_of_front, front_of_nothing}
@@ -22,11 +19,11 @@ use Rattle.trac_streams.specs.Lines.{feed_count, lines_of, is_within}
 use Rattle.trac_debug.specs.Commands.{LineCommand, Forward, Back, Until, Return, Print, Commit, Quit, command_of}
 use Rattle.trac_debug.specs.Replies.{Replies, is_walk}
 use Rattle.trac_debug.specs.Debugging.{Turn, Passes, Does, Ends, Takes, TurnLeads, LeadsTo, MayWrite, MayFollow, FollowsFirst, FollowsInPart, MayShow, RepliesInPart, RepliesToFirst, ready, shown_where, turn_at, turn_of}
-use Rattle.trac_debug.specs.Debugs.{OnWrite, UnlessFault, UnlessWrite, IsReading, BeginsWith, FaultsAt, Debugs, DebugsBy, MOST_READ, IsReady, IsNotReplied, ReadsInLines, Settles, Stops, Advances, Halts}
+use Rattle.trac_debug.specs.Debugs.{OnWrite, UnlessFault, UnlessWrite, IsReading, BeginsWith, FaultsAt, Debugs, DebugsBy, MOST_READ, IsReady, ReadsInLines, Settles, Stops, Advances, Halts}
 use Rattle.trac_streams.specs.Pending.{Pending}
 use Rattle.trac_streams.specs.Tape.{MayRefuseTape}
 use Rattle.trac_streams.specs.Reading.{AreInLine, HELD_LIMIT, IsFront, Gathers, GathersBy, FailsBy, CameBy, end_reads, fault_reads}
-use Rattle.trac_debug.proofs.Existing.{some_reply, some_text}
+use Rattle.trac_debug.proofs.Existing.{some_text}
 use Rattle.trac_debug.proofs.ToldOutput.{all_told, ready_released}
 use Rattle.trac_streams.proofs.Gathered.{came_by_both, came_by_none, empty_reads_sound, end_reads_one, end_reads_open, few_held, open_before, reads_counted}
 use Rattle.trac_streams.proofs.Splitting.{first_line, lines_of-count}
@@ -797,59 +794,3 @@ debugged_not input output tape limit width ending why = record {
 pub refused_too_long : (tape : List ℕ) (ending : Ending) → MayRefuseTape tape ending → TAPE_LIMIT < length tape → ending ≡ Limit
 refused_too_long tape ending (inl why) long = absurd (omega (arith, why.1, long))
 refused_too_long tape ending (inr why) long = why.0
-
--- ---- replies
-
--- no reply could be made
-pub not_made : (command : LineCommand) (old new : PlainSession) (output : Option (List ℕ)) → is_walk command ≡ false → new ≡ old → IsNotReplied command old new output output Memory
-not_made command old new output other same =
-    let some = some_reply command old in
-    record {
-      fault = inl (refl, refl, other, same);
-      reply = some.0;
-      made = some.1;
-      replies = some.2;
-      front = record { written = []; front = front_of_nothing some.0; gave = Appends-nothing output };
-    }
-
--- a reply could not be written or flushed
-pub not_written : (command : LineCommand) (old new : PlainSession) (lent reply : List ℕ) (a b : Option (List ℕ)) (wrote : Result (Unit {0}) Ending) → lent ≡ reply → Replies command old reply new → IsOkUnless wrote Write → OnErr wrote (WritesFront a b lent) →
-    IfErr wrote (IsNotReplied command old new a b)
-not_written command old new lent reply a b (Ok none) is replies fault front = tt
-not_written command old new lent reply a b (Err ending) is replies fault front = record {
-  fault = inr (fault, refl);
-  reply = reply;
-  made = new;
-  replies = replies;
-  front = subst (WritesFront a b) is front;
-}
-
--- ---- the session
-
--- it stands over the tape
-pub ready_made : (tape : List ℕ) (limit : ℕ) (width : Width) (p q r : PlainSession) → length tape ≤ TAPE_LIMIT → p ≡ new_session limit width → answer (Feed tape) p ≡ done q → answer End q ≡ done r → IsReady tape limit width r
-ready_made tape limit width p q r within new fed ended = record {
-  within = within;
-  is = End_done q r ended ∙ ap with_end ((Feed_done tape p q fed).0) ∙ ap (λ (s : PlainSession). with_end (with_more s tape)) new;
-}
-
--- ---- what the code answers, as the definitions have it
-
--- the line as it was lent, and the ending as it was passed on
-pub stops_at : (number : ℕ) (lent line : List ℕ) (p q : PlainSession) (a b : Option (List ℕ)) (e ending : Ending) → lent ≡ line → ending ≡ e → Stops (turn_at number lent) p q a b e → Stops (turn_at number line) p q a b ending
-stops_at number lent line p q a b e ending same is stops =
-    subst (λ l. Stops (turn_at number l) p q a b ending) same (subst (λ x. Stops (turn_at number lent) p q a b x) (sym is) stops)
-
-pub settles_at : (number : ℕ) (lent line : List ℕ) (p q : PlainSession) (a b : Option (List ℕ)) → lent ≡ line → Settles (turn_at number lent) p q a b → Settles (turn_at number line) p q a b
-settles_at number lent line p q a b same settles = subst (λ l. Settles (turn_at number l) p q a b) same settles
-
--- whether there are more bytes, as it is tested
-pub some_of_more : (n : ℕ) (more : Bool) → more ≡ not (n == 0) → more ≡ true → 0 < n
-some_of_more n more is some = grind (arith, nat_tests)
-
-pub none_of_more : (bytes : List ℕ) (more : Bool) → more ≡ not (length bytes == 0) → more ≡ false → bytes ≡ []
-none_of_more [] more is none = refl
-none_of_more (b ∷ bs) more is none = absurd (false≢true (sym none ∙ is ∙ some_bytes))
-  where
-    some_bytes : not (length (b ∷ bs) == 0) ≡ true
-    some_bytes = grind (arith, nat_tests)

@@ -4,3 +4,4 @@ pub mod Existing
 pub mod OneText
 pub mod ToldOutput
 pub mod Debugged
+pub mod Answered

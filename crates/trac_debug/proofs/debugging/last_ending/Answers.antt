@@ -1,6 +1,7 @@
 use Rattle.std.proofs.Common.{length}
 use Rattle.trac_streams.specs.declared.ending.Ending.TheVariants.{Ended, Budget}
-use Rattle.trac_debug.proofs.Debugged.{halts_at_end, halts_before, halts_late, halts_unread, none_of_more, some_of_more}
+use Rattle.trac_debug.proofs.Answered.{none_of_more, some_of_more}
+use Rattle.trac_debug.proofs.Debugged.{halts_at_end, halts_before, halts_late, halts_unread}
 use Rattle.trac_debug.proofs.debugging.last_ending.Goals as goal
 
 pub returns-in-Ok-true : goal.returns-in-Ok-true

@@ -1,7 +1,7 @@
 use Rattle.std.proofs.Common.{subst, ◌∙◌}
 use Rattle.trac_debug.specs.Replies.{Replies}
 use Rattle.trac_debug.specs.Views.{command_seen}
-use Rattle.trac_debug.proofs.Debugged.{not_made, not_written}
+use Rattle.trac_debug.proofs.Answered.{not_made, not_written}
 use Rattle.trac_debug.proofs.debugging.reply.Goals as goal
 
 pub returns-in-Some-clause-err : goal.returns-in-Some-clause-err

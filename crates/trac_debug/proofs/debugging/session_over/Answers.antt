@@ -1,5 +1,5 @@
 use Rattle.std.proofs.Common.{arith}
-use Rattle.trac_debug.proofs.Debugged.{ready_made}
+use Rattle.trac_debug.proofs.Answered.{ready_made}
 use Rattle.trac_debug.proofs.debugging.session_over.Goals as goal
 
 pub returns-clause-made : goal.returns-clause-made

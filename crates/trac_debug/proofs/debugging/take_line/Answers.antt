@@ -3,7 +3,8 @@ use Rattle.std.proofs.lemmas.Result.{err_from_is_err_and}
 use Rattle.trac_streams.specs.declared.ending.Ending.TheVariants.{Ended, NotUnderstood}
 use Rattle.trac_debug.specs.Debugs.{Halts}
 use Rattle.trac_streams.specs.Reading.{IsFront}
-use Rattle.trac_debug.proofs.Debugged.{advances, halts_at_end, halts_in, halts_before, halts_too_long, halts_long, halts_unread, settles_at, stops_at}
+use Rattle.trac_debug.proofs.Answered.{settles_at, stops_at}
+use Rattle.trac_debug.proofs.Debugged.{advances, halts_at_end, halts_in, halts_before, halts_too_long, halts_long, halts_unread}
 use Rattle.trac_debug.proofs.debugging.take_line.Goals as goal
 
 pub returns-in_err-seek_counted-clause-err : goal.returns-in_err-seek_counted-clause-err
