@@ -287,8 +287,8 @@ class Streams(InNode):
         said = (b"not understood; h lists the commands\n"
                 b"this line has more than 4,294,967,296 bytes: it ends the walk\n")
         words = ["walk", os.fspath(EXAMPLES / "first.trac")]
-        for front, options in (b"", []), (b"0> ", ["--prompt"]):
-            run = subprocess_run([*words, *options], stdin=os.open("/dev/zero", os.O_RDONLY))
+        for front, line in (b"", words), (b"0> ", [*words, "--prompt"]):
+            run = subprocess_run(line, stdin=os.open("/dev/zero", os.O_RDONLY))
             self.ends("a line without end", run, front + said, 3, b"trac: budget spent\n")
 
     def test_answer_before_the_end(self) -> None:
