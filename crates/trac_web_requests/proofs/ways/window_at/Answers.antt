@@ -1,5 +1,5 @@
 use Rattle.std.proofs.Common.{◌≡◌, ◌+◌, [], arith, refl, subst}
-use Rattle.trac_debug.proofs.Debugged.{ready_made}
+use Rattle.trac_debug.proofs.Answered.{ready_made}
 use Rattle.trac_run.specs.Runs.{TakesSteps}
 use Rattle.trac_moves.specs.Windows.{IsWindow}
 use Rattle.trac_moves.proofs.Kept.{ended}
