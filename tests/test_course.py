@@ -9,12 +9,13 @@ import sys
 from collections.abc import Iterable, Iterator, Sequence
 from typing import Any
 
-from support.cases import TOP, TRAC, WALK, Case, Place, Word, each, ran, scratch, tests
+from support.cases import EXAMPLES, TOP, TRAC, WALK, Case, Place, Word, each, ran, scratch, tests
 
 sys.path.insert(0, str(TOP / "python"))
 from trac_tools import markdown  # noqa: E402
 
 COURSE, LAUNCHER = TOP / "programs" / "course", TOP / "trac"
+FIRST = EXAMPLES / "first.trac"
 # How many words a lesson may have, with its programs, and an exercise or a hint.
 LESSON_WORDS, EXERCISE_WORDS = 400, 60
 # The programs that trac lint doubts, on purpose, and the solutions that it doubts for some input: a line of one word,
@@ -243,13 +244,14 @@ class Course(Case):
         self.holds("to its end: {!r}".format(said[-80:]), status == 0 and said[-40:] == courses("1")[0][-40:])
 
     def test_lesson_of_somebody(self) -> None:
-        """A lesson may have no exercises, and bytes that are no text; without any lesson there is no course."""
+        """A lesson may have no exercises, bytes that are no text, and long input; without a lesson there is no course."""
         top = scratch(self)
         trac, course = top / "bin" / "trac", top / "share" / "trac" / "course"
         for place in trac.parent, top / "lib" / "trac", course:
             place.mkdir(parents=True)
         shutil.copy(LAUNCHER, trac)
-        os.symlink(TRAC, top / "lib" / "trac" / "trac")
+        for program in TRAC, WALK:
+            os.symlink(program, top / "lib" / "trac" / program.name)
         os.symlink(TOP / "python" / "trac_tools", course.parent / "trac_tools")
         said, status = called([trac, "course"])
         self.holds("no lesson: {!r}, {}".format(said, status), status == 70 and said.count("\n") == 1)
@@ -262,6 +264,10 @@ class Course(Case):
         said, status = called([trac, "course"])
         self.holds("an exercise: {!r}, {}".format(said, status), status == 0 and "\n    1.1 Ma\\xdfe\n" in said)
         self.ends("a solution, as it is", ran([trac, "course", "solution", "1.1"]), b"\xdf\r\n'")
+        (course / "01" / "1" / "1.in").write_bytes(b"x" * 200000 + b"'\n")
+        (course / "01" / "1" / "1.out").write_bytes(b"x\n")
+        said, status = called([trac, "course", "check", "1.1", FIRST])
+        self.holds("a check: {!r}, {}".format(said[:200], status), status == 1 and "prints more than" in said)
 
     def test_who_reads_no_more(self) -> None:
         said, status = called(["bash", "-o", "pipefail", "-c", shlex.quote(str(LAUNCHER)) + " course 1 | head -c 1"])

@@ -20,8 +20,8 @@ import time
 
 from trac_tools import judging, markdown
 from trac_tools.dialogue import bound, passed_on
-from trac_tools.tool import (Fault, Place, Process, ShowVersion, Words, begin, found, legible, printable, program,
-                             read_file, ready, shown, write)
+from trac_tools.tool import (Fault, Place, Process, ShowVersion, Words, begin, beside, found, legible, printable,
+                             program, read_file, ready, shown, write)
 
 TYPE_CHECKING = False
 if TYPE_CHECKING:
@@ -301,8 +301,8 @@ def run_program(tape: bytes) -> tuple[bytes, str | None]:
 def first_doubt(name: str, tape: bytes, given: bytes) -> str | None:
     """What trac lint says first of a program with this input, if it has a doubt."""
     with passed_on(given) as (after, give):
-        # (the input is so short that it is given before any of it is read)
-        give()
+        # (the input of an exercise that somebody adds may be longer than a pipe takes at once)
+        beside(give)
         said, status = tried([program("trac-walk"), "--lint", "--input", after.name, OWN_INPUT], tape, judging.PRINTED,
                              pass_fds=[after.number])
     lines = said.decode("utf-8", "backslashreplace").splitlines()
