@@ -107,6 +107,8 @@ export function programs(streams) {
   return new Programs(engine, TEXTS, streams);
 }
 
-if (process.argv[1] && fs.realpathSync(process.argv[1]) === fileURLToPath(import.meta.url)) {
+// Whether this file was called, and not imported. (Node may be told to leave links as they are.)
+const [, called] = process.argv;
+if (called && fs.realpathSync(called) === fs.realpathSync(fileURLToPath(import.meta.url))) {
   process.exit(await programs(new Streams()).obey(process.argv.slice(2)));
 }

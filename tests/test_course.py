@@ -4,16 +4,18 @@ of it has, which `trac course` and the page show."""
 import os
 import re
 import shlex
+import shutil
 import sys
 from collections.abc import Iterable, Iterator, Sequence
 from typing import Any
 
-from support.cases import TOP, WALK, Case, Place, Word, each, ran, scratch, tests
+from support.cases import EXAMPLES, TOP, TRAC, WALK, Case, Place, Word, each, ran, scratch, tests
 
 sys.path.insert(0, str(TOP / "python"))
 from trac_tools import markdown  # noqa: E402
 
 COURSE, LAUNCHER = TOP / "programs" / "course", TOP / "trac"
+FIRST = EXAMPLES / "first.trac"
 # How many words a lesson may have, with its programs, and an exercise or a hint.
 LESSON_WORDS, EXERCISE_WORDS = 400, 60
 # The programs that trac lint doubts, on purpose, and the solutions that it doubts for some input: a line of one word,
@@ -240,6 +242,32 @@ class Course(Case):
         gone = 'mkdir gone && cd gone && rmdir ../gone && exec "$0" course 1'
         said, status = called(["bash", "-c", gone, str(LAUNCHER)], folder=scratch(self))
         self.holds("to its end: {!r}".format(said[-80:]), status == 0 and said[-40:] == courses("1")[0][-40:])
+
+    def test_lesson_of_somebody(self) -> None:
+        """A lesson may have no exercises, bytes that are no text, and long input; without a lesson there is no course."""
+        top = scratch(self)
+        trac, course = top / "bin" / "trac", top / "share" / "trac" / "course"
+        for place in trac.parent, top / "lib" / "trac", course:
+            place.mkdir(parents=True)
+        shutil.copy(LAUNCHER, trac)
+        for program in TRAC, WALK:
+            os.symlink(program, top / "lib" / "trac" / program.name)
+        os.symlink(TOP / "python" / "trac_tools", course.parent / "trac_tools")
+        said, status = called([trac, "course"])
+        self.holds("no lesson: {!r}, {}".format(said, status), status == 70 and said.count("\n") == 1)
+        (course / "01").mkdir()
+        (course / "01" / "lesson.md").write_bytes(b"# 1. Stra\xdfe\n")
+        self.same("no exercise", "{} {}".format(*called([trac, "course", "1"])), "\n1. Stra\\xdfe\n\n 0")
+        (course / "01" / "1").mkdir()
+        (course / "01" / "1" / "exercise.md").write_bytes(b"# 1.1 Ma\xdfe\n")
+        (course / "01" / "1" / "solution.trac").write_bytes(b"\xdf\r\n'")
+        said, status = called([trac, "course"])
+        self.holds("an exercise: {!r}, {}".format(said, status), status == 0 and "\n    1.1 Ma\\xdfe\n" in said)
+        self.ends("a solution, as it is", ran([trac, "course", "solution", "1.1"]), b"\xdf\r\n'")
+        (course / "01" / "1" / "1.in").write_bytes(b"x" * 200000 + b"'\n")
+        (course / "01" / "1" / "1.out").write_bytes(b"x\n")
+        said, status = called([trac, "course", "check", "1.1", FIRST])
+        self.holds("a check: {!r}, {}".format(said[:200], status), status == 1 and "prints more than" in said)
 
     def test_who_reads_no_more(self) -> None:
         said, status = called(["bash", "-o", "pipefail", "-c", shlex.quote(str(LAUNCHER)) + " course 1 | head -c 1"])

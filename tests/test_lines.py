@@ -15,7 +15,8 @@ from trac_tools import walk  # noqa: E402
 
 TRAC, FIRST = TOP / "trac", EXAMPLES / "first.trac"
 FACTORIAL = EXAMPLES / "wrong-factorial.trac"
-UP = "\x1b[A"
+ENDLESS = EXAMPLES / "endless.trac"
+UP, NEXT_LINE = "\x1b[A", "\x16\n"
 FORMS = ["again", "all"]
 # A beginning of a line of the walk, and the words that may stand there.
 COMPLETED: dict[str, tuple[str, list[str]]] = {
@@ -61,6 +62,22 @@ class Lines(Case):
         seen, _ = at_terminal([TRAC, "play", program], [UP + "\n"], **self.state)
         self.holds("it is brought back: {!r}".format(seen), "<one>" in seen)
         self.holds("and walks have none of it", not (self.room / "trac" / "walk").exists())
+
+    def test_short_history(self) -> None:
+        """Lines are kept also where the line editor is to have few."""
+        setting = self.room / "inputrc"
+        setting.write_text("set history-size 2\n", encoding="utf-8")
+        for line in "s 3\n", "s 4\n":
+            at_terminal([TRAC, "walk", FIRST], [line, "q\n"], **self.state, INPUTRC=os.fspath(setting))
+        self.same("both are kept", self.kept("walk"), "s 3\nq\ns 4\nq\n")
+
+    def test_lines_at_once(self) -> None:
+        """Of lines that come at once, as if they are pasted, each is replied to before the next prompt."""
+        typed = ["s 10" + NEXT_LINE + "s 3000000\n", "q\n"]
+        seen, status = at_terminal([TRAC, "walk", ENDLESS], typed, **self.state)
+        self.holds("it ends: {}".format(status), status == 0)
+        self.holds("both are replied to: {!r}".format(seen),
+                   re.search(r"^10  .*^3000010  .*^3000010> q$", seen, re.M | re.S))
 
     def test_home(self) -> None:
         """Without a folder for it that is absolute, it is ~/.local/state."""

@@ -262,6 +262,13 @@ class Streams(InNode):
         self.ends("no input", ran([NODE, FILE, "run"]))
         self.ends("a folder", subprocess_run(["run"], stdin=os.open(TOP, os.O_RDONLY)), b"", 6, b"trac: read fault\n")
 
+    def test_links(self) -> None:
+        """A link to it does the same, also if Node leaves links as they are."""
+        link = scratch(self) / "link.mjs"
+        link.symlink_to(FILE)
+        for options in [], ["--preserve-symlinks-main"]:
+            self.ends("by a link", ran([NODE, *options, link, "run"], b"#(ad,2,3)'"), b"5")
+
     def test_long_streams(self) -> None:
         """16 MiB through pipes, each way."""
         for what, given in ("texts of a MiB", (b"x" * 1048575 + b"'") * 16), ("plain text", b"y" * 16000000):

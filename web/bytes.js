@@ -144,9 +144,9 @@ export function plainOf(text, most) {
 // Line and column of a byte, both counted from 1, as trac-walk counts them.
 /** @param {Uint8Array} bytes @param {number} number */
 export function lineAndColumn(bytes, number) {
-  const front = bytes.subarray(0, number);
-  const line = front.reduce((count, byte) => count + (byte === 10 ? 1 : 0), 1);
-  return `line ${grouped(line)}, column ${grouped(number - front.lastIndexOf(10))}`;
+  let line = 1, end = -1;
+  for (let at = 0; at < number; at++) if (bytes[at] === 10) [line, end] = [line + 1, at];
+  return `line ${grouped(line)}, column ${grouped(number - end)}`;
 }
 
 // Bytes, one after the other.

@@ -28,9 +28,11 @@ const ENDS_NOTHING = ") ends no call";
 function doubtsSaid(bytes, tape) {
   /** @type {(Doubt & { notes: string[] })[]} */
   const doubts = [];
+  const rows = new TextDecoder("latin1").decode(bytes).split("\n");
+  const starts = startsOf(tape, rows.map((row) => Number(/^:(\d+):/.exec(row)?.[1] ?? 1)));
   /** @param {string} line @param {string} column */
-  const place = (line, column) => byteAt(tape, Number(line), Number(column));
-  for (const row of new TextDecoder("latin1").decode(bytes).split("\n")) {
+  const place = (line, column) => (starts.get(Number(line)) ?? 0) + Number(column) - 1;
+  for (const row of rows) {
     const found = /^:(\d+):(\d+): (.+) \(step (\d+)\)$/.exec(row);
     if (found) doubts.push({ step: Number(found[4]), byte: place(found[1], found[2]), words: found[3], notes: [] });
     // (a note goes on with the doubt before it)
@@ -67,12 +69,17 @@ export async function doubtsOf(engine, run) {
   return doubtsSaid(bytes, run.tape).filter(({ step }) => step !== null && step < run.end);
 }
 
-// The byte at a line and a column, both counted from 1.
-/** @param {Uint8Array} program @param {number} line @param {number} column */
-function byteAt(program, line, column) {
-  let start = 0;
-  for (let left = line - 1; left > 0; left--) start = program.indexOf(10, start) + 1;
-  return start + column - 1;
+// Where lines begin that are counted from 1. (All are found on one way: there may be millions.)
+/** @param {Uint8Array} bytes @param {number[]} lines */
+function startsOf(bytes, lines) {
+  /** @type {Map<number, number>} */
+  const starts = new Map();
+  let line = 1, start = 0;
+  for (const wanted of [...lines].sort((one, other) => one - other)) {
+    for (; line < wanted && start < bytes.length; start++) if (bytes[start] === 10) line++;
+    starts.set(wanted, start);
+  }
+  return starts;
 }
 
 // Says of the last step and of the next one what was hardly meant.

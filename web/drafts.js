@@ -34,8 +34,14 @@ export class Draft {
     this.editor = editor;
     // whether what stands in the editor is kept or saved
     this.isKept = true;
+    /** @type {string | null} what this page has kept, if it is not saved too */
+    this.own = null;
     /** @type {ReturnType<typeof setTimeout> | 0} */
     this.later = 0;
+    // (the browser keeps one program: of two pages that of the other is kept now)
+    addEventListener("storage", ({ key, newValue }) => {
+      if ((key === DRAFT || key === null) && this.own !== null && newValue !== this.own) this.isKept = false;
+    });
     addEventListener("pagehide", () => this.later && this.keep());
     // what was typed and is neither saved nor kept is not to be lost
     addEventListener("beforeunload", (event) => {
@@ -57,7 +63,15 @@ export class Draft {
     const { editor } = this;
     const bytes = editor.bytes();
     const text = bytes.length > MOST_DRAFT ? null : textOf(bytes);
-    this.isKept = text !== null && keepText(DRAFT, JSON.stringify({ name: editor.name, text }));
+    const draft = text === null ? null : JSON.stringify({ name: editor.name, text });
+    this.isKept = draft !== null && keepText(DRAFT, draft);
+    this.own = this.isKept ? draft : null;
+  }
+
+  // The program is in a file.
+  saved() {
+    this.isKept = true;
+    this.own = null;
   }
 
   // Brings back what was kept, if there is something.

@@ -37,7 +37,7 @@ function saveProgram(page) {
   link.download = page.editor.name;
   link.click();
   setTimeout(() => URL.revokeObjectURL(link.href), 1000);
-  page.draft.isKept = true;
+  page.draft.saved();
 }
 
 /** @param {Page} page */

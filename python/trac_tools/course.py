@@ -20,8 +20,8 @@ import time
 
 from trac_tools import judging, markdown
 from trac_tools.dialogue import bound, passed_on
-from trac_tools.tool import (Fault, Place, Process, ShowVersion, Words, begin, found, legible, printable, program,
-                             read_file, ready, shown, write)
+from trac_tools.tool import (Fault, Place, Process, ShowVersion, Words, begin, beside, found, legible, printable,
+                             program, read_file, ready, shown, write)
 
 TYPE_CHECKING = False
 if TYPE_CHECKING:
@@ -60,20 +60,21 @@ class Course:
     def __init__(self) -> None:
         self.folder = os.path.normpath(found("the course", "programs/course", "share/trac/course"))
         self.lessons = sorted(int(name) for name in os.listdir(self.folder) if re.fullmatch("[0-9]{2}", name))
+        if not self.lessons:
+            raise Fault("the course has no lessons: looked in {}".format(shown(self.folder)), 70)
 
     def file(self, *parts: str) -> str:
         """The path of a file."""
         return os.path.join(self.folder, *parts)
 
     def text(self, *parts: str) -> str:
-        """The text of a file."""
-        with open(self.file(*parts), encoding="utf-8") as file:
+        """The text of a file. (Who adds a lesson may write bytes that are no text.)"""
+        with open(self.file(*parts), encoding="utf-8", errors="backslashreplace") as file:
             return file.read()
 
     def title(self, *parts: str) -> str:
         """The title of a lesson or an exercise."""
-        with open(self.file(*parts), encoding="utf-8") as file:
-            return file.readline().lstrip("# ").rstrip()
+        return self.text(*parts).split("\n", 1)[0].lstrip("# ").rstrip()
 
     def lesson(self, word: str) -> str:
         """The folder of a lesson."""
@@ -223,7 +224,8 @@ def show_lesson(course: Course, lesson: str) -> None:
     exercises = course.exercises(lesson)
     for exercise in exercises:
         say("exercise " + course.title(exercise, "exercise.md"))
-    say("{} {} shows the first of them".format(own_name(), number_of(exercises[0])))
+    if exercises:
+        say("{} {} shows the first of them".format(own_name(), number_of(exercises[0])))
 
 
 def show_exercise(course: Course, exercise: str) -> None:
@@ -299,8 +301,8 @@ def run_program(tape: bytes) -> tuple[bytes, str | None]:
 def first_doubt(name: str, tape: bytes, given: bytes) -> str | None:
     """What trac lint says first of a program with this input, if it has a doubt."""
     with passed_on(given) as (after, give):
-        # (the input is so short that it is given before any of it is read)
-        give()
+        # (the input of an exercise that somebody adds may be longer than a pipe takes at once)
+        beside(give)
         said, status = tried([program("trac-walk"), "--lint", "--input", after.name, OWN_INPUT], tape, judging.PRINTED,
                              pass_fds=[after.number])
     lines = said.decode("utf-8", "backslashreplace").splitlines()
@@ -373,7 +375,7 @@ def main(given: list[str]) -> int:
     elif len(words) == 2 and words[0] == "hint":
         Page(course).show(course.text(course.exercise(words[1]), "hint.md"))
     elif len(words) == 2 and words[0] == "solution":
-        write(course.text(course.exercise(words[1]), "solution.trac"))
+        write(read_file(course.file(course.exercise(words[1]), "solution.trac")))
     elif len(words) == 3 and words[0] == "check":
         return check(course, course.exercise(words[1]), words[2])
     else:

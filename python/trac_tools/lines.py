@@ -44,8 +44,9 @@ class History:
             readline.set_completer(self.completion)
             readline.set_completer_delims(" ")
             readline.parse_and_bind("tab: complete")
-            # (in the locale C a byte of a letter would be taken for a command)
-            for setting in ("input-meta on", "output-meta on", "convert-meta off"):
+            # (in the locale C a byte of a letter would be taken for a command; a history that is full would count no
+            # line as typed)
+            for setting in ("input-meta on", "output-meta on", "convert-meta off", "history-size -1"):
                 readline.parse_and_bind("set " + setting)
             # (in a search by Ctrl-R, GNU Readline 8.2 breaks off by Ctrl-X and a key that means nothing after it)
             readline.parse_and_bind(r'"\C-x": redraw-current-line')

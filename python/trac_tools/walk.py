@@ -4,7 +4,6 @@ The proved program trac-walk does all else. It is begun with --prompt: its promp
 """
 from __future__ import annotations
 
-import itertools
 import os
 import re
 from subprocess import PIPE
@@ -14,6 +13,8 @@ from trac_tools.tool import begin, program, ready, tell, write
 
 # A prompt of the program, and what may become one: of a number of 64 bits. (A long line of digits is none.)
 PROMPT, MAY_BE = re.compile(rb"([0-9]{1,20})> "), re.compile(rb"[0-9]{0,20}>? ?")
+# A line, with its end, if it has one.
+LINE = re.compile(rb"[^\n]*\n|[^\n]+")
 # What a line of the walk may begin with, and the primitives.
 COMMANDS = "s b n N o O u r d D m w y l g i e p f t h q where bt help quit exit".split()
 PRIMITIVES = (
@@ -116,13 +117,13 @@ def main(words: list[str]) -> int:
     forms = forms_of(file_of(words))
     with lines.History("walk", lambda front: completed(front, forms)):
         session = Session(words)
-        for number in itertools.count():
-            prompt = session.prompt()
-            if prompt is None:
-                break
-            if number == 0:
-                tell("h lists the commands, q ends")
-            line = lines.ask(prompt)
-            if not line or not session.give(line):
-                break
+        prompt = session.prompt()
+        if prompt is not None:
+            tell("h lists the commands, q ends")
+        while prompt is not None and (text := lines.ask(prompt)):
+            # (lines that are pasted come at once. If all were given, a reply might come after the next prompt, or wait
+            # until they are taken, while they wait until it is read.)
+            for line in LINE.findall(text):
+                if prompt is not None:
+                    prompt = session.prompt() if session.give(line) else None
         return session.end()

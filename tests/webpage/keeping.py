@@ -9,6 +9,17 @@ VALUE = "document.getElementById('source').value"
 NAME = "document.getElementById('program-name').textContent"
 PAPER = "getComputedStyle(document.body).backgroundColor"
 
+# Whether it is asked before the page is left; and what another page of the same browser does.
+ASKS = """(() => {
+  const event = new Event('beforeunload', { cancelable: true });
+  dispatchEvent(event);
+  return event.defaultPrevented;
+})()"""
+OTHER = """(() => {
+  localStorage.setItem('trac.draft', 'other');
+  dispatchEvent(new StorageEvent('storage', { key: 'trac.draft', newValue: 'other' }));
+})()"""
+
 
 def again(page: Deeds, file: str) -> None:
     """Loads the page again, as a person does."""
@@ -46,6 +57,20 @@ def check_draft(page: Deeds, file: str) -> None:
     check(page.script(PAPER) == before, "the looks before: {}".format(page.script(PAPER)))
 
 
+def check_other_page(page: Deeds) -> None:
+    """Where another page has kept its own program, what was typed here is not left without a question."""
+    for text, is_saved in ("mine", False), ("saved", True):
+        page.type("#(ps,{})'".format(text))
+        page.until("(localStorage.getItem('trac.draft') ?? '').includes('{}')".format(text), "it is kept")
+        if is_saved:
+            page.script("document.getElementById('save').click()")
+        check(not page.script(ASKS), "what is kept is left")
+        page.script(OTHER)
+        check(page.script(ASKS) != is_saved, "and {} where another page keeps its own".format(text))
+    page.type("#(ps,last)'")
+    page.until("(localStorage.getItem('trac.draft') ?? '').includes('last')", "it is kept")
+
+
 def check_undo(page: Deeds) -> None:
     """Another program is opened without a question, and Ctrl+Z brings back what was there; so does a button; and forth
     again."""
@@ -76,4 +101,4 @@ def check_question(page: Deeds) -> None:
     page.script("document.getElementById('question').close()")
 
 
-TRIED = rows(check_draft, given=file_of) + rows(check_undo, check_question)
+TRIED = rows(check_draft, given=file_of) + rows(check_undo, check_other_page, check_question)
