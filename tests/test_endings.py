@@ -11,6 +11,7 @@ import subprocess
 from collections.abc import Sequence
 
 from support.cases import DATA, EXAMPLES, TOP, TRAC, Case, Place, Ran, Word, bytes_in, each, near, ran, scratch, tests
+from support.terminals import ending_of
 
 LAUNCHER = TOP / "trac"
 TEXTS = DATA / "texts"
@@ -90,12 +91,7 @@ def typed(command: str, room: pathlib.Path) -> Ran:
         os.chdir(room)
         os.execvp(words[0], words)
     os.write(terminal, b"#(ad,2,3)'\n\x04")
-    try:
-        while os.read(terminal, 4096):
-            pass
-    except OSError:
-        pass
-    status = os.waitstatus_to_exitcode(os.waitpid(process, 0)[1])
+    status = ending_of(process, terminal)
     return Ran((room / "out").read_bytes(), (room / "error").read_bytes(), status, command)
 
 

@@ -3,10 +3,11 @@
 The contract of a run leaves open at which of its steps it writes. Each write is seen by a pipe that keeps them apart
 (`O_DIRECT`)."""
 import os
+import select
 import subprocess
 import tempfile
 
-from support.cases import TRAC, Case
+from support.cases import TRAC, Case, patience
 
 TEXT = b"#(ps,a)#(ps,b)'"
 
@@ -19,8 +20,11 @@ def writes(words: list[str]) -> bytes:
         given.seek(0)
         run = subprocess.Popen([TRAC, "run", *words], stdin=given, stdout=theirs)
     os.close(theirs)
-    with os.fdopen(ours, "rb", 0) as pipe:
-        found = b"".join(part + b"\n" for part in iter(lambda: pipe.read(65536), b""))
+    found = b""
+    while select.select([ours], [], [], patience())[0] and (part := os.read(ours, 65536)):
+        found += part + b"\n"
+    os.close(ours)
+    run.kill()
     run.wait()
     return found
 

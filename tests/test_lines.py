@@ -8,7 +8,7 @@ import stat
 import sys
 
 from support.cases import DATA, EXAMPLES, TOP, Case, Word, each, ran, scratch, tests
-from support.terminals import at_terminal
+from support.terminals import at_terminal, ending_of
 
 sys.path.insert(0, str(TOP / "python"))
 from trac_tools import walk  # noqa: E402
@@ -120,8 +120,7 @@ class Lines(Case):
         if pid == 0:
             os.execv(words[0], [os.fspath(word) for word in words])
         os.write(terminal, b"s 3\nq\n")
-        status = os.waitpid(pid, 0)[1]
-        os.close(terminal)
+        status = ending_of(pid, terminal)
         text = (self.room / "out").read_text(encoding="utf-8")
         self.holds("it replies: {!r}".format(text), status == 0 and text.startswith("0> 3  ") and text.endswith("3> "))
 

@@ -6,6 +6,7 @@ from __future__ import annotations
 import os
 import pty
 import re
+import select
 import shutil
 import subprocess
 import time
@@ -222,7 +223,8 @@ class Playing(Case):
         for answer in b"Ann'\n", b"Lee'\n":
             seen = b""
             while not seen.endswith(b"> "):
-                part = os.read(play.stderr.fileno(), 99)
+                is_told = select.select([play.stderr], [], [], patience())[0]
+                part = os.read(play.stderr.fileno(), 99) if is_told else b""
                 if not part:
                     break
                 seen += part

@@ -8,7 +8,7 @@ import re
 import signal
 import subprocess
 
-from support.cases import TESTS, Case, each, tests
+from support.cases import TESTS, Case, each, patience, tests
 
 # Each script, and about how many seconds it takes: the longest begin first.
 SCRIPTS = {"building": 40, "checking": 40, "releasing": 30, "installing": 20, "web/run": 60}
@@ -18,7 +18,8 @@ SHOWN = 40
 
 
 def said_by(script: str) -> tuple[list[str], int]:
-    """The lines that a script says, and its status. What it has begun ends with this process."""
+    """The lines that a script says, and its status. It says most at its end, so only what hangs takes ten times as
+    long as it should. What it has begun ends with this process."""
     done = subprocess.Popen([TESTS / script], stdin=subprocess.DEVNULL, stdout=subprocess.PIPE,
                             stderr=subprocess.STDOUT, start_new_session=True)
 
@@ -28,7 +29,7 @@ def said_by(script: str) -> tuple[list[str], int]:
 
     before = signal.signal(signal.SIGTERM, end)
     try:
-        output, _ = done.communicate()
+        output, _ = done.communicate(timeout=patience(10 * SCRIPTS[script]))
     except BaseException:
         os.killpg(done.pid, signal.SIGTERM)
         raise

@@ -22,6 +22,7 @@ from collections.abc import Sequence
 from typing import Any
 
 from support.cases import TOP, Case, Process, Word, each, patience, scratch, tests
+from support.terminals import ending_of
 
 HELLO = b"#(ps,(Hello, world.\n))'"
 # The documented statuses; a signal that ended it is no status.
@@ -100,9 +101,12 @@ def in_parts(words: Sequence[str], file: Word, pause: float, given: str | pathli
     parts: list[bytes] = []
     while not parts or parts[-1]:
         time.sleep(pause)
+        if not select.select([ours], [], [], patience())[0]:
+            tool.kill()
         parts.append(os.read(ours, 4096))
     os.close(ours)
-    return b"".join(parts), tool.stderr.read(), tool.wait()
+    _, errors = tool.communicate(timeout=patience())
+    return b"".join(parts), errors, tool.returncode
 
 
 # A tool with much to write, by its standard input and FILE: a form that is printed or shown many times, many doubts.
@@ -244,7 +248,7 @@ def keys_seen(keys: bytes, room: pathlib.Path) -> tuple[bytes, int]:
         if not data:
             break
         seen += data
-    return seen, os.waitstatus_to_exitcode(os.waitpid(pid, 0)[1])
+    return seen, ending_of(pid, terminal)
 
 
 # Keys that a line editor of a shell would obey.
@@ -285,7 +289,7 @@ class Streams(Case):
     def printed(self, words: Sequence[str]) -> bytes:
         """What a tool prints."""
         return subprocess.run(command(words, self.file), stdin=subprocess.DEVNULL, stdout=subprocess.PIPE,
-                              check=False).stdout
+                              check=False, timeout=patience()).stdout
 
     def ended(self, words: Sequence[Word], **more: Any) -> subprocess.CompletedProcess[bytes]:
         """How a command ended that has no input, and what it said."""
@@ -329,7 +333,8 @@ class Streams(Case):
         file.write_bytes(program)
         source.write_bytes(given)
         with open(source, "rb") as it:
-            whole = subprocess.run(command(words, file), stdin=it, stdout=subprocess.PIPE, check=False)
+            whole = subprocess.run(command(words, file), stdin=it, stdout=subprocess.PIPE, check=False,
+                                   timeout=patience())
         is_lint = name == "lint"
         self.holds("{} bytes, status {}".format(len(whole.stdout), whole.returncode),
                    len(whole.stdout) > 50000 and whole.returncode == is_lint)

@@ -1,10 +1,12 @@
 """What is seen of a command at a pseudo-terminal, where it is typed to."""
 from __future__ import annotations
 
+import contextlib
 import os
 import pty
 import re
 import select
+import signal
 from collections.abc import Iterable, Sequence
 
 from support.cases import Word, patience
@@ -27,7 +29,7 @@ def at_terminal(words: Sequence[Word], typed: Iterable[str | bytes], **environme
             os.write(terminal, text if isinstance(text, bytes) else text.encode())
             since = len(seen)
         if not select.select([terminal], [], [], patience())[0]:
-            os.kill(pid, 9)
+            os.kill(pid, signal.SIGKILL)
             break
         try:
             data = os.read(terminal, 65536)
@@ -36,5 +38,15 @@ def at_terminal(words: Sequence[Word], typed: Iterable[str | bytes], **environme
         if not data:
             break
         seen += PASTING.sub(b"", data)
+    return seen.decode("utf-8", "replace").replace("\r\n", "\n"), ending_of(pid, terminal)
+
+
+def ending_of(pid: int, terminal: int) -> int:
+    """How a process at a pseudo-terminal ends, where what is still seen of it does not matter; that of a signal where
+    nothing comes, and it does not end."""
+    with contextlib.suppress(OSError):
+        while select.select([terminal], [], [], patience())[0] and os.read(terminal, 65536):
+            pass
+        os.kill(pid, signal.SIGKILL)
     os.close(terminal)
-    return seen.decode("utf-8", "replace").replace("\r\n", "\n"), os.waitstatus_to_exitcode(os.waitpid(pid, 0)[1])
+    return os.waitstatus_to_exitcode(os.waitpid(pid, 0)[1])

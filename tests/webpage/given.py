@@ -8,6 +8,7 @@ import subprocess
 import tempfile
 from collections.abc import Iterator
 
+from support.cases import patience
 from webpage.pages import FACTORIAL, IS_FOLLOWED, IS_GATHERED, TOP, Deeds, check, ready
 from webpage.rows import rows
 from webpage.share import body, held, link, shared
@@ -41,7 +42,7 @@ class Maker:
         self.count += 1
         place = os.path.join(self.room, "{}.html".format(self.count))
         with open(place, "wb") as out:
-            made = subprocess.run([self.script, "page", *words], stdout=out)
+            made = subprocess.run([self.script, "page", *words], stdout=out, timeout=patience())
         check(made.returncode == 0, "trac page {}: status {}".format(words, made.returncode))
         return place
 

@@ -9,6 +9,7 @@ import shutil
 import subprocess
 import tempfile
 
+from support.cases import patience
 from webpage.pages import FACTORIAL, KEPT, TOP, Deeds, check, opened
 from webpage.rows import ONE, opening, rows
 from webpage.staying import LIT
@@ -56,7 +57,8 @@ def check_states(page: Deeds) -> None:
     """The text that is shown at some steps is that of `trac debug`."""
     commands = "".join("s {}\np\nb 999\n".format(step) for step in range(277))
     command = [os.path.join(TOP, "trac"), "debug", FACTORIAL]
-    said = subprocess.run(command, input=commands, stdout=subprocess.PIPE, universal_newlines=True).stdout
+    said = subprocess.run(command, input=commands, stdout=subprocess.PIPE, universal_newlines=True,
+                          timeout=patience()).stdout
     states = [line[len("active ["):-1] for line in said.split("\n") if line.startswith("active [")]
     page.type(open(FACTORIAL).read())
     page.run()
