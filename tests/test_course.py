@@ -244,7 +244,7 @@ class Course(Case):
         self.holds("to its end: {!r}".format(said[-80:]), status == 0 and said[-40:] == courses("1")[0][-40:])
 
     def test_lesson_of_somebody(self) -> None:
-        """A lesson may have no exercises, bytes that are no text, and long input; without a lesson there is no course."""
+        """A lesson may have no exercises, bytes that are no text, and long input; no lesson makes no course."""
         top = scratch(self)
         trac, course = top / "bin" / "trac", top / "share" / "trac" / "course"
         for place in trac.parent, top / "lib" / "trac", course:
