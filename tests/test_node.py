@@ -266,8 +266,9 @@ class Streams(InNode):
         """A link to it does the same, also if Node leaves links as they are."""
         link = scratch(self) / "link.mjs"
         link.symlink_to(FILE)
-        for options in [], ["--preserve-symlinks-main"]:
-            self.ends("by a link", ran([NODE, *options, link, "run"], b"#(ad,2,3)'"), b"5")
+        commands: tuple[list[Word], ...] = [NODE, link, "run"], [NODE, "--preserve-symlinks-main", link, "run"]
+        for command in commands:
+            self.ends("by a link", ran(command, b"#(ad,2,3)'"), b"5")
 
     def test_long_streams(self) -> None:
         """16 MiB through pipes, each way."""
