@@ -41,9 +41,9 @@ pub struct RunReport {
 
 /// Runs what the reader gives, and writes what it prints. It ends if the budget is spent, if the input has ended, or
 /// for a limit, memory, the reader or the writer. Output is written and flushed before each read, and before the end.
-/// After a read fault it does not flush again. However it ends, unless the writer fails, it writes just what the steps
-/// print that it takes. No byte is read but while the next step waits for input. Each read asks for at most 4,096
-/// bytes. All of them together give no more than 33,554,432 for each of these steps, as many once more, and one read.
+/// However it ends, unless the writer fails, it writes just what the steps print that it takes. No byte is read but
+/// while the next step waits for input. Each read asks for at most 4,096 bytes. All of them together give no more than
+/// 33,554,432 for each of these steps, as many once more, and one read.
 pub fn run<R: Read, W: Write, A: Allocator + Copy>(
     alloc: A,
     input: &mut R,

@@ -16,7 +16,8 @@ use trac_step::{Core, Mark};
 
 /// How many of the oldest steps of a journal are from before the last sweep of aged names: these alone may need names
 /// that are aged now. It changes only together with the journal, by the calls here. So no code counts more steps as
-/// old, for which names would stay known that no step needs.
+/// old, for which names would stay known that no step needs. That a session cuts its journal by these calls alone, a
+/// test says that counts bytes, and no contract.
 #[derive(Drop)]
 pub(crate) struct SweepMark {
     steps: usize,
