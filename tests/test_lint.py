@@ -21,6 +21,12 @@ LINT: list[Word] = [WALK, "--lint"]
 COUNT, SEED, STEPS = 500, 60, 3000
 STEP = re.compile(rb" \(step [0-9]+\)$", re.M)
 UNKNOWN = b": no primitive is named "
+# What may stand before a doubtful call: signs of more bytes than one, bytes of none, line ends of each kind.
+FRONTS = {
+    "two-bytes": "\u00e9 \u00e8\n\u00fc".encode(), "more-bytes": "\u20ac\n\U0001f600\u0301".encode(),
+    "no-text": b"\xff\xc3\n\x80", "nul": b"a\0\0b\n\0", "cr-lf": b"a\r\n\r\nb\r\n", "cr": b"a\rb\r\r",
+    "tabs": b"\ta\n\t \t", "nothing": b"", "unseen": "\u00ad\u202e\n\ufeff\u2028".encode(),
+}
 # A program with a doubt.
 PR = b"#(pr)'"
 
@@ -177,6 +183,34 @@ class Hostile(Linter):
         run = self.lint(program, "--steps", "4000000")
         self.same("of what a loop comes after, and of the loop", STEP.sub(b"", run.output),
                   b"it:1:11" + UNKNOWN + b"opa\nit:3:15: argument 1 of su has no number, and counts as 0: y\n")
+
+
+@tests
+class Places(Linter):
+    """Where a doubtful call stands: its line, and its column by bytes, whatever stands before it."""
+
+    seconds = 2
+
+    def places(self, program: bytes) -> None:
+        """The search and a walk name the place of each call of `pr` in a program, in the order of the text."""
+        starts = [at.start() for at in re.finditer(b"pr[,)]", program)]
+        places = [(1 + program.count(b"\n", 0, at), at - program.rfind(b"\n", 0, at)) for at in starts]
+        self.says("lint", self.lint(program), b"".join(b"it:%d:%d" % place + UNKNOWN + b"pr\n" for place in places))
+        walk = ran([WALK, "it"], b"d\n" * len(places), folder=self.room)
+        found = re.findall(rb"^no primitive is named pr: line (\d+), column (\d+)$", walk.output, re.M)
+        self.same("walk: the places", repr([tuple(map(int, it)) for it in found]), repr(places))
+
+    @each(FRONTS)
+    def test_place_after(self, name: str) -> None:
+        front = FRONTS[name]
+        self.places(front + b"#(pr)'")
+        self.places(front + b"'" + front + b"'\n" + front + b"#(ps,x" + front + b"#(pr,a))'" + front + b"#(pr)'\r\n")
+        # a call that a form has, and one that a call makes of it
+        self.places(front + b"#(ds,A,(" + front + b"#(pr,X)))'" + front + b"#(ss,A,X)'#(cl,A," + front + b")'")
+
+    def test_place_after_a_long_program(self) -> None:
+        """After 300,000 bytes of lines of all kinds."""
+        self.places((b"".join(FRONTS.values()) + b"'\r\n") * 5000 + b"\0#(pr)'")
 
 
 class Loops(Linter):

@@ -23,6 +23,7 @@ from typing import Any
 
 from support.cases import TOP, Case, Process, Word, each, patience, scratch, tests
 from support.terminals import ending_of
+from support.unseen import SIGNS
 
 HELLO = b"#(ps,(Hello, world.\n))'"
 # The documented statuses; a signal that ended it is no status.
@@ -43,9 +44,9 @@ FILES = {"lint": b"#(ps,Hello, world)'"}
 # Which read standard input.
 READ = [words for words in TOOLS.values() if words[1] in INPUTS or words[1:] == ["play", "FILE"]]
 # Bytes that a terminal obeys, turns around or does not show: escape sequences, bells, controls of one byte and all in
-# UTF-8, all marks of direction, of width and of line ends.
+# UTF-8, and signs that nobody sees.
 C1 = "".join(map(chr, range(0x80, 0xa0)))
-MARKS = "".join(map(chr, (*range(0x200b, 0x2010), *range(0x2028, 0x202f), *range(0x2066, 0x206a))))
+MARKS = "".join(SIGNS)
 HOSTILE = (b"\x1b[31m", b"\x1b]52;c;aGk=\x07", b"\x07", b"\x08\x08", b"\r", b"\n", C1.encode(), b"\x9b", b"\xff\xfe",
            b"\x7f", MARKS.encode(), b"\\x41[b]", "\u00e9".encode())
 # The number by which Linux is told the size of a pipe (Python has its name from 3.10 on).

@@ -25,6 +25,8 @@ TEXTS = re.compile(r"\.(?:md|png|trac|out|in|err|64|words|txt|json|1|edit|vim|in
 # and print, and pages show; and the list of crates, of which each is a line. So is a row of a table in Markdown.
 UNMEASURED = re.compile(r"^(?:crates|release|tests/data)/|\.(?:in|out|64|lint|walk|png)$|^crates\.txt$|/names\.txt$")
 ROW = re.compile(r"\s*\|")
+# What flake8 finds that is meant: blanks before a colon in slices, lambdas that have a name. (Lines are measured here.)
+PASSED = "E203,E501,E731"
 # What shellcheck finds that is meant: files that are sourced, and set what others use; words that are to be split.
 MEANT = "SC1090,SC1091,SC2034,SC2064,SC2086,SC2128,SC2154,SC2164,SC2166,SC2178,SC2209,SC2217,SC2261"
 
@@ -92,7 +94,8 @@ class Style(Case):
 
     def test_python(self) -> None:
         tool = self.tool("flake8")
-        self.finds_nothing([tool], [file for file, first, _ in scripts() if is_python(file, first)])
+        self.finds_nothing([tool, "--isolated", "--extend-ignore", PASSED],
+                           [file for file, first, _ in scripts() if is_python(file, first)])
 
     def test_python_types(self) -> None:
         """The package, the tests and the tools by the types that they say themselves (pyproject.toml), and what of
@@ -118,6 +121,9 @@ class Style(Case):
     def test_top(self) -> None:
         there = sorted(it.name for it in TOP.iterdir() if it.is_file() and os.access(it, os.X_OK))
         self.same("the commands at the top", "\n".join(there), "build\ncheck\ninstall\ntrac")
+        hidden = sorted({name.split("/")[0] for name in listed() if name.startswith(".")})
+        self.same("hidden files at the top: of tools only one has its own", "\n".join(hidden),
+                  ".ci\n.editorconfig\n.gitignore")
         count = len((TOP / "trac").read_text(encoding="utf-8").splitlines())
         self.holds("trac has at most 60 lines, and not {}".format(count), count <= 60)
 

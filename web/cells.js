@@ -1,9 +1,7 @@
 // Texts as they are shown: no sign without its byte's number, so that each can be followed back.
 import { asByte, boundary, bytesOf, leftOut, lengthOf } from "./bytes.js";
 import { around, make } from "./elements.js";
-
-// Signs that are shown by the numbers of their bytes: they have no shape of their own, or change that of others.
-const SHAPELESS = /[\p{C}\p{Zl}\p{Zp}]/u;
+import { SHAPELESS } from "./unseen.js";
 
 /**
  * A run of signs, or a byte that is none: from which byte on, and how many bytes a unit of the script's text stands
@@ -27,7 +25,7 @@ export function* runsOf(bytes) {
   }
 }
 
-// How many bytes the sign has that begins there, or 0 where the byte is shown by its number.
+// How many bytes the sign has that begins there, or 0 where the byte is shown by its number: signs without a shape are.
 /** @param {Uint8Array} bytes @param {number} at */
 function widthAt(bytes, at) {
   const first = bytes[at];

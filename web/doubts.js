@@ -28,7 +28,7 @@ const ENDS_NOTHING = ") ends no call";
 function doubtsSaid(bytes, tape) {
   /** @type {(Doubt & { notes: string[] })[]} */
   const doubts = [];
-  const rows = new TextDecoder("latin1").decode(bytes).split("\n");
+  const rows = new TextDecoder().decode(bytes).split("\n");
   const starts = startsOf(tape, rows.map((row) => Number(/^:(\d+):/.exec(row)?.[1] ?? 1)));
   /** @param {string} line @param {string} column */
   const place = (line, column) => (starts.get(Number(line)) ?? 0) + Number(column) - 1;

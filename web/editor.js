@@ -7,6 +7,7 @@ import { LONG, Paint, pairAround } from "./paint.js";
 import { isWriting } from "./focus.js";
 import { byId, elementOf, focused } from "./elements.js";
 import { insertText, startIndenting } from "./indent.js";
+import { legible } from "./unseen.js";
 
 // A longer program is for reading only.
 const MOST_EDITED = 1 << 21;
@@ -169,14 +170,14 @@ export class Editor {
     const held = this.before[this.before.length - 1];
     const button = byId("undo");
     button.hidden = !held || this.box.value !== this.opened;
-    button.textContent = held ? `bring back ${held.name}` : "";
+    button.textContent = held ? `bring back ${legible(held.name)}` : "";
   }
 
   // The box is for writing.
   free() {
     this.fixed = null;
     this.box.readOnly = false;
-    byId("program-name").textContent = this.name;
+    byId("program-name").textContent = legible(this.name);
   }
 
   // Keeps bytes as they are, and shows signs in their place.
@@ -188,7 +189,7 @@ export class Editor {
     this.kept = null;
     const [one, last, all] = [fixed.from + 1, fixed.to, fixed.bytes.length].map(grouped);
     const said = fixed.isWhole ? fixed.why : `bytes ${one} to ${last} of ${all} are shown`;
-    byId("program-name").textContent = `${this.name} (for reading only: ${said})`;
+    byId("program-name").textContent = `${legible(this.name)} (for reading only: ${said})`;
   }
 
   // The bytes of a text of the box.

@@ -3,6 +3,7 @@ import { grouped } from "./bytes.js";
 import { unpackedText } from "./engine.js";
 import { BUDGET } from "./measure.js";
 import { byId, make } from "./elements.js";
+import { legible } from "./unseen.js";
 
 // The most bytes that a program may have. A longer file is not even read: a tab has no room for any size.
 const MOST_BYTES = 33554432;
@@ -12,13 +13,13 @@ async function openFile(page, file) {
   if (!file) return;
   if (file.size > MOST_BYTES) {
     const most = `a program may have at most ${grouped(MOST_BYTES)}`;
-    refuseFile(page, `${file.name} has ${grouped(file.size)} bytes: ${most}. Nothing is opened.`);
+    refuseFile(page, `${legible(file.name)} has ${grouped(file.size)} bytes: ${most}. Nothing is opened.`);
     return;
   }
   try {
     page.open(file.name, new Uint8Array(await file.arrayBuffer()));
   } catch {
-    refuseFile(page, `${file.name} cannot be read. Nothing is opened.`);
+    refuseFile(page, `${legible(file.name)} cannot be read. Nothing is opened.`);
   }
 }
 

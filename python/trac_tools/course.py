@@ -20,8 +20,8 @@ import time
 
 from trac_tools import judging, markdown
 from trac_tools.dialogue import bound, passed_on
-from trac_tools.tool import (Fault, Place, Process, ShowVersion, Words, begin, beside, found, legible, printable,
-                             program, read_file, ready, shown, write)
+from trac_tools.tool import (Fault, Place, Process, ShowVersion, Words, begin, beside, found, is_seen, legible,
+                             printable, program, read_file, ready, shown, write)
 
 TYPE_CHECKING = False
 if TYPE_CHECKING:
@@ -195,8 +195,7 @@ class Page:
 
 def line_of(line: str) -> str:
     """A line of a check: signs in place of what shows nothing, and no longer than a line may be."""
-    line = "".join(sign if sign.isprintable() else sign.encode("unicode_escape").decode()
-                   for sign in line[:LONGEST + 1])
+    line = "".join(sign if is_seen(sign) else sign.encode("unicode_escape").decode() for sign in line[:LONGEST + 1])
     return "    " + (line if len(line) <= LONGEST else line[:LONGEST - 2] + "..")
 
 

@@ -6,6 +6,7 @@ import argparse
 import contextlib
 import errno
 import os
+import re
 import select
 import signal
 import subprocess
@@ -34,6 +35,15 @@ SCARCE = (errno.ENOMEM, errno.EAGAIN, errno.EMFILE, errno.ENFILE)
 # How the debugger shows each byte of a text.
 SIGNS = [chr(byte) if 32 <= byte <= 126 and chr(byte) not in "\\[]" else "\\x{:02x}".format(byte)
          for byte in range(256)]
+# Signs that nobody sees, though Python would print some: they have no shape and make no room, turn the direction of
+# others, or end a line. The list also stands in crates/trac_person_lines/src/unseen.rt, web/unseen.js and
+# node/names.js: tests/test_unseen.py compares them.
+UNSEEN = re.compile(
+    "["
+    "\u00ad\u034f\u061c\u115f-\u1160\u17b4-\u17b5\u180b-\u180f\u200b-\u200f\u2028-\u202e\u2060-\u206f"
+    "\u3164\ufeff\uffa0\ufff0-\ufffb\U0001bca0-\U0001bca3\U0001d173-\U0001d17a\U000e0000-\U000e0fff"
+    "]"
+)
 # The processes that were begun, of which none goes on when the tool ends.
 begun: list[Process] = []
 
@@ -92,9 +102,15 @@ def printable(words: str) -> str:
                    for sign in words)
 
 
+def is_seen(sign: str) -> bool:
+    """Whether a sign is seen by who reads it. (Blanks but the usual one, and what Python does not know, count as not
+    seen.)"""
+    return sign.isprintable() and not UNSEEN.match(sign)
+
+
 def legible(words: str) -> str:
     """The same for what a reader is to copy, or sees in a page: letters of all scripts stand as themselves."""
-    return "".join(sign if sign.isprintable() else shown(sign.encode("utf-8", "surrogateescape")) for sign in words)
+    return "".join(sign if is_seen(sign) else shown(sign.encode("utf-8", "surrogateescape")) for sign in words)
 
 
 def ready(reads: list[int], writes: list[int], seconds: float | None = None) -> tuple[list[int], list[int]]:

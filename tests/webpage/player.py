@@ -191,6 +191,25 @@ def check_files(page: Deeds) -> None:
     shutil.rmtree(room)
 
 
+def check_unseen(page: Deeds) -> None:
+    """Signs that nobody sees stand as their bytes: in a text, and in the name of a file."""
+    with tempfile.TemporaryDirectory(prefix="trac-webpage-test-") as room:
+        path = os.path.join(room, "a\u202e\u3164.trac")
+        with open(path, "wb") as out:
+            out.write("#(ps,(a\u3164b\u00adc\u180bd\u034fe\U000e0100\u00e9))'".encode())
+        page.choose_file("#file", path)
+        name = "document.getElementById('program-name').textContent"
+        page.until(name + ".endsWith('.trac') && " + name + "[0] === 'a'", "it is opened")
+    check(page.script(name) == r"a\xe2\x80\xae\xe3\x85\xa4.trac", "its name: " + ascii(page.script(name)))
+    page.run()
+    check(page.text("output") == "ae385a4bc2adce1a08bdcd8fef3a08480\u00e9", "its bytes: " + ascii(page.text("output")))
+    page.type("#(n\u00c0\u3164)'")
+    page.run()
+    page.until("document.querySelectorAll('#doubts .doubt').length === 1", "a doubt of such a name")
+    check(r"no primitive is named n\u00c0\xe3\x85\xa4".replace(r"\u00c0", "\u00c0") in page.text("doubts"),
+          "it is shown so: " + ascii(page.text("doubts")))
+
+
 def check_dropped(page: Deeds) -> None:
     """A file that is dropped is opened; a text that is dragged is the editor's."""
     deed = ("(() => {{ const data = new DataTransfer(); data.items.add({}); "
@@ -265,4 +284,5 @@ def factorial(page: Deeds) -> None:
 
 
 TRIED = (opening(check_newcomer) + rows(check_moves, before=factorial) + rows(check_large, where=ONE, seconds=15)
-         + rows(check_states, check_input, check_doubts, check_examples, check_files, check_dropped, check_hostile))
+         + rows(check_states, check_input, check_doubts, check_examples, check_files, check_unseen, check_dropped,
+                check_hostile))

@@ -5,6 +5,7 @@ import glob
 import os
 import unicodedata
 
+from support.unseen import unseen_in
 from webpage.pages import TOP, Deeds, check
 from webpage.rows import rows
 from webpage.share import body, follow, link
@@ -23,7 +24,7 @@ def sign(data: bytes) -> str | None:
     except UnicodeDecodeError:
         return None
     kind = unicodedata.category(text[0])
-    return text if len(text) == 1 and kind[0] != "C" and kind not in ("Zl", "Zp") else None
+    return text if len(text) == 1 and kind[0] != "C" and not unseen_in(text) else None
 
 
 def shown(data: bytes) -> str:

@@ -33,8 +33,8 @@ const ENDLESS: &[u8] = b"this line has more than 4,294,967,296 bytes: it ends th
 ///
 /// It ends with `Ended` at the end of the lines, and if the replier ends it. It ends with `Read` if the reader fails,
 /// and with `Write` if the writer does. It ends with `Memory` if there is no memory for a line or for what is to be
-/// written. It ends with `Budget` at a line that goes on for more than 4,294,967,296 bytes, and after as many lines as
-/// a number of 64 bits counts.
+/// written. It ends with `Budget` at a line that goes on once 1,048,576 parts of it are passed over, of which each is
+/// longer than a line may be, and after as many lines as a number of 64 bits counts.
 #[tactic(auto, using(crate::proofs::Talked::for_converse))]
 pub fn converse<R: Read, W: Write, A: Allocator + Copy, T: Replier<A>>(
     alloc: A,

@@ -1,5 +1,6 @@
 //! Texts in UTF-8, as a screen shows them: each character in one column, and a byte that is of none by its number.
 
+use crate::unseen::is_seen;
 use std::alloc::{AllocError, Allocator};
 use trac_streams::escaped_into;
 
@@ -31,13 +32,14 @@ pub(crate) fn shown_into<A: Allocator>(
 
 // How many bytes the character has that begins a text, if it is beyond ASCII and can be seen; else 0.
 fn character_len(text: &[u8]) -> usize {
-    match text {
-        [0xc2, 0xa0..=0xbf, ..] => 2,
-        [0xc3..=0xdf, 0x80..=0xbf, ..] => 2,
-        [0xe0, 0xa0..=0xbf, 0x80..=0xbf, ..] => 3,
-        [0xe1..=0xef, second, third, ..] if is_next(*second) && is_next(*third) => long_len(text),
-        [0xf0..=0xf4, second, third, fourth, ..]
-            if is_next(*second) && is_next(*third) && is_next(*fourth) => { long_len(text) }
+    let len = match text {
+        [0xc2..=0xdf, ..] => 2,
+        [0xe0..=0xef, ..] => 3,
+        [0xf0..=0xf4, ..] => 4,
+        _ => return 0,
+    };
+    match str::from_utf8(text.split_at(len.min(text.len())).0) {
+        Ok(character) if character.chars().all(is_seen) => len,
         _ => 0,
     }
 }
@@ -45,21 +47,6 @@ fn character_len(text: &[u8]) -> usize {
 // Whether a byte goes on with a character.
 fn is_next(byte: u8) -> bool {
     matches!(byte, 0x80..=0xbf)
-}
-
-// The same of a text that begins as a character of three or four bytes does. Signs that cannot be seen, or that change
-// the order of others, and what UTF-8 leaves out are no characters.
-fn long_len(text: &[u8]) -> usize {
-    match text {
-        [0xe2, 0x80, 0x8b..=0x8f | 0xa8..=0xae, ..] => 0,
-        [0xe2, 0x81, 0xa0..=0xaf, ..] => 0,
-        [0xed, 0xa0..=0xbf, ..] => 0,
-        [0xef, 0xbb, 0xbf, ..] => 0,
-        [0xf0, 0x80..=0x8f, ..] => 0,
-        [0xf4, 0x90..=0xbf, ..] => 0,
-        [0xe1..=0xef, ..] => 3,
-        _ => 4,
-    }
 }
 
 /// Where the character begins that has the byte at this place of a text; that place if it is of none.

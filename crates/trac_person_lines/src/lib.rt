@@ -13,6 +13,7 @@ mod piece;
 mod screen;
 mod screen_line;
 mod standing_line;
+mod unseen;
 mod way;
 
 pub use calls::{Before, call_into, outcome_into};
@@ -28,6 +29,7 @@ pub use piece::{piece_around_into, piece_into};
 pub use screen::screen_into;
 pub use screen_line::ScreenLine;
 pub use standing_line::standing_into;
+pub use unseen::is_seen;
 pub use way::{
     Origin, Treatment, begun_line, left_out_into, origin_into, step_line, treatment_into,
 };

@@ -1,5 +1,6 @@
 //! The command line of `trac lint`, carried out.
 
+use crate::naming::legible;
 use crate::{MIB, not_understood};
 use std::alloc::{AllocError, Global};
 use std::process::ExitCode;
@@ -7,7 +8,7 @@ use trac_lint::{Found, Halt, Settings, Sources, lint};
 use trac_memory::{Limited, limit_in, tape_in};
 use trac_streams::Ending;
 use trac_words::lint_words::{LintLine, read_lint_line};
-use trac_words::names::{legible, named};
+use trac_words::names::named;
 
 // What is said if memory was refused.
 const NO_MEMORY: &str = "there is no memory";

@@ -3,6 +3,7 @@
 #![tactic(auto)]
 
 mod linting;
+mod naming;
 
 ghost use Rattle.std.specs.Prelude.{◌≤◌};
 
