@@ -41,6 +41,7 @@ class Webpage(Case):
     def __init__(self, method: str = "runTest") -> None:
         super().__init__(method)
         self.seconds: float = getattr(getattr(self, method), "seconds", 1)
+        self.browser: str = getattr(getattr(self, method), "browser", "")
 
     def setUp(self) -> None:
         if not os.path.exists(PAGE):
@@ -111,6 +112,7 @@ def add_rows() -> None:
                                                *name_of(row, kind)]))
                 setattr(test, "own_name", name)
                 setattr(test, "seconds", row.seconds)
+                setattr(test, "browser", kind.name)
                 if hasattr(Webpage, "test_" + name):
                     raise ValueError("two rows have the name " + name)
                 setattr(Webpage, "test_" + name, test)

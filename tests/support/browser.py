@@ -1,6 +1,6 @@
 """A page in a browser without a window: in Chromium, spoken to by its DevTools protocol over two pipes, or in Firefox.
-Both classes have the same methods: become, load, script, press, insert, click_at, touch, choose_file, faults, picture,
-end."""
+Both classes have the same methods: become, load, leave, script, press, insert, click_at, touch, choose_file, faults,
+picture, end."""
 from __future__ import annotations
 
 import base64
@@ -13,7 +13,7 @@ import tempfile
 from typing import Any
 
 from support.firefox import Firefox  # noqa: F401
-from support.waiting import SILENCE, Gone, Waiting
+from support.waiting import LEFT, SILENCE, Gone, Waiting
 
 # What keys have beside their names.
 CODES = {
@@ -67,6 +67,7 @@ class Browser(Waiting):
         os.close(by_it)
         self.reader, self.writer, self.modules = from_it, to_it, modules
         self.read, self.number, self.session, self.events, self.replies = b"", 0, None, [], {}
+        self.is_new = True
         try:
             targets = self.call("Target.getTargets")["targetInfos"]
             self.target = next(one for one in targets if one["type"] == "page")["targetId"]
@@ -80,13 +81,16 @@ class Browser(Waiting):
         return modules == self.modules
 
     def become(self, width: int = 1280, height: int = 800, dark: bool = False, forced: bool = False,
-               still: bool = False, modules: bool = True) -> None:
-        """Opens an empty page with these looks."""
+               still: bool = False, modules: bool = True, alone: bool = False) -> None:
+        """Gives the empty page these looks; to be alone, a process that had no page before."""
         looks = {"prefers-color-scheme": "dark" if dark else "light", "forced-colors": "active" if forced else "none",
                  "prefers-reduced-motion": "reduce" if still else "no-preference"}
         self.looks = [{"name": name, "value": value} for name, value in looks.items()]
         self.size = {"width": width, "height": height, "deviceScaleFactor": 1, "mobile": width < 500}
-        self.open()
+        if alone:
+            self.open()
+        else:
+            self.attach()
 
     def open(self) -> None:
         """Opens a page, in place of the one before, which is not asked."""
@@ -94,12 +98,38 @@ class Browser(Waiting):
         self.target = self.call("Target.createTarget", url="about:blank")["targetId"]
         self.call("Target.closeTarget", targetId=old)
         self.is_new = True
+        self.attach()
+
+    def attach(self) -> None:
+        """Begins to speak to the page."""
         self.session = self.call("Target.attachToTarget", targetId=self.target, flatten=True)["sessionId"]
         for part in ("Page", "Runtime", "Log", "Network", "Inspector"):
             self.call(part + ".enable")
         self.call("Emulation.setDeviceMetricsOverride", **self.size)
         self.call("Emulation.setEmulatedMedia", features=self.looks)
         self.call("Emulation.setFocusEmulationEnabled", enabled=True)
+
+    def leave(self) -> None:
+        """Leaves the page for an empty one, and ends what was said of it. (To open an empty one takes more of a
+        processor than to go to one.)"""
+        self.script(LEFT)
+        self.navigate("about:blank")
+        session, self.session = self.session, None
+        self.call("Target.detachFromTarget", sessionId=session)
+        self.is_new = True
+
+    def navigate(self, address: str) -> None:
+        """Goes to an address, and waits until it is there. (What goes on before that may never be answered.)"""
+        self.events = []
+        loader = self.call("Page.navigate", url=address)["loaderId"]
+        while not self.has_loaded(loader):
+            self.take()
+
+    def has_loaded(self, loader: str) -> bool:
+        """Whether a page has come, and after that its loading has ended."""
+        comes = [index for index, one in enumerate(self.events) if one["method"] == "Page.frameNavigated"
+                 and one["params"]["frame"]["loaderId"] == loader]
+        return bool(comes) and any(one["method"] == "Page.loadEventFired" for one in self.events[comes[0]:])
 
     def tell(self, method: str, **words: Any) -> int:
         """Tells it to do something. Returns the number of its reply."""
@@ -118,17 +148,24 @@ class Browser(Waiting):
     def reply(self, number: int) -> Any:
         """What it says to that."""
         while number not in self.replies:
-            said = self.message()
-            if "id" in said:
-                self.replies[said["id"]] = said
-            elif said["method"] == "Inspector.targetCrashed" and said.get("sessionId") == self.session:
-                raise Gone("the page has crashed")
-            else:
-                self.events.append(said)
+            self.take()
         said = self.replies.pop(number)
         if "error" in said:
             raise OSError(str(said["error"]))
         return said["result"]
+
+    def take(self) -> None:
+        """Takes its next message: a reply, or an event of the page."""
+        said = self.message()
+        if "id" in said:
+            self.replies[said["id"]] = said
+        elif said.get("sessionId") != self.session:
+            # (a page that was left)
+            pass
+        elif said["method"] == "Inspector.targetCrashed":
+            raise Gone("the page has crashed")
+        else:
+            self.events.append(said)
 
     def call(self, method: str, **words: Any) -> Any:
         """Has it do something, and returns what it says."""
@@ -154,10 +191,8 @@ class Browser(Waiting):
         """Loads a page, from a file if no address is given, and waits until it is there and shown."""
         if not self.is_new:
             self.open()
-        self.is_new = False
-        self.events, self.address = [], file if "://" in file else "file://" + file
-        self.call("Page.navigate", url=self.address + place)
-        self.until("document.readyState === 'complete' && location.protocol !== 'about:'", "the page is loaded")
+        self.is_new, self.address = False, file if "://" in file else "file://" + file
+        self.navigate(self.address + place)
         self.frames()
 
     def resize(self, width: int, height: int) -> None:

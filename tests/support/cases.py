@@ -146,6 +146,8 @@ class Case(unittest.TestCase):
     suite: str | None = None
     # about how many seconds it takes, if these are many: the longest begin first
     seconds: float = 0
+    # the browser that it takes, if any: it is begun once for many tests
+    browser = ""
     # whether it takes the programs
     takes_programs = True
 

@@ -12,7 +12,7 @@ import time
 from collections.abc import Sequence
 from typing import Any
 
-from support.waiting import SILENCE, Gone, Missed, Waiting
+from support.waiting import LEFT, SILENCE, Gone, Missed, Waiting
 
 # What stands for keys that write no sign.
 KEYS = {
@@ -31,6 +31,8 @@ SETTINGS = {
     "app.update.disabledForTesting": True,
     "browser.shell.checkDefaultBrowser": False,
     "datareporting.policy.dataSubmissionEnabled": False,
+    # (a process for a page that nobody opens takes a second)
+    "dom.ipc.processPrelaunch.enabled": False,
     "extensions.systemAddon.update.enabled": False,
     "messaging-system.rsexperimentloader.enabled": False,
     "network.captive-portal-service.enabled": False,
@@ -102,6 +104,7 @@ class Firefox(Waiting):
             self.call("WebDriver:NewSession", capabilities={"alwaysMatch": {"pageLoadStrategy": "normal",
                                                                             "timeouts": times}})
             self.inside(NOTED)
+            self.call("WebDriver:Navigate", url="about:blank")
             self.become(**looks)
         except (OSError, Missed) as fault:
             self.end()
@@ -113,9 +116,8 @@ class Firefox(Waiting):
 
     def become(self, width: int = 1280, height: int = 800, dark: bool = False, forced: bool = False,
                still: bool = False, modules: bool = True) -> None:
-        """Opens an empty page with these looks."""
-        self.call("WebDriver:Navigate", url="about:blank")
-        self.inside(LOOKS, width, height, {
+        """Gives the empty page these looks."""
+        self.inside(CLEAR + LOOKS, width, height, {
             "layout.css.prefers-color-scheme.content-override": 0 if dark else 1,
             "browser.display.document_color_use": 2 if forced else 0,
             "ui.useAccessibilityTheme": int(forced),
@@ -126,6 +128,12 @@ class Firefox(Waiting):
         wanted = [width, height, dark and not forced, forced, still]
         looks = "[innerWidth, innerHeight, ...{}.map((one) => matchMedia(`(${{one}})`).matches)].join() === '{}'"
         self.until(looks.format(list(asked), ",".join(str(one).lower() for one in wanted)), "these looks")
+        self.is_new = True
+
+    def leave(self) -> None:
+        """Leaves the page for an empty one."""
+        self.script(LEFT)
+        self.call("WebDriver:Navigate", url="about:blank")
 
     def port(self) -> int:
         """Where it listens, once it does."""
@@ -187,9 +195,10 @@ class Firefox(Waiting):
 
     def load(self, file: str, place: str = "") -> None:
         """Loads a page, from a file if no address is given, and waits until it is there and shown."""
-        self.call("WebDriver:Navigate", url="about:blank")
-        self.address = file if "://" in file else "file://" + file
-        self.inside(CLEAR)
+        if not self.is_new:
+            self.call("WebDriver:Navigate", url="about:blank")
+            self.inside(CLEAR)
+        self.is_new, self.address = False, file if "://" in file else "file://" + file
         self.call("WebDriver:Navigate", url=self.address + place)
         self.frames()
 

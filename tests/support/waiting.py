@@ -10,6 +10,27 @@ from support.cases import SILENCE, patience  # noqa: F401
 # So many seconds what was asked for may take to hold, where a machine has no more to do than it has processors: only
 # what hangs takes so long.
 PATIENCE = 25
+# Looks in the page again and again, but for some seconds at most, until this holds, and tells what it came to. (Each
+# question from outside takes more of a processor than some looks there.)
+LOOKS = """(async () => {
+  const end = performance.now() + 5000;
+  AFTER
+  for (let pause = 2; ; pause = Math.min(pause * 1.5, 16)) {
+    const told = await (TEST
+);
+    if (told || performance.now() > end) return told;
+    await new Promise((done) => setTimeout(done, pause));
+  }
+})()"""
+# Has a page that is left ask nothing, and keep nothing for the next one.
+LEFT = """(() => {
+  const kinds = ['beforeunload', 'pagehide'];
+  kinds.forEach((kind) => addEventListener(kind, (event) => event.stopImmediatePropagation(), true));
+  try {
+    Storage.prototype.setItem = () => {};
+    [localStorage, sessionStorage].forEach((one) => one.clear());
+  } catch {}
+})()"""
 # A script that compares something with a text, and what it compares.
 COMPARES = re.compile(r"(.+?)(?: === |\.(?:startsWith|endsWith|includes)\()'((?:[^'\\]|\\.)*)'\)?")
 
@@ -32,6 +53,7 @@ class Waiting:
     is_here: Callable[[], bool]
     can_be: Callable[..., bool]
     become: Callable[..., None]
+    leave: Callable[[], None]
     call: Callable[..., Any]
     load: Callable[..., None]
     resize: Callable[[int, int], None]
@@ -45,18 +67,31 @@ class Waiting:
     picture: Callable[[str], None]
     end: Callable[[], None]
 
-    def until(self, test: str, what: str) -> Any:
-        """Waits until a script tells that this holds, and returns what it tells. Else what comes after cannot be
-        tried."""
-        began, pause = time.monotonic(), 0.002
-        while not (told := self.script(test)):
+    def until(self, test: str, what: str, after: str = "") -> Any:
+        """Waits until a script tells that this holds, and returns what it tells; if need be, after statements that the
+        page is to do first. Else what comes after cannot be tried."""
+        began = time.monotonic()
+        look = LOOKS.replace("TEST", test)
+        told = self.script(look.replace("AFTER", after))
+        while not told:
             passed = time.monotonic() - began
             if passed > PATIENCE and passed > patience(PATIENCE):
                 self.compare(test)
                 raise Missed("{}: {}, within {:.0f} seconds; {}".format(self.name, what, passed, self.where()))
-            time.sleep(pause)
-            pause = min(pause * 1.5, 0.05)
+            told = self.script(look.replace("AFTER", ""))
         return told
+
+    def comes(self, test: str, what: str) -> Any:
+        """Waits likewise, while a page is left meanwhile: a browser that leaves it answers nothing of it."""
+        began = time.monotonic()
+        while True:
+            try:
+                return self.until(test, what)
+            except Gone:
+                raise
+            except OSError:
+                if time.monotonic() - began > patience(PATIENCE):
+                    raise
 
     def compare(self, test: str) -> None:
         """Compares here what a script compares with a text there."""

@@ -2,7 +2,6 @@
 another."""
 from webpage.pages import Deeds, check, ready
 from webpage.rows import file_of, rows
-from support.waiting import Gone
 from webpage.window import pick
 
 VALUE = "document.getElementById('source').value"
@@ -24,15 +23,7 @@ OTHER = """(() => {
 def again(page: Deeds, file: str) -> None:
     """Loads the page again, as a person does."""
     page.script("(document.documentElement.dataset.old = 'yes', setTimeout(() => location.reload()))")
-    while True:
-        try:
-            page.until("document.documentElement.dataset.old === undefined", "it is loaded again")
-            break
-        except Gone:
-            raise
-        except OSError:
-            # (a browser that leaves a page answers nothing of it)
-            continue
+    page.comes("document.documentElement.dataset.old === undefined", "it is loaded again")
     ready(page)
 
 

@@ -54,4 +54,10 @@ def lent(kind: type[Waiting], **looks: Any) -> Iterator[Any]:
     except BaseException:
         page.end()
         raise
-    idle.append(page)
+    try:
+        page.leave()
+    except OSError:
+        # (the row is done, but the next one is to have a browser without a fault)
+        page.end()
+    else:
+        idle.append(page)

@@ -195,4 +195,5 @@ def a_room(_: Deeds) -> Iterator[str]:
 
 
 # (Chromium tells what its processes take)
-TRIED = rows(check_dropped, check_opened, check_programs, check_refused, given=a_room, where=CHROMIUM, seconds=30)
+TRIED = rows(check_dropped, check_opened, check_programs, check_refused, given=a_room, where=CHROMIUM, seconds=30,
+             alone=True)

@@ -39,7 +39,13 @@ AIM = """((find, goal = find) => {
     }
   };
   kinds.forEach((kind) => addEventListener(kind, judge, true));
-  window.aim = {
+  const end = () => {
+    kinds.forEach((kind) => removeEventListener(kind, judge, true));
+    delete window.aim;
+    return true;
+  };
+  const frame = () => new Promise((done) => requestAnimationFrame(done));
+  return {
     place: () => {
       const it = find();
       if (!it?.getClientRects().length) return null;
@@ -47,8 +53,11 @@ AIM = """((find, goal = find) => {
       const box = it.getBoundingClientRect();
       return [box.x + box.width / 2, box.y + box.height / 2];
     },
-    isHit: () => isHit,
-    end: () => kinds.forEach((kind) => removeEventListener(kind, judge, true)),
+    // whether the click came to it, now or with the next frames
+    isHit: async () => {
+      for (let left = 5; left && !isHit; left--) await frame();
+      return isHit && end();
+    },
   };
 })"""
 
@@ -86,18 +95,14 @@ class Deeds(Waiting):
     def click(self, element: str, around: str | None = None) -> None:
         """Clicks the middle of an element by the mouse, once it is there; and again if the page moved under the
         mouse."""
-        self.script("{}({})".format(AIM, ", ".join("() => " + one for one in (element, around) if one)))
+        aim = "window.aim = {}({});".format(AIM, ", ".join("() => " + one for one in (element, around) if one))
         for _ in range(100):
-            self.until("window.aim.place() !== null", "it is there to be clicked: " + element)
-            self.click_at(*self.script("window.aim.place()"))
+            place = self.until("window.aim.place()", "it is there to be clicked: " + element, aim)
+            self.click_at(*place)
             if self.script("window.aim.isHit()"):
-                break
-            self.frames()
-            if self.script("window.aim.isHit()"):
-                break
-        else:
-            raise Missed("{}: no click comes to {}".format(self.name, element))
-        self.script("window.aim.end()")
+                return
+            aim = ""
+        raise Missed("{}: no click comes to {}".format(self.name, element))
 
     def run(self) -> None:
         """Runs what is there, and waits for its end."""
@@ -108,10 +113,10 @@ class Deeds(Waiting):
     def go(self, step: int | str) -> None:
         """Goes to a step, and waits until it is shown."""
         # (the page writes the number anew when it shows the step)
-        self.script("(() => {{ const box = document.getElementById('place'); box.value = ' {}'; "
-                    "box.dispatchEvent(new Event('change')); }})()".format(step))
+        goes = ("const box = document.getElementById('place'); box.value = ' {}'; "
+                "box.dispatchEvent(new Event('change'));".format(step))
         shown = "document.getElementById('slider').value === '{}' && document.getElementById('place').value === '{:,}'"
-        self.until(shown.format(step, int(step)), "it goes to step {}".format(step))
+        self.until(shown.format(step, int(step)), "it goes to step {}".format(step), goes)
 
     def at(self, step: int | str, what: str = "it goes") -> None:
         """Waits until the page is at a step."""
