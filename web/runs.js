@@ -4,7 +4,7 @@ import { Stopped, wordsOf } from "./engine.js";
 import { countOfLines, laterSaid, linesBegun, tapeOf } from "./input.js";
 import { Story } from "./story.js";
 import { BUDGET, measure } from "./measure.js";
-import { probe, showSoFar, WATCHED } from "./probing.js";
+import { isLong, measureInTurns, probe, showSoFar, WATCHED } from "./probing.js";
 import { needsEnd } from "./endings.js";
 import { keepFocus } from "./focus.js";
 import { isEqual } from "./judging.js";
@@ -45,11 +45,11 @@ export class Runs {
   }
 
   /**
-   * Runs a program with its input, and goes to the end. Until then the run before is there, and is asked over its own
-   * input.
+   * Runs a program with its input, and goes to the end, which is said after other words, if there are any. Until then
+   * the run before is there, and is asked over its own input.
    * @param {Wanted} asked
    */
-  async perform(asked) {
+  async perform(asked, lead = "") {
     const { page } = this;
     const wanted = { ...asked, tape: tapeOf(asked) };
     page.cursor.play(0);
@@ -62,12 +62,11 @@ export class Runs {
     page.view.busy(true);
     const before = page.run?.story;
     if (!before?.isSmall) before?.letGo();
-    this.watch(wanted);
     try {
-      const came = await measure(page.engine, wanted.tape, wanted.isClosed, wanted.budget);
+      const came = await this.came(wanted);
       const run = this.runOf(wanted, came);
       const states = await run.story.around(run.end, run.end);
-      if (wanted === this.began) this.take(run, states);
+      if (wanted === this.began) this.take(run, states, lead);
     } catch (fault) {
       if (wanted === this.began) this.fail(fault instanceof Stopped ? STOPPED : wordsOf(fault));
       page.view.say(fault);
@@ -84,20 +83,27 @@ export class Runs {
     return new Run(wanted, came, story);
   }
 
-  // Looks how far a run has come that takes long, and shows what it has printed until then. So if it is stopped, that
-  // much of it is there.
+  // What a run comes to. Meanwhile it shows what is printed, if it takes long; so if it is stopped, that much is there.
   /** @param {Begin} wanted */
-  async watch(wanted) {
-    await new Promise((then) => setTimeout(then, WATCHED));
-    const { view, ahead } = this.page;
+  came(wanted) {
+    const { engine, ahead } = this.page;
+    const began = performance.now();
     const isWanted = () => wanted === this.began;
     /** @param {Came} came */
     const come = (came) => {
       this.partial = came;
-      view.showWords(`It runs: ${grouped(came.end)} steps so far.`);
-      showSoFar(view, came.output);
+      if (performance.now() - began >= WATCHED) this.showPartial(came);
     };
-    await probe(ahead, wanted, isWanted, come).catch(() => {});
+    if (isLong(wanted)) return measureInTurns(engine, wanted, isWanted, come);
+    setTimeout(() => probe(ahead, wanted, isWanted, come).catch(() => {}), WATCHED);
+    return measure(engine, wanted.tape, wanted.isClosed, wanted.budget);
+  }
+
+  /** @param {Came} came */
+  showPartial(came) {
+    const { view } = this.page;
+    view.showWords(`It runs: ${grouped(came.end)} steps so far.`);
+    showSoFar(view, came.output);
   }
 
   /**
@@ -124,25 +130,35 @@ export class Runs {
     gather(page, run);
   }
 
-  // Takes as much of a run as is known of it.
-  /** @param {Begin} wanted @param {Came} came */
-  async takePartial(wanted, came, lead = "") {
-    const run = this.runOf({ ...wanted, budget: came.end }, { ...came, stand: "stopped" });
+  // Takes as much of a run as is known of it, after words that say why it came to no end. Large states are not known:
+  // for these it is run anew up to there.
+  /** @param {Begin} wanted @param {Came} came @param {string} words */
+  async takePartial(wanted, came, words) {
+    const lead = words === STOPPED ? "" : `${words} `, budget = came.end;
+    if (!came.window) return this.perform({ ...wanted, budget, from: budget }, lead);
+    const run = this.runOf({ ...wanted, budget }, { ...came, stand: "stopped" });
     const states = await run.story.around(run.end, run.end);
     if (this.began === null) this.take(run, states, lead);
+    return undefined;
   }
 
   // Says why a run came to no end. As much of it as is known is shown; if nothing is, the run before.
   /** @param {string} words */
   fail(words) {
-    const { began, partial, page } = this;
-    const { view, run } = page;
+    const { began, partial, page: { view } } = this;
     this.leave();
     view.busy(false);
-    if (began && partial) {
-      view.showWords(words);
-      return void this.takePartial(began, partial, words === STOPPED ? "" : `${words} `);
-    }
+    if (!began || !partial) return this.stay(words);
+    view.showWords(words);
+    this.takePartial(began, partial, words);
+    return undefined;
+  }
+
+  // Shows the run before, after words that say why there is no other, or nothing.
+  /** @param {string} words */
+  stay(words) {
+    const { page } = this;
+    const { view, run } = page;
     keepFocus(() => {
       view.showWords(words);
       if (!run) view.clear();
@@ -154,7 +170,6 @@ export class Runs {
       }
     });
     if (run && !run.isGathered) gather(page, run);
-    return undefined;
   }
 
   // Leaves the run that is shown, and what is asked to be run: no answer is waited for.
@@ -172,8 +187,8 @@ export class Runs {
     const { cursor, view, engine, ahead } = this.page;
     cursor.turn++;
     cursor.play(0);
-    if (this.began) this.fail(STOPPED);
     for (const one of [engine, ahead]) if (one.waiting.size) one.stop();
+    if (this.began) this.fail(STOPPED);
     // (a number that was typed may not be reached)
     if (this.page.run) view.showPlace();
     view.note("stopped");
@@ -188,7 +203,7 @@ export class Runs {
   async goOn() {
     const { shownRun: run } = this.page;
     const taken = Math.max(run.budget, run.end);
-    await this.performAgain({ budget: taken + Math.max(taken, BUDGET) });
+    await this.performAgain({ budget: taken + Math.max(taken, BUDGET), from: run.end });
     if (focused() === byId("output")) byId("ending").querySelector("button")?.focus();
   }
 
