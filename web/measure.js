@@ -53,11 +53,11 @@ export async function measure(engine, tape, isClosed, budget, isBrief = false, m
     return { ...ended, stand: "large", meta: "", isOfByte: false, output: await outputOf(engine, tape, ended) };
   }
   const { states } = ended.window, state = states[states.length - 1];
-  const isSpent = ended.why === null && ended.end >= budget;
-  // (trac-walk, which keeps steps, takes more memory than the debugger)
-  if (!isSpent) ended.why ??= "Memory";
   const isRefused = ended.why === "TooLong" || ended.why === "Memory";
-  const stand = isSpent ? "spent" : isRefused ? "refused" : standOf(state);
+  let stand = isRefused ? "refused" : standOf(state);
+  if (stand === "refused" && ended.end >= budget) stand = "spent";
+  // (trac-walk, which keeps steps, takes more memory than the debugger)
+  else ended.why ??= "Memory";
   // (whether one byte is read, and no text)
   const isOfByte = /^rc$/i.test(state.parts.calls.at(-1)?.texts[0] ?? "");
   return { ...ended, stand, meta: state.parts.meta, isOfByte, output: await outputOf(engine, tape, ended) };

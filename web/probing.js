@@ -23,12 +23,6 @@ export function isLong({ tape }) {
   return tape.length > LONG;
 }
 
-// Whether a run may go on from there, of which so many steps were wanted.
-/** @param {Came} came @param {number} steps */
-function isSpent({ stand, end }, steps) {
-  return stand === "spent" || (stand === "large" && end >= steps);
-}
-
 // Tells what the run of a short program has come to after some steps, as long as that is wanted and there are more. It
 // has only memory that the run leaves: it ends once it, or the run, is to be done alone.
 /**
@@ -42,7 +36,7 @@ export async function probe(engine, { tape, isClosed, budget, from = 0 }, isWant
   const spare = { ask: (call, input, more, room) => engine.ask(call, input, { ...more, isSpare: true }, room) };
   for (let more = FIRST_PROBE; isWanted() && from + more < budget; more *= MORE_PROBED) {
     const came = await measure(spare, tape, isClosed, from + more, true, MOST_PRINTED);
-    if (!isWanted() || !isSpent(came, from + more)) return;
+    if (!isWanted() || came.end < from + more) return;
     come(came);
   }
 }
@@ -59,7 +53,7 @@ export async function measureInTurns(engine, { tape, isClosed, budget, from = 0 
   for (let first = 0; steps < budget;) {
     const began = performance.now();
     const came = await measure(engine, tape, isClosed, steps, true);
-    if (!isSpent(came, steps)) {
+    if (came.end < steps) {
       if (came.stand !== "large") return came;
       break;
     }

@@ -64,6 +64,7 @@ export class Runs {
     if (!before?.isSmall) before?.letGo();
     try {
       const came = await this.came(wanted);
+      if (wanted.budget === wanted.from) came.stand = "stopped";
       const run = this.runOf(wanted, came);
       const states = await run.story.around(run.end, run.end);
       if (wanted === this.began) this.take(run, states, lead);
