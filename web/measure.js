@@ -134,7 +134,8 @@ async function endOf(engine, tape, marks, isBrief) {
   const way = new Story(engine, tape, landmarks).way(first);
   const commands = `${way.commands.join("")}p\n${"s 1\np\n".repeat(end - first)}s 1\n`;
   const room = way.room + 2 * (printed - way.last.printed) + (1 << 18);
-  const { status, bytes } = taken(await engine.ask("debug", tape, { commands, most: isBrief ? room : undefined }, room));
+  const words = isBrief ? { commands, most: room } : { commands };
+  const { status, bytes } = taken(await engine.ask("debug", tape, words, room));
   if (isBrief && status !== 0) return { end, why: null, landmarks, read, printed, window: null, isLarge: true };
   const replies = new Replies(bytes);
   const { step, before, why: stopped } = Story.went(replies, way);

@@ -23,6 +23,8 @@ export class Runs {
     this.began = null;
     /** @type {Came | null} how far that is known to have come */
     this.partial = null;
+    /** @type {Came | null} and the last such whose states are kept */
+    this.kept = null;
     // whether more is to be typed of a program that is done
     this.wantsInput = false;
   }
@@ -45,11 +47,11 @@ export class Runs {
   }
 
   /**
-   * Runs a program with its input, and goes to the end, which is said after other words, if there are any. Until then
-   * the run before is there, and is asked over its own input.
+   * Runs a program with its input, and goes to the end. Until then the run before is there, and is asked over its own
+   * input.
    * @param {Wanted} asked
    */
-  async perform(asked, lead = "") {
+  async perform(asked) {
     const { page } = this;
     const wanted = { ...asked, tape: tapeOf(asked) };
     page.cursor.play(0);
@@ -57,7 +59,7 @@ export class Runs {
     page.way.clear();
     page.cursor.turn++;
     page.drop();
-    [this.began, this.partial] = [wanted, null];
+    [this.began, this.partial, this.kept] = [wanted, null, null];
     if (wanted.isNew) this.wantsInput = false;
     page.view.busy(true);
     const before = page.run?.story;
@@ -67,7 +69,7 @@ export class Runs {
       if (wanted.budget === wanted.from) came.stand = "stopped";
       const run = this.runOf(wanted, came);
       const states = await run.story.around(run.end, run.end);
-      if (wanted === this.began) this.take(run, states, lead);
+      if (wanted === this.began) this.take(run, states);
     } catch (fault) {
       if (wanted === this.began) this.fail(fault instanceof Stopped ? STOPPED : wordsOf(fault));
       page.view.say(fault);
@@ -93,6 +95,7 @@ export class Runs {
     /** @param {Came} came */
     const come = (came) => {
       this.partial = came;
+      if (came.window) this.kept = came;
       if (performance.now() - began >= WATCHED) this.showPartial(came);
     };
     if (isLong(wanted)) return measureInTurns(engine, wanted, isWanted, come);
@@ -135,18 +138,20 @@ export class Runs {
   // for these it is run anew up to there.
   /** @param {Begin} wanted @param {Came} came @param {string} words */
   async takePartial(wanted, came, words) {
-    const lead = words === STOPPED ? "" : `${words} `, budget = came.end;
-    if (!came.window) return this.perform({ ...wanted, budget, from: budget }, lead);
+    const budget = came.end;
+    if (!came.window) return this.perform({ ...wanted, budget, from: budget });
     const run = this.runOf({ ...wanted, budget }, { ...came, stand: "stopped" });
     const states = await run.story.around(run.end, run.end);
-    if (this.began === null) this.take(run, states, lead);
+    if (this.began === null) this.take(run, states, words === STOPPED ? "" : `${words} `);
     return undefined;
   }
 
-  // Says why a run came to no end. As much of it as is known is shown; if nothing is, the run before.
+  // Says why a run came to no end. As much of it as is known is shown; if nothing is, the run before. (What was refused
+  // memory is not run anew.)
   /** @param {string} words */
   fail(words) {
-    const { began, partial, page: { view } } = this;
+    const { began, page: { view } } = this;
+    const partial = words === STOPPED ? this.partial : this.kept;
     this.leave();
     view.busy(false);
     if (!began || !partial) return this.stay(words);
@@ -177,7 +182,7 @@ export class Runs {
   leave() {
     const { page } = this;
     page.cursor.turn++;
-    this.began = this.partial = null;
+    this.began = this.partial = this.kept = null;
     page.drop();
     page.cursor.play(0);
     page.way.clear();
