@@ -11,13 +11,15 @@ from support.cases import TESTS, TOP, Case, near
 from support.differing import Place, difference
 from support.waiting import Gone, Missed
 from webpage import (
-    anew, answers, by_keys, course, editing, features, folding, given, keeping, lacking, lending, looks, many, memory,
-    minute, pages, player, programs, reading, seen, share, staying, teaching, touching, trials, window, wording,
+    anew, answers, by_keys, colours, course, editing, features, folding, given, keeping, lacking, lending, looks, many,
+    memory, minute, pages, player, programs, reading, seen, share, staying, stopping, teaching, touching, trials,
+    window, wording, zoom,
 )
 from webpage.rows import Row, kinds_of, name_of
 
-GROUPS = (anew, answers, by_keys, course, editing, folding, given, keeping, lacking, looks, many, memory, minute,
-          player, programs, reading, share, staying, teaching, touching, trials, window, wording)
+GROUPS = (anew, answers, by_keys, colours, course, editing, folding, given, keeping, lacking, looks, many, memory,
+          minute, player, programs, reading, share, staying, stopping, teaching, touching, trials, window, wording,
+          zoom)
 PAGE = os.path.realpath(os.environ.get("TRAC_PAGE") or TOP / "release" / "trac.html")
 # Where rows stand, and what there is no row.
 FOLDER, SHARED = os.fspath(TESTS / "webpage"), {"pages.py", "lending.py", "rows.py", "seen.py", "names.py"}

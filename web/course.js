@@ -11,9 +11,11 @@ import { startList } from "./lists.js";
 const SHOWN_BYTES = 4096;
 
 /**
- * A lesson; or an exercise, with its runs: what stands after the program, and what must be printed.
+ * A lesson, with a line that says what it shows; or an exercise, with its runs: what stands after the program, and what
+ * must be printed.
  * @typedef {import("./lesson.js").TextPart} TextPart
- * @typedef {{ title: string, parts: TextPart[], runs?: undefined } | Exercise} Item
+ * @typedef {{ title: string, parts: TextPart[], line: string, runs?: undefined }} Lesson
+ * @typedef {Lesson | Exercise} Item
  * @typedef {{
  *   title: string, parts: TextPart[], runs: [string, string][], start: string | null, hint: TextPart[],
  *   solution: string
@@ -27,10 +29,10 @@ export class Course {
     const data = JSON.parse(textIn("course-data"));
     /** @type {import("./judging.js").Rules} */
     this.rules = data.rules;
-    /** @type {{ title: string, parts: TextPart[], exercises: Exercise[] }[]} */
+    /** @type {(Lesson & { exercises: Exercise[] })[]} */
     const lessons = data.lessons;
     /** @type {Item[]} lessons, each before its exercises */
-    this.items = lessons.flatMap(({ title, parts, exercises }) => [{ title, parts }, ...exercises]);
+    this.items = lessons.flatMap(({ exercises, ...lesson }) => [lesson, ...exercises]);
     this.at = 0;
     // what is said of a check
     this.said = make("div");
@@ -43,9 +45,9 @@ export class Course {
   list() {
     const list = byId("course");
     list.append(new Option("Course", ""));
-    this.items.forEach(({ title, runs }, index) => {
-      const margin = runs ? "\u00a0\u00a0\u00a0" : "";
-      list.append(new Option(margin + title, String(index)));
+    this.items.forEach((item, index) => {
+      const words = item.runs ? `\u00a0\u00a0\u00a0${item.title}` : `${item.title}: ${item.line}`;
+      list.append(new Option(words, String(index)));
     });
     startList(list, (index) => this.show(Number(index)));
   }

@@ -30,26 +30,34 @@ const MOST_OUTPUT = 1 << 26;
  * @property {States} window
  */
 
-/** @typedef {Ended | { end: number, why: string | null, window: null }} Tried */
+/**
+ * The same where no way comes to the end, or where its states are not wanted, since they are large.
+ * @typedef {{ end: number, why: string | null, window: null }} Lacking
+ * @typedef {Omit<Ended, "window"> & { window: null, isLarge: true }} Large
+ */
 
 /**
  * What a run comes to: how many steps it takes, why no more, the last states, what was printed, if it is not too much,
- * and landmarks on the way: how much was read and printed until then.
+ * and landmarks on the way: how much was read and printed until then. A brief one has no large states, and does not say
+ * why a run that has these takes no more steps.
  * @param {Asked} engine
  * @param {Uint8Array} tape
  * @param {boolean} isClosed
  * @param {number} budget
  * @returns {Promise<Came>}
  */
-export async function measure(engine, tape, isClosed, budget, mostOutput = MOST_OUTPUT) {
-  const ended = await measured(engine, tape, isClosed, budget);
+export async function measure(engine, tape, isClosed, budget, isBrief = false, mostOutput = MOST_OUTPUT) {
+  const ended = await measured(engine, tape, isClosed, budget, isBrief);
+  if (ended.printed > mostOutput) throw new Refused("the output is too long");
+  if (!ended.window) {
+    return { ...ended, stand: "large", meta: "", isOfByte: false, output: await outputOf(engine, tape, ended) };
+  }
   const { states } = ended.window, state = states[states.length - 1];
   const isRefused = ended.why === "TooLong" || ended.why === "Memory";
   let stand = isRefused ? "refused" : standOf(state);
   if (stand === "refused" && ended.end >= budget) stand = "spent";
   // (trac-walk, which keeps steps, takes more memory than the debugger)
   else ended.why ??= "Memory";
-  if (ended.printed > mostOutput) throw new Refused("the output is too long");
   // (whether one byte is read, and no text)
   const isOfByte = /^rc$/i.test(state.parts.calls.at(-1)?.texts[0] ?? "");
   return { ...ended, stand, meta: state.parts.meta, isOfByte, output: await outputOf(engine, tape, ended) };
@@ -61,9 +69,10 @@ export async function measure(engine, tape, isClosed, budget, mostOutput = MOST_
  * @param {Uint8Array} tape
  * @param {boolean} isClosed
  * @param {number} budget
- * @returns {Promise<Ended>}
+ * @param {boolean} isBrief
+ * @returns {Promise<Ended | Large>}
  */
-async function measured(engine, tape, isClosed, budget) {
+async function measured(engine, tape, isClosed, budget, isBrief) {
   /** @type {{ end: number, why: string | null, stride: number }} */
   let tried = { end: budget, why: null, stride: STRIDES[0] };
   let most = budget;
@@ -71,12 +80,13 @@ async function measured(engine, tape, isClosed, budget) {
     if (stride < STRIDES[0] && most / stride > MOST_LANDMARKS) break;
     const marks = await landmarksOf(engine, tape, isClosed, most, stride);
     most = marks[marks.length - 1].step;
-    const run = await endOf(engine, tape, marks);
-    if (run.window) return run;
+    const run = await endOf(engine, tape, marks, isBrief);
+    if (run.window || "isLarge" in run) return run;
     tried = { end: run.end, why: run.why, stride };
   }
-  const run = await endOf(engine, tape, await landmarksOf(engine, tape, isClosed, tried.end, tried.stride));
-  if (!run.window) throw new Refused("no memory");
+  const marks = await landmarksOf(engine, tape, isClosed, tried.end, tried.stride);
+  const run = await endOf(engine, tape, marks, isBrief);
+  if (!run.window && !("isLarge" in run)) throw new Refused("no memory");
   return { ...run, why: tried.why };
 }
 
@@ -115,15 +125,18 @@ async function landmarksOf(engine, tape, isClosed, most, stride) {
  * @param {Asked} engine
  * @param {Uint8Array} tape
  * @param {Landmark[]} marks
- * @returns {Promise<Tried>}
+ * @param {boolean} isBrief
+ * @returns {Promise<Ended | Large | Lacking>}
  */
-async function endOf(engine, tape, marks) {
+async function endOf(engine, tape, marks, isBrief) {
   const landmarks = marks.slice(0, -1), { step: end, position: read, printed } = marks[landmarks.length];
   const first = Math.max(end - 1, 0);
   const way = new Story(engine, tape, landmarks).way(first);
   const commands = `${way.commands.join("")}p\n${"s 1\np\n".repeat(end - first)}s 1\n`;
   const room = way.room + 2 * (printed - way.last.printed) + (1 << 18);
-  const { bytes } = taken(await engine.ask("debug", tape, { commands }, room));
+  const words = isBrief ? { commands, most: room } : { commands };
+  const { status, bytes } = taken(await engine.ask("debug", tape, words, room));
+  if (isBrief && status !== 0) return { end, why: null, landmarks, read, printed, window: null, isLarge: true };
   const replies = new Replies(bytes);
   const { step, before, why: stopped } = Story.went(replies, way);
   if (stopped) return { end: step, why: stopped, window: null };
@@ -139,7 +152,7 @@ async function endOf(engine, tape, marks) {
 }
 
 // All that a run prints.
-/** @param {Asked} engine @param {Uint8Array} tape @param {Ended} ended */
+/** @param {Asked} engine @param {Uint8Array} tape @param {Pick<Ended, "end" | "printed">} ended */
 async function outputOf(engine, tape, { end, printed }) {
   if (printed === 0) return new Uint8Array(0);
   const wanted = { budget: Math.max(end, 1), most: MOST_OUTPUT + 1 };

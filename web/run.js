@@ -13,6 +13,7 @@
  * @property {boolean} isClosed
  * @property {number} budget
  * @property {boolean} [isNew] whether nothing of the run before holds
+ * @property {number} [from] how many steps of it the run before has taken
  */
 
 /**

@@ -4,7 +4,7 @@ import { Stopped, wordsOf } from "./engine.js";
 import { countOfLines, laterSaid, linesBegun, tapeOf } from "./input.js";
 import { Story } from "./story.js";
 import { BUDGET, measure } from "./measure.js";
-import { probe, showSoFar, WATCHED } from "./probing.js";
+import { isLong, measureInTurns, probe, showSoFar, WATCHED } from "./probing.js";
 import { needsEnd } from "./endings.js";
 import { keepFocus } from "./focus.js";
 import { isEqual } from "./judging.js";
@@ -23,6 +23,8 @@ export class Runs {
     this.began = null;
     /** @type {Came | null} how far that is known to have come */
     this.partial = null;
+    /** @type {Came | null} and the last such whose states are kept */
+    this.kept = null;
     // whether more is to be typed of a program that is done
     this.wantsInput = false;
   }
@@ -57,14 +59,14 @@ export class Runs {
     page.way.clear();
     page.cursor.turn++;
     page.drop();
-    [this.began, this.partial] = [wanted, null];
+    [this.began, this.partial, this.kept] = [wanted, null, null];
     if (wanted.isNew) this.wantsInput = false;
     page.view.busy(true);
     const before = page.run?.story;
     if (!before?.isSmall) before?.letGo();
-    this.watch(wanted);
     try {
-      const came = await measure(page.engine, wanted.tape, wanted.isClosed, wanted.budget);
+      const came = await this.came(wanted);
+      if (wanted.budget === wanted.from) came.stand = "stopped";
       const run = this.runOf(wanted, came);
       const states = await run.story.around(run.end, run.end);
       if (wanted === this.began) this.take(run, states);
@@ -84,20 +86,28 @@ export class Runs {
     return new Run(wanted, came, story);
   }
 
-  // Looks how far a run has come that takes long, and shows what it has printed until then. So if it is stopped, that
-  // much of it is there.
+  // What a run comes to. Meanwhile it shows what is printed, if it takes long; so if it is stopped, that much is there.
   /** @param {Begin} wanted */
-  async watch(wanted) {
-    await new Promise((then) => setTimeout(then, WATCHED));
-    const { view, ahead } = this.page;
+  came(wanted) {
+    const { engine, ahead } = this.page;
+    const began = performance.now();
     const isWanted = () => wanted === this.began;
     /** @param {Came} came */
     const come = (came) => {
       this.partial = came;
-      view.showWords(`It runs: ${grouped(came.end)} steps so far.`);
-      showSoFar(view, came.output);
+      if (came.window) this.kept = came;
+      if (performance.now() - began >= WATCHED) this.showPartial(came);
     };
-    await probe(ahead, wanted, isWanted, come).catch(() => {});
+    if (isLong(wanted)) return measureInTurns(engine, wanted, isWanted, come);
+    setTimeout(() => probe(ahead, wanted, isWanted, come).catch(() => {}), WATCHED);
+    return measure(engine, wanted.tape, wanted.isClosed, wanted.budget);
+  }
+
+  /** @param {Came} came */
+  showPartial(came) {
+    const { view } = this.page;
+    view.showWords(`It runs: ${grouped(came.end)} steps so far.`);
+    showSoFar(view, came.output);
   }
 
   /**
@@ -124,25 +134,37 @@ export class Runs {
     gather(page, run);
   }
 
-  // Takes as much of a run as is known of it.
-  /** @param {Begin} wanted @param {Came} came */
-  async takePartial(wanted, came, lead = "") {
-    const run = this.runOf({ ...wanted, budget: came.end }, { ...came, stand: "stopped" });
+  // Takes as much of a run as is known of it, after words that say why it came to no end. Large states are not known:
+  // for these it is run anew up to there.
+  /** @param {Begin} wanted @param {Came} came @param {string} words */
+  async takePartial(wanted, came, words) {
+    const budget = came.end;
+    if (!came.window) return this.perform({ ...wanted, budget, from: budget });
+    const run = this.runOf({ ...wanted, budget }, { ...came, stand: "stopped" });
     const states = await run.story.around(run.end, run.end);
-    if (this.began === null) this.take(run, states, lead);
+    if (this.began === null) this.take(run, states, words === STOPPED ? "" : `${words} `);
+    return undefined;
   }
 
-  // Says why a run came to no end. As much of it as is known is shown; if nothing is, the run before.
+  // Says why a run came to no end. As much of it as is known is shown; if nothing is, the run before. (What was refused
+  // memory is not run anew.)
   /** @param {string} words */
   fail(words) {
-    const { began, partial, page } = this;
-    const { view, run } = page;
+    const { began, page: { view } } = this;
+    const partial = words === STOPPED ? this.partial : this.kept;
     this.leave();
     view.busy(false);
-    if (began && partial) {
-      view.showWords(words);
-      return void this.takePartial(began, partial, words === STOPPED ? "" : `${words} `);
-    }
+    if (!began || !partial) return this.stay(words);
+    view.showWords(words);
+    this.takePartial(began, partial, words);
+    return undefined;
+  }
+
+  // Shows the run before, after words that say why there is no other, or nothing.
+  /** @param {string} words */
+  stay(words) {
+    const { page } = this;
+    const { view, run } = page;
     keepFocus(() => {
       view.showWords(words);
       if (!run) view.clear();
@@ -154,14 +176,13 @@ export class Runs {
       }
     });
     if (run && !run.isGathered) gather(page, run);
-    return undefined;
   }
 
   // Leaves the run that is shown, and what is asked to be run: no answer is waited for.
   leave() {
     const { page } = this;
     page.cursor.turn++;
-    this.began = this.partial = null;
+    this.began = this.partial = this.kept = null;
     page.drop();
     page.cursor.play(0);
     page.way.clear();
@@ -172,8 +193,8 @@ export class Runs {
     const { cursor, view, engine, ahead } = this.page;
     cursor.turn++;
     cursor.play(0);
-    if (this.began) this.fail(STOPPED);
     for (const one of [engine, ahead]) if (one.waiting.size) one.stop();
+    if (this.began) this.fail(STOPPED);
     // (a number that was typed may not be reached)
     if (this.page.run) view.showPlace();
     view.note("stopped");
@@ -188,7 +209,7 @@ export class Runs {
   async goOn() {
     const { shownRun: run } = this.page;
     const taken = Math.max(run.budget, run.end);
-    await this.performAgain({ budget: taken + Math.max(taken, BUDGET) });
+    await this.performAgain({ budget: taken + Math.max(taken, BUDGET), from: run.end });
     if (focused() === byId("output")) byId("ending").querySelector("button")?.focus();
   }
 

@@ -41,7 +41,7 @@ def has_words(shown: str, text: str) -> bool:
 def shows(page: Deeds, title: str) -> None:
     """Opens a lesson or an exercise from the list."""
     page.script("(() => {{ const list = document.getElementById('course'); "
-                "list.value = [...list.options].find((one) => one.text.trim() === {}).value; "
+                "list.value = [...list.options].find((one) => one.text.trim().split(': ')[0] === {}).value; "
                 "list.dispatchEvent(new Event('change')); }})()".format(json.dumps(title)))
 
 
@@ -60,6 +60,19 @@ def judged(page: Deeds, program: str) -> str:
                "a check says something")
     said: str = page.script("document.querySelector('.judged').textContent")
     return said
+
+
+def check_lines(page: Deeds) -> None:
+    """In the list each lesson has a line beside its title that says what it shows, and each exercise its title."""
+    listed = page.script("[...document.getElementById('course').options].map((one) => one.text.trim())")
+    texts = [(read(os.path.relpath(path, COURSE)).split("\n")[0].lstrip("# "), path.endswith("lesson.md"))
+             for folder in sorted(glob.glob(os.path.join(COURSE, "[0-9]*")))
+             for path in [os.path.join(folder, "lesson.md"),
+                          *sorted(glob.glob(os.path.join(folder, "[0-9]*", "exercise.md")))]]
+    check(len(listed) == 1 + len(texts), "so many are listed: {}".format(len(listed)))
+    for said, (title, is_lesson) in zip(listed[1:], texts):
+        name, _, line = said.partition(": ")
+        check(name == title and (len(line) > 20) == is_lesson, "what is listed of {}: {}".format(title, said))
 
 
 def check_lessons(page: Deeds) -> None:
@@ -142,4 +155,4 @@ def patient(page: Deeds) -> None:
     page.script(PATIENT)
 
 
-TRIED = rows(check_lessons, check_exercises, check_failure, before=patient, where=ONE, seconds=10)
+TRIED = rows(check_lines, check_lessons, check_exercises, check_failure, before=patient, where=ONE, seconds=10)

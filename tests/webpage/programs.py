@@ -1,7 +1,9 @@
-"""All programs of tests/data/programs in the page: each prints there what it is to print."""
+"""All programs of tests/data/programs in the page: each prints there what it is to print; and so does each that comes
+with the page, opened by its title."""
 from __future__ import annotations
 
 import glob
+import json
 import os
 import unicodedata
 
@@ -55,4 +57,52 @@ def check_programs(page: Deeds) -> None:
     check(len(paths) > 50 and not wrong, "programs: {}".format(wrong[:3]))
 
 
-TRIED = rows(check_programs, seconds=20)
+# Opens what a list has under a title, and says all that stands there.
+OPEN = """((title) => {{
+  const list = document.getElementById('library');
+  const option = [...list.options].find((one) => one.text.startsWith(title + ': '));
+  if (!option) return null;
+  list.value = option.value;
+  list.dispatchEvent(new Event('change'));
+  return option.text;
+}})({})"""
+
+
+def titles() -> dict[str, str]:
+    """The programs that come with the page, as files, by their titles."""
+    folder = os.path.join(TOP, "programs")
+    with open(os.path.join(TOP, "web", "examples.txt"), encoding="utf-8") as lines:
+        named = [line.split("|") for line in lines]
+    found = {title: os.path.join(folder, "examples", name) for name, title, _ in named}
+    for path in sorted(glob.glob(os.path.join(folder, "library", "*.trac"))):
+        with open(path[:-len("trac")] + "md", encoding="utf-8") as text:
+            found[text.readline().lstrip("# ").rstrip().replace("`", "")] = path
+    return found
+
+
+def check_titles(page: Deeds) -> None:
+    """Each that comes with the page is opened by its title, beside which stands what it shows; run, it prints what it
+    is to print, or as much of it as it prints before it waits for input."""
+    paths = titles()
+    there = sorted(glob.glob(os.path.join(TOP, "programs", "library", "*.trac"))
+                   + glob.glob(os.path.join(TOP, "programs", "examples", "*.trac")))
+    check(sorted(paths.values()) == there and len(there) > 30, "all have a title: {}".format(len(there)))
+    for title, path in paths.items():
+        line = page.script(OPEN.format(json.dumps(title))) or ""
+        check(len(line) > len(title) + 10, "{} says what it shows: {}".format(title, line))
+        name = os.path.basename(path)
+        page.until("document.getElementById('program-name').textContent === '{}'".format(name), name + " is opened")
+        with open(path, encoding="utf-8") as program:
+            check(page.script("document.getElementById('source').value") == program.read(), name + " is its text")
+        page.run()
+        out, printed, ending = path[:-len("trac")] + "out", page.text("output"), page.text("ending")
+        if not os.path.exists(out):
+            continue
+        with open(out, "rb") as wanted:
+            text = shown(wanted.read())
+        is_whole = ending.startswith("Done after ") and not os.path.exists(path[:-len("trac")] + "in")
+        check(text == printed if is_whole else text.startswith(printed),
+              "{} prints {!r}, and is to print {!r}".format(name, printed[:80], text[:80]))
+
+
+TRIED = rows(check_programs, check_titles, seconds=20)
