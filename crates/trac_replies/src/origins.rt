@@ -42,13 +42,18 @@ impl<W: Walks<A>, A: Allocator + Copy> Telling<'_, W, A> {
 
     // The same of what is meant, which has its place here, if anything stands there.
     fn place_into(&mut self, spot: Spot<'_>, place: Place<'_>) -> Result<(), AllocError> {
-        if !stands_at(&self.walker.sight(), self.walker.glance(), spot) {
-            return self.missing_into(spot);
+        if !self.has_place(spot) {
+            self.missing_into(spot)
+        } else if let Spot::Next = spot {
+            self.name_into(place)
+        } else {
+            self.followed_into(place)
         }
-        match spot {
-            Spot::Next => self.name_into(place),
-            _ => self.followed_into(place),
-        }
+    }
+
+    // Whether anything stands where it is meant.
+    fn has_place(&self, spot: Spot<'_>) -> bool {
+        stands_at(&self.walker.sight(), self.walker.glance(), spot)
     }
 
     /// The same of a place.
