@@ -1,19 +1,19 @@
 //! The last calls with their values.
 
 use crate::telling::Telling;
+use crate::walks::Walks;
 use std::alloc::{AllocError, Allocator};
-use trac_moves::{Aim, Walker};
 use trac_person_lines::{Before, ScreenLine, Stop, call_into, outcome_into};
-use trac_session::Refusal;
+use trac_rules::refusal::Refusal;
 use trac_sight::takes_default;
 
-impl<A: Allocator + Copy> Telling<'_, A> {
+impl<W: Walks<A>, A: Allocator + Copy> Telling<'_, W, A> {
     /// A line for each of the last calls of the program's own, the earliest first. It has the number of the step of the
     /// call, the call, and its value, cut to the screen unless they are wanted whole. It also says whether the value is
     /// its default argument. To find the calls it goes back, and then forward again to where it was. If a step is
     /// refused on the way, for memory alone, the lines end there, and it says why. If a step forward again is refused
-    /// too, it stays there. Last it says where the walker stands. The error is that memory was refused for the lines,
-    /// or to search a form for the text of `in`, here and below.
+    /// too, it stays there. Last it says where the walk stands. The error is that memory was refused for the lines, or
+    /// to search a form for the text of `in`, here and below.
     pub(crate) fn calls_into(&mut self, count: u64, is_whole: bool) -> Result<(), AllocError> {
         let end = self.walker.step();
         // The numbers of the steps are freed before it says why: that takes memory too, which may be scarce.
@@ -37,7 +37,7 @@ impl<A: Allocator + Copy> Telling<'_, A> {
         is_whole: bool,
         steps: &mut Vec<u64, A>,
     ) -> Result<Option<Refusal>, AllocError> {
-        let met = steps_into(self.walker, count, steps)?;
+        let met = steps_into(&mut self.walker, count, steps)?;
         if met.is_some() {
             return Ok(met);
         }
@@ -60,25 +60,32 @@ impl<A: Allocator + Copy> Telling<'_, A> {
         let mut call = line_of(self.alloc, is_whole);
         let depth = self.walker.glance().depth;
         call_into(self.walker.step(), depth, &self.walker.sight(), &mut call);
-        let taken = takes_default(&self.walker.sight(), self.walker.width());
-        let is_default = taken.map_err(|_| AllocError)?;
-        let before = Before::of(&self.walker.sight(), is_default);
+        let before = before_call(&self.walker)?;
         let why = self.walker.forward(1);
         let mut outcome = line_of(self.alloc, is_whole);
         outcome_into(before, why, &self.walker.sight(), &mut outcome);
-        call.end_before(outcome, self.out)
+        call.end_before(outcome, &mut self.out)
+    }
+}
+
+// What is kept of the call that is performed next, to tell its value from what stands around it.
+fn before_call<W: Walks<A>, A: Allocator + Copy>(walker: &W) -> Result<Before, AllocError> {
+    let sight = walker.sight();
+    match takes_default(&sight, walker.width()) {
+        Ok(is_default) => Ok(Before::of(&sight, is_default)),
+        Err(_) => Err(AllocError),
     }
 }
 
 // Goes back over so many calls, or all that there are, and puts the numbers of their steps at the end of these, the
 // latest first. Returns why a step was refused on the way forward again from where no more is met, if one was.
-fn steps_into<A: Allocator + Copy>(
-    walker: &mut Walker<A>,
+fn steps_into<W: Walks<A>, A: Allocator + Copy>(
+    walker: &mut W,
     count: u64,
     steps: &mut Vec<u64, A>,
 ) -> Result<Option<Refusal>, AllocError> {
     for _ in 0..count {
-        match walker.return_to(Aim::OwnCall) {
+        match walker.return_to_call() {
             None => steps.push(walker.step())?,
             Some(Refusal::NotMet) => return Ok(None),
             Some(refusal) => return Ok(Some(refusal)),

@@ -15,26 +15,26 @@ const FORM_LIMIT: usize = 65_536;
 
 /// A place of the state before the step of a number, with a number for the name of its form.
 #[derive(Clone, Copy, PartialEq, Eq, PartialOrd, Ord, Debug)]
-pub(crate) struct Post {
-    pub(crate) step: u64,
-    pub(crate) stand: Stand,
-    pub(crate) name: u64,
+pub struct Post {
+    pub step: u64,
+    pub stand: Stand,
+    pub name: u64,
 }
 
 /// From which step to which a form was seen not to change, but for its pointer, and how many items it has.
 #[derive(Clone, Copy, PartialEq, Eq, Debug)]
-pub(crate) struct Span {
-    pub(crate) from: u64,
-    pub(crate) to: u64,
-    pub(crate) len: usize,
+pub struct Span {
+    pub from: u64,
+    pub to: u64,
+    pub len: usize,
 }
 
 /// Since which step a form has not changed, at the latest, and over how many steps before that it is to be followed
 /// until what is known is looked at again.
 #[derive(Clone, Copy, PartialEq, Eq, Debug)]
-pub(crate) struct Since {
-    pub(crate) from: u64,
-    pub(crate) most: u64,
+pub struct Since {
+    pub from: u64,
+    pub most: u64,
 }
 
 // The last two spans of a form that are known.
@@ -46,7 +46,7 @@ struct Spans {
 
 /// What is known.
 #[derive(Drop)]
-pub(crate) struct Ways<A: Allocator + Copy> {
+pub struct Ways<A: Allocator + Copy> {
     // which byte of the files stands at a place of a form, and at one of another kind
     forms: BTreeMap<Post, u64, A>,
     others: BTreeMap<Post, u64, A>,
@@ -56,7 +56,7 @@ pub(crate) struct Ways<A: Allocator + Copy> {
 
 impl<A: Allocator + Copy> Ways<A> {
     /// Nothing is known. It takes no memory.
-    pub(crate) fn new(alloc: A) -> Self {
+    pub fn new(alloc: A) -> Self {
         Ways {
             forms: BTreeMap::new(alloc),
             others: BTreeMap::new(alloc),
@@ -65,7 +65,7 @@ impl<A: Allocator + Copy> Ways<A> {
     }
 
     /// Which byte of the files stands at a place, if that is known.
-    pub(crate) fn number(&self, post: Post) -> Option<u64> {
+    pub fn number(&self, post: Post) -> Option<u64> {
         let known = match post.stand {
             Stand::Form(_) => self.forms.get(&post),
             _ => self.others.get(&post),
@@ -74,7 +74,7 @@ impl<A: Allocator + Copy> Ways<A> {
     }
 
     /// Keeps which byte of the files stands at a place. The error is that memory was refused, here and below.
-    pub(crate) fn keep(&mut self, post: Post, number: u64) -> Result<(), AllocError> {
+    pub fn keep(&mut self, post: Post, number: u64) -> Result<(), AllocError> {
         match post.stand {
             Stand::Form(_) => keep_in(&mut self.forms, KNOWN_LIMIT, post, number),
             _ => keep_in(&mut self.others, KNOWN_LIMIT, post, number),
@@ -83,7 +83,7 @@ impl<A: Allocator + Copy> Ways<A> {
 
     /// Since when a form of this name is as it was seen to be over these steps. From now on that is known too, unless
     /// more is known of a later form of the name.
-    pub(crate) fn since(&mut self, name: u64, seen: Span) -> Result<Since, AllocError> {
+    pub fn since(&mut self, name: u64, seen: Span) -> Result<Since, AllocError> {
         let spans = match self.spans.get(&name) {
             Some(spans) if seen.to < spans.last.from => {
                 return Ok(Since {

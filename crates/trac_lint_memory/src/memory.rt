@@ -17,18 +17,18 @@ const UNPLACED_LIMIT: usize = 10;
 /// Which doubt is met, and where scanning stands then: how much is read, begun and left to scan. A loop mostly meets
 /// its doubts where it met them before, and two doubts of a program seldom stand so.
 #[derive(Clone, Copy, PartialEq, Eq, PartialOrd, Ord, Debug)]
-pub(crate) struct Meeting {
-    pub(crate) read: u64,
-    pub(crate) depth: usize,
-    pub(crate) rest: usize,
-    pub(crate) kind: Kind,
+pub struct Meeting {
+    pub read: u64,
+    pub depth: usize,
+    pub rest: usize,
+    pub kind: Kind,
     // a number of its words
-    pub(crate) words: u64,
+    pub words: u64,
 }
 
 /// The kind of a doubt, and the number that it has beside.
 #[derive(Clone, Copy, PartialEq, Eq, PartialOrd, Ord, Debug)]
-pub(crate) struct Kind {
+pub struct Kind {
     kind: u8,
     detail: usize,
 }
@@ -42,7 +42,7 @@ struct Place {
 
 /// What was met, and told or counted.
 #[derive(Drop)]
-pub(crate) struct Memory<A: Allocator + Copy> {
+pub struct Memory<A: Allocator + Copy> {
     alloc: A,
     // where doubts were met
     met: BTreeSet<Meeting, A>,
@@ -55,7 +55,7 @@ pub(crate) struct Memory<A: Allocator + Copy> {
 
 impl<A: Allocator + Copy> Memory<A> {
     /// Nothing was met. It takes no memory.
-    pub(crate) fn new(alloc: A) -> Self {
+    pub fn new(alloc: A) -> Self {
         Memory {
             alloc,
             met: BTreeSet::new(alloc),
@@ -66,7 +66,7 @@ impl<A: Allocator + Copy> Memory<A> {
     }
 
     /// Whether no doubt was met so before; from now on it was. The error is that memory was refused.
-    pub(crate) fn is_new(&mut self, meeting: Meeting) -> Result<bool, AllocError> {
+    pub fn is_new(&mut self, meeting: Meeting) -> Result<bool, AllocError> {
         if self.met.len() >= MEETING_LIMIT {
             return Ok(false);
         }
@@ -78,7 +78,7 @@ impl<A: Allocator + Copy> Memory<A> {
 
     /// Whether this doubt of the byte of this number is kept; or, if no number is known, whether it was told in these
     /// words or enough of its kind were told so. If no more places can be kept, each is taken for one that is.
-    pub(crate) fn is_kept(&self, doubt: Doubt, number: Option<u64>, words: &[u8]) -> bool {
+    pub fn is_kept(&self, doubt: Doubt, number: Option<u64>, words: &[u8]) -> bool {
         match number {
             Some(number) => {
                 self.places.len() >= KEPT_LIMIT || self.places.contains(&place_of(doubt, number))
@@ -97,7 +97,7 @@ impl<A: Allocator + Copy> Memory<A> {
     }
 
     /// Keeps this doubt of the byte of this number. The error is that memory was refused, here and below.
-    pub(crate) fn keep(&mut self, doubt: Doubt, number: u64) -> Result<(), AllocError> {
+    pub fn keep(&mut self, doubt: Doubt, number: u64) -> Result<(), AllocError> {
         match self.places.insert(place_of(doubt, number)) {
             Ok(_) => Ok(()),
             Err(_) => Err(AllocError),
@@ -105,12 +105,12 @@ impl<A: Allocator + Copy> Memory<A> {
     }
 
     /// Keeps that this doubt is told without a place.
-    pub(crate) fn keep_unplaced(&mut self, doubt: Doubt) -> Result<(), AllocError> {
+    pub fn keep_unplaced(&mut self, doubt: Doubt) -> Result<(), AllocError> {
         Ok(self.unplaced.push(kind_of(doubt))?)
     }
 
     /// Keeps that a doubt is told in these words.
-    pub(crate) fn keep_words(&mut self, words: &[u8]) -> Result<(), AllocError> {
+    pub fn keep_words(&mut self, words: &[u8]) -> Result<(), AllocError> {
         let words = Vec::from_slice(self.alloc, words)?;
         Ok(self.told.push(words)?)
     }
@@ -125,7 +125,7 @@ fn place_of(doubt: Doubt, number: u64) -> Place {
 }
 
 /// The kind of a doubt.
-pub(crate) fn kind_of(doubt: Doubt) -> Kind {
+pub fn kind_of(doubt: Doubt) -> Kind {
     let (kind, detail) = match doubt {
         Doubt::NoPrimitive => (0, 0),
         Doubt::FormUncalled => (1, 0),
@@ -143,7 +143,7 @@ pub(crate) fn kind_of(doubt: Doubt) -> Kind {
 }
 
 /// A number of words, by which they are told apart: two of the same number are taken for the same words.
-pub(crate) fn number_of(words: &[u8]) -> u64 {
+pub fn number_of(words: &[u8]) -> u64 {
     let mut hasher = FoldHasher::default();
     hasher.write(words);
     hasher.finish()

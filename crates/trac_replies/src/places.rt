@@ -1,18 +1,18 @@
 //! Steps to go back to.
 ghost use Rattle.std.specs.Prelude.{◌≡◌, [], MatchOption, OnOk};
-ghost use Rattle.trac_walk.specs.Places.{ArePassed, IsLatest, IsTaken, with_place};
+ghost use Rattle.trac_replies.specs.Places.{ArePassed, IsLatest, IsTaken, with_place};
 
 use std::alloc::{AllocError, Allocator};
 
 /// The steps at which moves began that can be taken back, the latest last.
 #[derive(Drop)]
-pub struct Places<A: Allocator + Copy> {
+pub(crate) struct Places<A: Allocator + Copy> {
     steps: Vec<u64, A>,
 }
 
 impl<A: Allocator + Copy> Places<A> {
     /// None. It takes no memory.
-    pub fn new(alloc: A) -> Self
+    pub(crate) fn new(alloc: A) -> Self
         ensures { result.steps.items ≡ [] }
     {
         Places {
@@ -21,7 +21,7 @@ impl<A: Allocator + Copy> Places<A> {
     }
 
     /// Keeps a place, unless it is this step, at which the walk stands. The error is that memory was refused.
-    pub fn keep(&mut self, place: u64, step: u64) -> Result<(), AllocError>
+    pub(crate) fn keep(&mut self, place: u64, step: u64) -> Result<(), AllocError>
         ensures { OnOk result (self.new.steps.items ≡ with_place place step self.old.steps.items) }
     {
         if place == step {
@@ -31,14 +31,14 @@ impl<A: Allocator + Copy> Places<A> {
     }
 
     /// The latest place that is another step than this and not before the first one that is kept.
-    pub fn latest(&self, step: u64, first_step: u64) -> Option<u64> {
+    pub(crate) fn latest(&self, step: u64, first_step: u64) -> Option<u64> {
         let at = latest_in(self.steps.as_slice(), step, first_step)?;
         self.steps.as_slice().get(at).copied()
     }
 
     /// Takes out the latest place that is another step than this and not before the first one that
     /// is kept, with all after it.
-    pub fn take(&mut self, step: u64, first_step: u64) -> Option<u64>
+    pub(crate) fn take(&mut self, step: u64, first_step: u64) -> Option<u64>
         ensures { IsTaken step first_step self.old.steps.items result self.new.steps.items }
     {
         let Some(at) = latest_in(self.steps.as_slice(), step, first_step) else {

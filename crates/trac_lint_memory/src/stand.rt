@@ -1,10 +1,10 @@
 //! Where a byte stands, without the name of its form.
 
-use trac_follow::Place;
+use trac_follow_step::Place;
 
 /// A place without the name of its form. It borrows nothing.
 #[derive(Clone, Copy, PartialEq, Eq, PartialOrd, Ord, Debug)]
-pub(crate) enum Stand {
+pub enum Stand {
     /// A byte of the active text.
     Active(usize),
     /// A byte of the base text.
@@ -21,7 +21,7 @@ pub(crate) enum Stand {
 
 impl Stand {
     /// That of a place.
-    pub(crate) fn of(place: Place<'_>) -> Self {
+    pub fn of(place: Place<'_>) -> Self {
         match place {
             Place::Active(i) => Stand::Active(i),
             Place::Base(i) => Stand::Base(i),
@@ -37,7 +37,7 @@ impl Stand {
     }
 
     /// The place with this name of its form, which says nothing if it is in none.
-    pub(crate) fn place(self, name: &[u8]) -> Place<'_> {
+    pub fn place(self, name: &[u8]) -> Place<'_> {
         match self {
             Stand::Active(i) => Place::Active(i),
             Stand::Base(i) => Place::Base(i),

@@ -1,31 +1,25 @@
 //! The doubts of the next step, with their places.
 
-use crate::calls_told::LINE_COUNT;
-use crate::origins::{Unsaid, is_idle, origin_of, read_as};
-use crate::tracing::traced;
+use crate::origins::{is_idle, origin_of, read_as};
+use crate::telling::LINE_COUNT;
+use crate::walks::{End, Walks};
 use std::alloc::{AllocError, Allocator};
-use trac_follow::End;
-use trac_moves::{Walker, place_of};
 use trac_person_lines::{Origin, ScreenLine, doubt_into, left_out_into, origin_into};
-use trac_session::Doubt;
+use trac_rules::doubt::Doubt;
 
 /// Puts a line for each doubt of the next step at the end of a text: what is said of it, and the place from which it
 /// comes; at most 30, and how many are left out. For the places it goes back, and forward again. The error is that
 /// memory was refused, here and below.
-pub fn doubts_into<A: Allocator + Copy>(
+pub fn doubts_into<W: Walks<A>, A: Allocator + Copy>(
     alloc: A,
-    walker: &mut Walker<A>,
+    walker: &mut W,
     program: &[u8],
     out: &mut Vec<u8, A>,
 ) -> Result<(), AllocError> {
     let doubts = walker.doubts(alloc)?;
     for number in 0..doubts.len().min(LINE_COUNT) {
         let doubt = doubts[number];
-        let mut line = ScreenLine::new(alloc);
-        doubt_into(&walker.sight(), doubt, &mut line);
-        let mut place = ScreenLine::new(alloc);
-        place_into(alloc, walker, program, doubt, &mut place)?;
-        line.end_before(place, out)?;
+        doubt_line_into(alloc, walker, program, doubt, out)?;
     }
     match doubts.len().saturating_sub(LINE_COUNT) {
         0 => Ok(()),
@@ -33,17 +27,32 @@ pub fn doubts_into<A: Allocator + Copy>(
     }
 }
 
-// Where the byte comes from that a doubt is about, after a sign; nothing if there is none.
-fn place_into<A: Allocator + Copy>(
+// The same of one of them.
+fn doubt_line_into<W: Walks<A>, A: Allocator + Copy>(
     alloc: A,
-    walker: &mut Walker<A>,
+    walker: &mut W,
+    program: &[u8],
+    doubt: Doubt,
+    out: &mut Vec<u8, A>,
+) -> Result<(), AllocError> {
+    let mut line = ScreenLine::new(alloc);
+    doubt_into(&walker.sight(), doubt, &mut line);
+    let mut place = ScreenLine::new(alloc);
+    place_into(alloc, walker, program, doubt, &mut place)?;
+    line.end_before(place, out)
+}
+
+// Where the byte comes from that a doubt is about, after a sign; nothing if there is none.
+fn place_into<W: Walks<A>, A: Allocator + Copy>(
+    alloc: A,
+    walker: &mut W,
     program: &[u8],
     doubt: Doubt,
     line: &mut ScreenLine<A>,
 ) -> Result<(), AllocError> {
     let end = walker.step();
-    let place = place_of(walker, doubt);
-    let found = traced(alloc, walker, place, &mut Unsaid).end;
+    let place = walker.place_doubted(doubt);
+    let found = walker.follow(alloc, place);
     let source = walker.step();
     let origin = match found {
         End::Untold | End::Memory => return Err(AllocError),
@@ -60,14 +69,14 @@ fn place_into<A: Allocator + Copy>(
     Ok(())
 }
 
-// Where a byte comes from, to which the walker has gone back. For a byte of the idle program that is the text that it
+// Where a byte comes from, to which the walk has gone back. For a byte of the idle program that is the text that it
 // reads. That text begins at the first unread byte that is no blank and no line end, or at the next one if there is
 // none.
-fn written_at<A: Allocator + Copy>(walker: &Walker<A>, program: &[u8], end: End) -> Origin {
-    if !is_idle(walker, &end) {
-        return origin_of(walker, program, end);
+fn written_at<W: Walks<A>, A: Allocator + Copy>(walker: &W, program: &[u8], end: End) -> Origin {
+    if !is_idle(walker, end) {
+        return origin_of(program, end);
     }
-    let read = walker.input_number(walker.sight().position);
+    let read = walker.input_number();
     let skipped = walker
         .unread()
         .iter()

@@ -1,9 +1,9 @@
 //! The begun calls, and where each was written.
 
-use crate::calls_told::LINE_COUNT;
-use crate::telling::Telling;
+use crate::telling::{LINE_COUNT, Telling};
+use crate::walks::Walks;
 use std::alloc::{AllocError, Allocator};
-use trac_follow::Place;
+use trac_follow_step::Place;
 use trac_person_lines::{Stop, begun_line, left_out_into, origin_into};
 
 // Of many so many of the outermost are shown, and of the innermost as many as there are lines for.
@@ -11,7 +11,7 @@ const OUTER_COUNT: usize = 8;
 
 const INNER_COUNT: usize = LINE_COUNT - OUTER_COUNT - 1;
 
-impl<A: Allocator + Copy> Telling<'_, A> {
+impl<W: Walks<A>, A: Allocator + Copy> Telling<'_, W, A> {
     /// A line for each begun call, the outermost first, at most 30, and how many are left out: the call, and where its
     /// name was written, as far as the walk can tell. For that it goes back, and forward again to where it was. If a
     /// step is refused there, for memory alone, the lines end, and it says why. The error is that memory was refused,
@@ -23,7 +23,7 @@ impl<A: Allocator + Copy> Telling<'_, A> {
         }
         let inner = if depth > LINE_COUNT {
             self.begun_from(0, OUTER_COUNT, depth)?;
-            left_out_into(self.alloc, depth - OUTER_COUNT - INNER_COUNT, self.out)?;
+            left_out_into(self.alloc, depth - OUTER_COUNT - INNER_COUNT, &mut self.out)?;
             depth - INNER_COUNT
         } else {
             0
@@ -56,7 +56,7 @@ impl<A: Allocator + Copy> Telling<'_, A> {
             Err(Stop::NoName) => line.say(b"it has no name yet"),
             Err(stop) => return Ok(Some(stop)),
         }
-        line.end_into(self.out)?;
+        line.end_into(&mut self.out)?;
         Ok(None)
     }
 }
