@@ -251,6 +251,16 @@ class Made(Case):
         run = ran([TOP / "node" / "assemble", "--compare"])
         self.ends("node/assemble --compare", run, b"1 passed, 0 failed\n")
 
+    def test_takes_nothing_of_the_system(self) -> None:
+        """It takes four parts of Node, and no addon, file or program beside these: so no C library but Node's own.
+        (Its module has no imports either: all rows give it none.)"""
+        text = FILE.read_text(encoding="utf-8")
+        taken = re.findall(r'^import .* from "(.*)";$', text, re.M)
+        self.same("what it takes", " ".join(taken), "node:fs node:tty node:zlib node:url")
+        self.same("how often", str(len(re.findall(r"\bimport\b(?!\.meta)", text))), str(len(taken)))
+        found = re.findall(r"\brequire\(|createRequire|dlopen|process\.binding|child_process|\.node\b", text)
+        self.same("what else may take something", " ".join(found), "")
+
 
 class Streams(InNode):
     """The file itself, as a process."""
