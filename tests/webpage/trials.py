@@ -23,6 +23,13 @@ DOUBTED = "[...CSS.highlights.get('doubtful') ?? []].map((range) => range.toStri
 # Whether two elements stand side by side.
 BESIDE = """(([one, other]) => one.top < other.bottom && other.top < one.bottom)(
   ['{}', '{}'].map((id) => document.getElementById(id).getBoundingClientRect()))"""
+# How far the first letter of what a step did reaches out to the left, and how much room it has there.
+REACH = """(() => {
+  const word = document.querySelector('#last b'), pen = document.createElement('canvas').getContext('2d');
+  pen.font = getComputedStyle(word).font;
+  const left = (it) => it.getBoundingClientRect().left;
+  return [pen.measureText('J').actualBoundingBoxLeft, left(word) - left(document.getElementById('rules'))];
+})()"""
 
 
 def check_arguments(page: Deeds) -> None:
@@ -61,6 +68,16 @@ def check_both(page: Deeds) -> None:
     check(seen == [True, True], "both sentences are seen: {}".format(seen))
 
 
+def check_letter(page: Deeds) -> None:
+    """The J of "Just done" is not cut off; in the large view neither."""
+    page.type("#(ps,a)'")
+    page.run()
+    for view in ("one window", "the large view"):
+        reach, room = page.script(REACH)
+        check(0 < reach <= room, "{}: it reaches {} pixels out, and has {}".format(view, reach, room))
+        page.script("document.getElementById('big').click()")
+
+
 def check_heads(page: Deeds) -> None:
     """On a phone Run stands beside the name of the program, and the buttons of a lesson beside its title."""
     page.script(EXERCISE)
@@ -89,5 +106,5 @@ def check_lines(page: Deeds) -> None:
                "return it.textContent.length === 9 && it.scrollHeight <= it.clientHeight + 1; })()", "all are seen")
 
 
-TRIED = (rows(check_arguments, check_main, check_stray) + rows(check_both, width=1280, height=800)
+TRIED = (rows(check_arguments, check_main, check_stray, check_letter) + rows(check_both, width=1280, height=800)
          + rows(check_end, width=1024, height=700) + rows(check_heads, check_lines, width=390, height=844))
