@@ -79,7 +79,8 @@ def check_letter(page: Deeds) -> None:
 
 
 def check_heads(page: Deeds) -> None:
-    """On a phone Run stands beside the name of the program, and the buttons of a lesson beside its title."""
+    """On a phone and in a small window Run stands beside the name of the program, and the buttons of a lesson beside
+    its title."""
     page.script(EXERCISE)
     page.until("document.getElementById('lesson-title').textContent.startsWith('Exercise')", "an exercise is open")
     for one, other in (("lesson-title", "lesson-before"), ("lesson-before", "lesson-close")):
@@ -107,4 +108,5 @@ def check_lines(page: Deeds) -> None:
 
 
 TRIED = (rows(check_arguments, check_main, check_stray, check_letter) + rows(check_both, width=1280, height=800)
-         + rows(check_end, width=1024, height=700) + rows(check_heads, check_lines, width=390, height=844))
+         + rows(check_end, width=1024, height=700) + rows(check_heads, name="-small", width=1024, height=700)
+         + rows(check_heads, check_lines, width=390, height=844))
