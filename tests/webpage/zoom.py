@@ -9,8 +9,8 @@ from webpage.rows import CHROMIUM, rows
 from webpage.window import OUTSIDE
 
 # Windows at 200 percent, in pixels of the page: of 1280 by 800, 1024 by 700, 1920 by 1080; and of twice the sizes that
-# the page fills.
-SMALL = ((640, 400), (512, 350), (960, 540))
+# the page fills. (A phone is among the small ones.)
+SMALL = ((640, 400), (512, 350), (960, 540), (390, 844))
 FILLED = ((1024, 700), (1280, 800), (1920, 1080))
 # What is cut off or wider than its place: not the text beside the mark and rows of the tree, whose ends are cut, nor
 # words that a small window leaves out.
