@@ -68,6 +68,15 @@ def check_both(page: Deeds) -> None:
     check(seen == [True, True], "both sentences are seen: {}".format(seen))
 
 
+def check_idle(page: Deeds) -> None:
+    """A byte of the idle program, which stands there once a run is done, comes from that."""
+    page.type("#(ps,a)'")
+    page.run()
+    page.click("document.querySelector('#neutral [data-byte]')")
+    page.until("document.getElementById('way-list').textContent === 'step 15the idle program begins, which has it'",
+               "where it comes from")
+
+
 def check_letter(page: Deeds) -> None:
     """The J of "Just done" is not cut off; in the large view neither."""
     page.type("#(ps,a)'")
@@ -107,6 +116,7 @@ def check_lines(page: Deeds) -> None:
                "return it.textContent.length === 9 && it.scrollHeight <= it.clientHeight + 1; })()", "all are seen")
 
 
-TRIED = (rows(check_arguments, check_main, check_stray, check_letter) + rows(check_both, width=1280, height=800)
-         + rows(check_end, width=1024, height=700) + rows(check_heads, name="-small", width=1024, height=700)
+TRIED = (rows(check_arguments, check_main, check_stray, check_idle, check_letter)
+         + rows(check_both, width=1280, height=800) + rows(check_end, width=1024, height=700)
+         + rows(check_heads, name="-small", width=1024, height=700)
          + rows(check_heads, check_lines, width=390, height=844))
