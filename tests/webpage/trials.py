@@ -108,6 +108,18 @@ def check_end(page: Deeds) -> None:
                "&& it.scrollTop + it.clientHeight >= it.scrollHeight - 2; })()", "the last lines are in view")
 
 
+def check_tabs(page: Deeds) -> None:
+    """In a small window the tabs stand in one row, where many calls are listed and a byte is followed, too."""
+    page.put("#(nosuch)'#(ds,L,(#(ps,x)#(cl,L)))'#(cl,L)'")
+    page.run()
+    page.click("document.querySelector('#neutral [data-byte]:last-child')")
+    page.until("/^\\d{2,3},/.test(document.querySelector('#tab-tree .count').textContent) && "
+               "document.querySelector('#tab-doubts .alarm') && document.querySelector('#tab-way .count').textContent",
+               "all is counted")
+    tops = page.script("[...document.querySelectorAll('#tabs button')].map((it) => it.getBoundingClientRect().top)")
+    check(len(tops) == 5 and len(set(tops)) == 1, "where they stand: {}".format(tops))
+
+
 def check_lines(page: Deeds) -> None:
     """On a phone some lines of output are seen without scrolling them."""
     page.type("#(ps,(1\n2\n3\n4\n5))'")
@@ -117,6 +129,6 @@ def check_lines(page: Deeds) -> None:
 
 
 TRIED = (rows(check_arguments, check_main, check_stray, check_idle, check_letter)
-         + rows(check_both, width=1280, height=800) + rows(check_end, width=1024, height=700)
+         + rows(check_both, width=1280, height=800) + rows(check_end, check_tabs, width=1024, height=700)
          + rows(check_heads, name="-small", width=1024, height=700)
          + rows(check_heads, check_lines, width=390, height=844))
