@@ -108,6 +108,23 @@ def check_end(page: Deeds) -> None:
                "&& it.scrollTop + it.clientHeight >= it.scrollHeight - 2; })()", "the last lines are in view")
 
 
+def check_doubted(page: Deeds) -> None:
+    """On a phone, where the tabs are out of the window, doubts are told beside the output, and lead to the list; and of
+    what is done without printing it is not said that nothing is printed yet."""
+    page.type("#(prnt,Hello)'")
+    page.run()
+    button = "document.getElementById('doubted')"
+    page.until(button + ".textContent === '1 doubt' && " + button + ".checkVisibility()", "it is told")
+    check(page.text("output-note") == "nothing is printed", "what is said: " + page.text("output-note"))
+    check(page.script(button + ".getBoundingClientRect().bottom < innerHeight"), "it is in the window")
+    page.click(button)
+    page.until("document.activeElement.id === 'tab-doubts' && document.getElementById('doubts').checkVisibility()",
+               "the list is shown")
+    page.type("#(ps,Hello)'")
+    page.run()
+    check(page.script(button + ".hidden"), "without doubts nothing is told")
+
+
 def check_tabs(page: Deeds) -> None:
     """In a small window the tabs stand in one row, where many calls are listed and a byte is followed, too."""
     page.put("#(nosuch)'#(ds,L,(#(ps,x)#(cl,L)))'#(cl,L)'")
@@ -131,4 +148,4 @@ def check_lines(page: Deeds) -> None:
 TRIED = (rows(check_arguments, check_main, check_stray, check_idle, check_letter)
          + rows(check_both, width=1280, height=800) + rows(check_end, check_tabs, width=1024, height=700)
          + rows(check_heads, name="-small", width=1024, height=700)
-         + rows(check_heads, check_lines, width=390, height=844))
+         + rows(check_heads, check_doubted, check_lines, width=390, height=844))
