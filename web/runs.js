@@ -139,7 +139,11 @@ export class Runs {
   /** @param {Begin} wanted @param {Came} came @param {string} words */
   async takePartial(wanted, came, words) {
     const budget = came.end;
-    if (!came.window) return this.perform({ ...wanted, budget, from: budget });
+    if (!came.window) {
+      const anew = this.perform({ ...wanted, budget, from: budget });
+      this.page.view.showWords(`${STOPPED} Its states are large: it is run anew up to step ${grouped(budget)}.`);
+      return anew;
+    }
     const run = this.runOf({ ...wanted, budget }, { ...came, stand: "stopped" });
     const states = await run.story.around(run.end, run.end);
     if (this.began === null) this.take(run, states, words === STOPPED ? "" : `${words} `);

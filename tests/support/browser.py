@@ -72,7 +72,8 @@ class Browser(Waiting):
             targets = self.call("Target.getTargets")["targetInfos"]
             self.target = next(one for one in targets if one["type"] == "page")["targetId"]
             self.become(**looks)
-        except OSError:
+        except BaseException:
+            self.process.kill()
             self.end()
             raise
 

@@ -106,9 +106,12 @@ class Firefox(Waiting):
             self.inside(NOTED)
             self.call("WebDriver:Navigate", url="about:blank")
             self.become(**looks)
-        except (OSError, Missed) as fault:
+        except BaseException as fault:
+            self.process.kill()
             self.end()
-            raise Gone("Firefox does not begin: {}".format(fault)) from None
+            if isinstance(fault, (OSError, Missed)):
+                raise Gone("Firefox does not begin: {}".format(fault)) from None
+            raise
 
     def can_be(self, **_: object) -> bool:
         """Whether it can have these looks without a new process."""

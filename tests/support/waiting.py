@@ -12,16 +12,16 @@ from support.cases import SILENCE, patience  # noqa: F401
 PATIENCE = 25
 # Looks in the page again and again, but for some seconds at most, until this holds, and tells what it came to. (Each
 # question from outside takes more of a processor than some looks there.)
-LOOKS = """(async () => {
+LOOKS = """(async () => {{
   const end = performance.now() + 5000;
-  AFTER
-  for (let pause = 2; ; pause = Math.min(pause * 1.5, 16)) {
-    const told = await (TEST
+  {}
+  for (let pause = 2; ; pause = Math.min(pause * 1.5, 16)) {{
+    const told = await ({}
 );
     if (told || performance.now() > end) return told;
     await new Promise((done) => setTimeout(done, pause));
-  }
-})()"""
+  }}
+}})()"""
 # Has a page that is left ask nothing, and keep nothing for the next one.
 LEFT = """(() => {
   const kinds = ['beforeunload', 'pagehide'];
@@ -71,14 +71,13 @@ class Waiting:
         """Waits until a script tells that this holds, and returns what it tells; if need be, after statements that the
         page is to do first. Else what comes after cannot be tried."""
         began = time.monotonic()
-        look = LOOKS.replace("TEST", test)
-        told = self.script(look.replace("AFTER", after))
+        told = self.script(LOOKS.format(after, test))
         while not told:
             passed = time.monotonic() - began
             if passed > PATIENCE and passed > patience(PATIENCE):
                 self.compare(test)
                 raise Missed("{}: {}, within {:.0f} seconds; {}".format(self.name, what, passed, self.where()))
-            told = self.script(look.replace("AFTER", ""))
+            told = self.script(LOOKS.format("", test))
         return told
 
     def comes(self, test: str, what: str) -> Any:

@@ -90,6 +90,11 @@ module _ {K A : Type 0} (name : K → List ℕ) (old : Vec (K × Form) A) (held 
       (subst AreApart (ap (named name) items ∙ named-append name new.items (option_to_list last)) apart)
 
   -- a new one pushed
+  pub pushed : (new : Vec (K × Form) A) (key : K) (form : Form) → new.items ≡ old.items ++ (key, form) ∷ [] → named name new.items ≡ held ++ (name key, form) ∷ []
+  pushed new key form items =
+      ap (named name) items ∙ named-append name old.items ((key, form) ∷ []) ∙ ap (λ (h : Held). h ++ (name key, form) ∷ []) is
+
+  -- and its name is told apart from the others
   pub apart_with : (new : Vec (K × Form) A) (key : K) (form : Form) → new.items ≡ old.items ++ (key, form) ∷ [] →
       list_any (λ entry. bytes_eq (name key) entry.0) held ≡ false → AreApart (named name old.items) → AreApart (named name new.items)
   apart_with new key form items other apart =

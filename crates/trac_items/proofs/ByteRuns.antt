@@ -2,7 +2,7 @@
 use Rattle.std.proofs.Common.{◌≡◌, ℕ, zero, suc, ◌+◌, ◌<◌, ◌≤◌, Bool, true, List, [], ◌∷◌, ◌++◌, length, take, drop, get_or, false, refl, sym, ap, ◌∙◌, arith}
 use Rattle.std.specs.Prelude.{◌||◌, Some, slice_get}
 use Rattle.std.proofs.lemmas.Grind.{flat_map-append}
-use Rattle.std.proofs.lemmas.List.{append_assoc, length-append, take_more}
+use Rattle.std.proofs.lemmas.List.{append_assoc, drop_more, length-append, take_more}
 use Rattle.std.proofs.lemmas.Option.{same_Some}
 use Rattle.trac_rules.specs.declared.item.Item.{Item}
 use Rattle.trac_rules.specs.declared.item.Item.TheVariants.{Byte, Gap}
@@ -32,6 +32,10 @@ gap_count-append (Gap k w ∷ xs) ys = omega (arith, gap_count-append xs ys)
 no_gap : (item : Item) → is_gap item ≡ false → gap_count (item ∷ []) ≡ 0
 no_gap (Byte b) h = refl
 no_gap (Gap k w) h = absurd cc
+
+is_byte : (item : Item) → gap_count (item ∷ []) ≡ 0 → is_gap item ≡ false
+is_byte (Byte b) h = refl
+is_byte (Gap k w) h = let none : ⊥ = omega (arith, h) in absurd none
 
 one_gap : (item : Item) → is_gap item ≡ true → gap_count (item ∷ []) ≡ 1
 one_gap (Byte b) h = absurd cc
@@ -69,6 +73,25 @@ pub record IsLeft (run rest : List Item) (old new : List ℕ) (len capacity : �
   pub put : new ++ bytes_in rest ≡ old ++ bytes_in run
   pub bytes : gap_count rest ≡ 0
   pub room : len + length rest ≤ capacity
+
+-- some bytes more of it are put
+pub chunk_put : (run rest chunk after : List Item) (old new newer : List ℕ) (len capacity longer room : ℕ) → IsLeft run rest old new len capacity → rest ≡ chunk ++ after → newer ≡ new ++ bytes_in chunk →
+    longer ≡ len + length chunk → capacity ≤ room → IsLeft run after old newer longer room
+chunk_put run rest chunk after old new newer len capacity longer room left seam put counted stays = record {
+  put = front_put rest chunk after seam new newer put ∙ left.put;
+  bytes = rest_plain rest chunk after seam left.bytes;
+  room = omega (arith, left.room, counted, stays, ap length seam, length-append chunk after);
+}
+
+-- one item more of it is a byte, and is put
+module _ (run rest : List Item) (old new : List ℕ) (len capacity i : ℕ) (item : Item) (l : i < length rest) (left : IsLeft run (drop i rest) old new len capacity) where
+  pub left_byte : is_gap (get_or rest i item) ≡ false
+  left_byte = is_byte (get_or rest i item) (front_plain (drop i rest) (get_or rest i item ∷ []) (drop (i + 1) rest) (drop_more rest i item l) left.bytes)
+
+  pub byte_put : (b : ℕ) (newer : List ℕ) (longer room : ℕ) → get_or rest i item ≡ Byte b → newer ≡ new ++ b ∷ [] → longer ≡ len + 1 → capacity ≤ room → IsLeft run (drop (i + 1) rest) old newer longer room
+  byte_put b newer longer room is put counted stays =
+      chunk_put run (drop i rest) (Byte b ∷ []) (drop (i + 1) rest) old new newer len capacity longer room left
+      (drop_more rest i item l ∙ ap (λ (x : Item). x ∷ drop (i + 1) rest) is) put counted stays
 
 -- neither of two
 pub neither : (a b : Bool) → (a || b) ≡ false → (a ≡ false) × (b ≡ false)

@@ -1,9 +1,9 @@
 -- Gaps in a run of bytes: how they are read off a form, made text by text, and where those that are made stand in the end.
-use Rattle.std.proofs.Common.{◌≡◌, ◌⊎◌, ℕ, ◌+◌, ◌-◌, ◌<◌, ◌≤◌, Bool, true, false, List, [], ◌∷◌, ◌++◌, length, take, drop, refl, sym, ap, subst, ◌∙◌, arith, inr, zero-add, ⊎_elim}
+use Rattle.std.proofs.Common.{◌≡◌, ◌⊎◌, ℕ, ◌+◌, ◌-◌, ◌<◌, ◌≤◌, Bool, true, false, List, [], ◌∷◌, ◌++◌, length, take, drop, get_or, refl, sym, ap, subst, ◌∙◌, arith, inr, zero-add, ⊎_elim}
 use Rattle.std.specs.Prelude.{None, Some, ◌==◌, if◌then◌else◌}
 use Rattle.std.specs.List.{All}
 use Rattle.std.proofs.lemmas.Bool.{eq-eqb, ne_eqb}
-use Rattle.std.proofs.lemmas.List.{append_assoc, append-nil, drop-append-le, drop-drop, drop-take, drop_all, length-append, length-drop, length-map, length-take-le, map-append, take-append-drop, take_all, take_at}
+use Rattle.std.proofs.lemmas.List.{append_assoc, append-nil, drop-append-le, drop-drop, drop-take, drop_all, drop_more, length-append, length-drop, length-map, length-take-le, map-append, take-append-drop, take_all, take_at}
 use Rattle.std.proofs.lemmas.List.Elements.{All-nil, All-cons, All-append, All-head, All-tail, All-weaker}
 use Rattle.std.proofs.Math.Seq.{take-take}
 use Rattle.memchr.specs.Find.{FindsNeedle}
@@ -186,6 +186,11 @@ pub record IsMixedSoFar (k : ℕ) (text run : List ℕ) (all out : List RunGap) 
   pub each : All IsGap out
   pub counted : spanned out + length rest ≡ length run
   pub ahead : AreWithin (length rest) left
+
+pub mixed_starts : (k : ℕ) (text run : List ℕ) (all out : List RunGap) → out ≡ [] → AreWithin (length run) all → IsMixedSoFar k text run all out run all
+mixed_starts k text run all out none within =
+    subst (λ (gaps : List RunGap). IsMixedSoFar k text run all gaps run all) (sym none)
+    (record { items = refl; old = refl; here = refl; each = All-nil IsGap; counted = omega arith; ahead = within })
 
 module _ (k : ℕ) (text run : List ℕ) (all : List RunGap) where
   module _ (out : List RunGap) (rest : List ℕ) (left : List RunGap) (so_far : IsMixedSoFar k text run all out rest left) where
@@ -431,3 +436,36 @@ module _ (items : List Item) (run : List ℕ) (gaps : List RunGap) (before : ℕ
         short = omega (arith, so_far.short, length-append items (gap_item ∷ []));
         old = subst (All IsOld) (sym put) (All-append IsOld gaps (gap ∷ []) so_far.old (All-cons IsOld gap [] old (All-nil IsOld)));
       }
+
+-- ---- the places of the gaps that are made
+
+-- one gap more is passed
+module _ (gaps : List RunGap) (i place : ℕ) (l : i < length gaps) where
+  abbrev next : RunGap
+  next = get_or gaps i no_gap
+
+  left_is : drop i gaps ≡ next ∷ drop (i + 1) gaps
+  left_is = drop_more gaps i no_gap l
+
+  abbrev placed_if : Bool → List CutGap
+  placed_if old = if old then [] else record { place = place + next.passed; ordinal = next.ordinal } ∷ []
+
+  module _ (before all : List CutGap) (so_far : before ++ gaps_from place (drop i gaps) ≡ all) where
+    passed_on : (old : Bool) → (next.taken == 0) ≡ old → (newer : List CutGap) → newer ≡ before ++ placed_if old → newer ++ gaps_from (place + next.passed + 1) (drop (i + 1) gaps) ≡ all
+    passed_on old is newer put =
+        let later = gaps_from (place + next.passed + 1) (drop (i + 1) gaps) in
+        ap (λ (cuts : List CutGap). cuts ++ later) put
+        ∙ append_assoc before (placed_if old) later
+        ∙ ap (λ b. before ++ (placed_if b ++ later)) (sym is)
+        ∙ ap (λ (rest : List RunGap). before ++ gaps_from place rest) (sym left_is)
+        ∙ so_far
+
+    pub placed_on : 0 < next.taken → (newer : List CutGap) → newer ≡ before ++ record { place = place + next.passed; ordinal = next.ordinal } ∷ [] →
+        newer ++ gaps_from (place + next.passed + 1) (drop (i + 1) gaps) ≡ all
+    placed_on made newer put = passed_on false (ne_eqb next.taken 0 (λ none. absurd (omega (arith, none, made)))) newer put
+
+    pub left_out : next.taken ≡ 0 → (newer : List CutGap) → newer ≡ before → newer ++ gaps_from (place + next.passed + 1) (drop (i + 1) gaps) ≡ all
+    left_out old newer put = passed_on true (eq-eqb next.taken 0 old) newer (put ∙ sym (append-nil before))
+
+  pub place_within : (most : ℕ) → place + spanned (drop i gaps) ≤ most + i → place + next.passed + 1 + spanned (drop (i + 1) gaps) ≤ most + (i + 1)
+  place_within most within = omega (arith, within, ap spanned left_is)

@@ -3,14 +3,11 @@
 #![tactic(auto)]
 
 mod linting;
-mod memory;
 mod near;
 mod origins;
 mod scout;
-mod stand;
 mod texts;
 mod track;
-mod ways;
 
 pub use linting::{Settings, lint};
 pub use trac_places::{Found, Halt, PLACE_LIMIT, Sources};

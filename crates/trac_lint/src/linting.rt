@@ -3,13 +3,13 @@ ghost use Rattle.std.specs.Prelude.{◌≡◌, ◌≤◌, ◌<◌};
 ghost use Rattle.trac_places.specs.Findings.{IsWritten};
 ghost use Rattle.trac_places.specs.declared.report.TheConstants.{PLACE_LIMIT};
 
-use crate::memory::{Meeting, Memory, kind_of, number_of};
 use crate::near::{definition_of, near_name};
 use crate::origins::Origins;
 use crate::scout::Run;
 use crate::texts::{read_number, text_before, text_read};
 use std::alloc::{AllocError, Allocator};
 use std::io::Write;
+use trac_lint_memory::{Meeting, Memory, kind_of, number_of};
 use trac_moves::{Aim, Walker};
 use trac_person_lines::{ScreenLine, doubt_into};
 use trac_places::{Found, Halt, Report, Sources, advice_on, write_found};

@@ -2,9 +2,9 @@
 
 use crate::scout::{Run, Scout};
 use crate::track::{Next, Track};
-use crate::ways::{Post, Ways};
 use std::alloc::Allocator;
 use trac_follow::Place;
+use trac_lint_memory::Ways;
 use trac_moves::{Walker, place_of};
 use trac_places::Sources;
 use trac_rules::doubt::Doubt;

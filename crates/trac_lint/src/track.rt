@@ -1,11 +1,9 @@
 //! The way of one byte back to the byte of the files that it comes from.
 
-use crate::memory::number_of;
-use crate::stand::Stand;
 use crate::texts::{read_number, text_from};
-use crate::ways::{Post, Since, Span, Ways};
 use std::alloc::{AllocError, Allocator};
 use trac_follow::{Place, Source, follow};
+use trac_lint_memory::{Post, Since, Span, Stand, Ways, number_of};
 use trac_moves::{Walker, place_of};
 use trac_places::Sources;
 use trac_rules::doubt::Doubt;

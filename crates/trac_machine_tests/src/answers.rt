@@ -5,14 +5,48 @@ ghost use Rattle.trac_rules.specs.Proper.{IsProper};
 ghost use Rattle.trac_rules.specs.Weights.{weight};
 ghost use Rattle.trac_step.specs.Record.{recorded_by};
 
-use crate::machines::{let_go, made};
+use crate::machines::SubjectOver;
 use std::alloc::{Allocator, Global};
 use std::process::Abort;
-use trac_gap::{GapBuf, TwoEnds};
+use trac_gap::TwoEnds;
 use trac_prims::{Change, Effect, Now, plan};
 use trac_rules::limit::{MARK_LIMIT, OUTPUT_LIMIT};
 use trac_rules::width::Width;
-use trac_step::{Core, Mark, Record, Tape};
+use trac_step::{Core, Machine, Mark, Record, Tape};
+
+// What these tests ask a machine over memory of this kind. Helpers are over any type of this kind, as in `machines`.
+trait Asked<A: Allocator + Copy>: SubjectOver<A> {
+    // The next step over this input, which has not ended. Its record is let go.
+    fn go_on(&mut self, rt: &impl Abort, input: &[u8]);
+
+    // Whether the next step is an idle one that empties this text alone.
+    fn goes_on_idly(&mut self, rt: &impl Abort, input: &[u8], wanted: &[u8]) -> bool;
+
+    // Takes two steps: what the record of the second weighs.
+    fn second_weight(&mut self, rt: &impl Abort, input: &[u8]) -> usize;
+
+    // Whether the call that comes next over this input will do this; with it whether calls are printed.
+    fn next_does(&self, rt: &impl Abort, alloc: A, call: (&[u8], bool), wanted: &Wanted) -> bool;
+}
+
+impl<E: TwoEnds<u8, A>, M: TwoEnds<Mark, A>, A: Allocator + Copy> Asked<A> for Core<E, M, A> {
+    fn go_on(&mut self, rt: &impl Abort, input: &[u8]) {
+        take_step(rt, self, input);
+    }
+
+    fn goes_on_idly(&mut self, rt: &impl Abort, input: &[u8], wanted: &[u8]) -> bool {
+        is_idle(&next(rt, self, input), wanted)
+    }
+
+    fn second_weight(&mut self, rt: &impl Abort, input: &[u8]) -> usize {
+        take_step(rt, self, input);
+        next(rt, self, input).weight()
+    }
+
+    fn next_does(&self, rt: &impl Abort, alloc: A, call: (&[u8], bool), wanted: &Wanted) -> bool {
+        does(&planned(rt, alloc, self, call), wanted)
+    }
+}
 
 // Takes the next step over this input, which has not ended. The state after it is within all limits, as it always is,
 // so the record of the one after that weighs no more than fits.
@@ -44,15 +78,15 @@ fn take_step<E: TwoEnds<u8, A>, M: TwoEnds<Mark, A>, A: Allocator + Copy>(
 }
 
 // A machine after so many steps over this input.
-fn machine_after<E: TwoEnds<u8, A>, M: TwoEnds<Mark, A>, A: Allocator + Copy>(
+fn machine_after<S: Asked<A>, A: Allocator + Copy>(
     rt: &impl Abort,
     alloc: A,
     input: &[u8],
     count: u64,
-) -> Core<E, M, A> {
-    let mut machine = made(alloc).expect(rt, "there was no memory");
+) -> S {
+    let mut machine = S::new_one(alloc).expect(rt, "there was no memory");
     for _ in 0..count {
-        take_step(rt, &mut machine, input);
+        machine.go_on(rt, input);
     }
     machine
 }
@@ -65,30 +99,19 @@ fn is_idle<A: Allocator + Copy>(taken: &Record<A>, wanted: &[u8]) -> bool {
     }
 }
 
-// Whether the next step is an idle one that empties this text alone.
-fn next_is_idle<E: TwoEnds<u8, A>, M: TwoEnds<Mark, A>, A: Allocator + Copy>(
-    rt: &impl Abort,
-    machine: &mut Core<E, M, A>,
-    input: &[u8],
-    wanted: &[u8],
-) -> bool {
-    is_idle(&next(rt, machine, input), wanted)
-}
-
 // Inputs, the number of an idle step, and the base text that it empties. The `ps` of the idle program has ended by
 // then; a stray `)` ends it early, so that `b` and `c` are base text.
 const IDLE_STEPS: &[(&[u8], u64, &[u8])] = &[(b"AB'", 12, b""), (b"a)b,c'", 15, b"bc")];
 
-fn expect_idle<E: TwoEnds<u8, A>, M: TwoEnds<Mark, A>, A: Allocator + Copy>(
+fn expect_idle<S: Asked<A>, A: Allocator + Copy>(
     rt: &impl Abort,
     alloc: A,
     input: &[u8],
     number: u64,
     wanted: &[u8],
 ) {
-    let mut machine: Core<E, M, A> = machine_after(rt, alloc, input, number.saturating_sub(1));
-    let is_met = next_is_idle(rt, &mut machine, input, wanted);
-    let_go(machine);
+    let mut machine: S = machine_after(rt, alloc, input, number.saturating_sub(1));
+    let is_met = machine.goes_on_idly(rt, input, wanted);
     assert!(rt; is_met, "step {number} of {input:?}");
 }
 
@@ -106,33 +129,20 @@ const WEIGHTS: &[(&[u8], u64, usize)] = &[
     (b"#(ds,a,1)'#(dd,a)'", 32, 7),
 ];
 
-// What the record of the next step weighs.
-fn next_weight<E: TwoEnds<u8, A>, M: TwoEnds<Mark, A>, A: Allocator + Copy>(
-    rt: &impl Abort,
-    machine: &mut Core<E, M, A>,
-    input: &[u8],
-) -> usize
-    requires { IsProper machine.old.state }
-{
-    next(rt, machine, input).weight()
-}
-
 // The record of the step of this number weighs so much.
-fn expect_weight<E: TwoEnds<u8, A>, M: TwoEnds<Mark, A>, A: Allocator + Copy>(
+fn expect_weight<S: Asked<A>, A: Allocator + Copy>(
     rt: &impl Abort,
     alloc: A,
     input: &[u8],
     number: u64,
     wanted: usize,
 ) {
-    let mut machine: Core<E, M, A> = machine_after(rt, alloc, input, number.saturating_sub(2));
-    take_step(rt, &mut machine, input);
-    let weight = next_weight(rt, &mut machine, input);
+    let mut machine: S = machine_after(rt, alloc, input, number.saturating_sub(2));
+    let weight = machine.second_weight(rt, input);
     assert!(rt;
         weight == wanted,
         "step {number} of {input:?} weighs {weight}"
     );
-    let_go(machine);
 }
 
 /// What a call will do, which keeps all forms and blocks.
@@ -236,45 +246,30 @@ fn does<A: Allocator + Copy>(effect: &Effect<A>, wanted: &Wanted) -> bool {
         && matches!(effect.change, Change::Keep)
 }
 
-// Whether the call that comes next will do this.
-fn next_does<E: TwoEnds<u8, A>, M: TwoEnds<Mark, A>, A: Allocator + Copy>(
-    rt: &impl Abort,
-    alloc: A,
-    machine: &Core<E, M, A>,
-    call: (&[u8], bool),
-    wanted: &Wanted,
-) -> bool {
-    does(&planned(rt, alloc, machine, call), wanted)
-}
-
-fn expect_planned<E: TwoEnds<u8, A>, M: TwoEnds<Mark, A>, A: Allocator + Copy>(
+fn expect_planned<S: Asked<A>, A: Allocator + Copy>(
     rt: &impl Abort,
     alloc: A,
     (input, steps, trace): (&[u8], u64, bool),
     wanted: &Wanted,
 ) {
-    let machine: Core<E, M, A> = machine_after(rt, alloc, input, steps);
-    let is_met = next_does(rt, alloc, &machine, (input, trace), wanted);
-    let_go(machine);
+    let machine: S = machine_after(rt, alloc, input, steps);
+    let is_met = machine.next_does(rt, alloc, (input, trace), wanted);
     assert!(rt; is_met, "{input:?}");
 }
 
-fn expect_answers<E: TwoEnds<u8, A>, M: TwoEnds<Mark, A>, A: Allocator + Copy>(
-    rt: &impl Abort,
-    alloc: A,
-) {
+fn expect_answers<S: Asked<A>, A: Allocator + Copy>(rt: &impl Abort, alloc: A) {
     for (input, number, wanted) in IDLE_STEPS.iter() {
-        expect_idle::<E, M, A>(rt, alloc, input, *number, wanted);
+        expect_idle::<S, A>(rt, alloc, input, *number, wanted);
     }
     for (input, number, wanted) in WEIGHTS.iter() {
-        expect_weight::<E, M, A>(rt, alloc, input, *number, *wanted);
+        expect_weight::<S, A>(rt, alloc, input, *number, *wanted);
     }
     for (input, steps, trace, wanted) in PLANS.iter() {
-        expect_planned::<E, M, A>(rt, alloc, (*input, *steps, *trace), wanted);
+        expect_planned::<S, A>(rt, alloc, (*input, *steps, *trace), wanted);
     }
 }
 
 #[test]
 fn records_and_plans(rt: HostRuntime) {
-    expect_answers::<GapBuf<u8>, GapBuf<Mark>, Global>(&rt, rt.alloc());
+    expect_answers::<Machine, Global>(&rt, rt.alloc());
 }

@@ -10,7 +10,7 @@ ghost use Rattle.trac_step.specs.Room.{HasRoom, IsNoLess};
 ghost use Rattle.trac_rules.specs.declared.width.Width.TheVariants.{W128};
 
 use crate::Memory;
-use crate::machines::{expect_shown, let_go, shown_by};
+use crate::machines::{expect_shown, shown_by};
 use std::alloc::{Allocator, Global};
 use std::process::Abort;
 use trac_faults::Refusing;
@@ -145,6 +145,12 @@ fn loaded_after<E: TwoEnds<u8, A>, M: TwoEnds<Mark, A>, A: Allocator + Copy>(
     };
     assert!(rt; parts.each_gathers());
     Core::load(alloc, &parts, Width::W128)
+}
+
+// Lets a machine go. A function that owns one ends with this call, since its own proof would else carry all that is
+// freed.
+fn let_go<E: TwoEnds<u8, A>, M: TwoEnds<Mark, A>, A: Allocator + Copy>(machine: Core<E, M, A>) {
+    let _last = machine;
 }
 
 // A machine that is loaded from the parts of the state after a walk goes back over that walk.

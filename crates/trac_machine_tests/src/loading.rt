@@ -1,16 +1,14 @@
 //! A machine that is loaded from the parts of a state: it shows that state, and each request for memory is refused in
 //! turn. Parts that are at a limit are loaded, and parts that pass it are refused.
 use crate::Memory;
-use crate::machines::{expect_shown, let_go};
+use crate::machines::{SubjectOver, expect_shown};
 use std::alloc::{Allocator, Global};
 use std::process::Abort;
 use trac_faults::Refusing;
 use trac_forms::{Form, Item};
-use trac_gap::{GapBuf, TwoEnds};
 use trac_rules::limit::{BLOCK_LIMIT, MARK_LIMIT, NAME_LIMIT, OUTPUT_LIMIT, TEXT_LIMIT};
 use trac_rules::refusal::Refusal;
-use trac_rules::width::Width;
-use trac_step::{Core, Kind, Mark, Parts};
+use trac_step::{Kind, Machine, Parts};
 
 /// A form with its name.
 type Named<A> = (Vec<u8, A>, Form<A>);
@@ -137,29 +135,20 @@ fn rich<A: Allocator + Copy>(rt: &impl Abort, alloc: A) -> Parts<A> {
     }
 }
 
-fn load<E: TwoEnds<u8, A>, M: TwoEnds<Mark, A>, A: Allocator + Copy>(
-    rt: &impl Abort,
-    alloc: A,
-    parts: &Parts<A>,
-) -> Result<Core<E, M, A>, Refusal> {
-    assert!(rt; parts.each_gathers());
-    Core::load(alloc, parts, Width::W128)
-}
-
 // Why no machine is made.
-fn unloaded<E: TwoEnds<u8, A>, M: TwoEnds<Mark, A>, A: Allocator + Copy>(
+fn unloaded<S: SubjectOver<A>, A: Allocator + Copy>(
     rt: &impl Abort,
     alloc: A,
     parts: &Parts<A>,
 ) -> Option<Refusal> {
-    match load::<E, M, A>(rt, alloc, parts) {
+    match S::loaded(rt, alloc, parts) {
         Ok(_machine) => None,
         Err(refusal) => Some(refusal),
     }
 }
 
 // Each request for memory is refused in turn: how many runs that takes.
-fn refusals_of<E: TwoEnds<u8, A>, M: TwoEnds<Mark, A>, A: Allocator + Copy>(
+fn refusals_of<S: SubjectOver<A>, A: Allocator + Copy>(
     rt: &impl Abort,
     memory: Memory<'_>,
     alloc: A,
@@ -168,7 +157,7 @@ fn refusals_of<E: TwoEnds<u8, A>, M: TwoEnds<Mark, A>, A: Allocator + Copy>(
     for nth in 1..MOST_REQUESTS {
         let refusals = memory.refusals();
         memory.refuse_nth(nth);
-        let refusal = unloaded::<E, M, A>(rt, alloc, parts);
+        let refusal = unloaded::<S, A>(rt, alloc, parts);
         memory.accept_all();
         if memory.refusals() == refusals {
             return nth;
@@ -178,25 +167,22 @@ fn refusals_of<E: TwoEnds<u8, A>, M: TwoEnds<Mark, A>, A: Allocator + Copy>(
     MOST_REQUESTS
 }
 
-fn expect_rich<E: TwoEnds<u8, A>, M: TwoEnds<Mark, A>, A: Allocator + Copy>(
+fn expect_rich<S: SubjectOver<A>, A: Allocator + Copy>(
     rt: &(impl Abort + AllocGlobal),
     memory: Memory<'_>,
     alloc: A,
 ) {
     let parts = rich(rt, alloc);
-    let runs = refusals_of::<E, M, A>(rt, memory, alloc, &parts);
+    let runs = refusals_of::<S, A>(rt, memory, alloc, &parts);
     assert!(rt; 10 < runs && runs < MOST_REQUESTS);
-    let machine = load::<E, M, A>(rt, alloc, &parts).expect(rt, "the parts were refused");
+    let machine = S::loaded(rt, alloc, &parts).expect(rt, "the parts were refused");
     expect_shown(rt, rt.alloc(), &machine, SHOWN);
-    let_go(machine);
 }
 
 #[test]
 fn a_rich_state(rt: HostRuntime) {
     let memory = Refusing::new(rt.alloc());
-    expect_rich::<GapBuf<u8, Memory<'_>>, GapBuf<Mark, Memory<'_>>, Memory<'_>>(
-        &rt, &memory, &memory,
-    );
+    expect_rich::<Machine<Memory<'_>>, Memory<'_>>(&rt, &memory, &memory);
 }
 
 /// A part that has a limit.
@@ -311,7 +297,7 @@ fn texts_of<A: Allocator + Copy>(
 }
 
 // Parts at these limits are loaded, and parts that pass them by one are refused.
-fn expect_limits<E: TwoEnds<u8, A>, M: TwoEnds<Mark, A>, A: Allocator + Copy>(
+fn expect_limits<S: SubjectOver<A>, A: Allocator + Copy>(
     rt: &impl Abort,
     alloc: A,
     long: &[u8],
@@ -325,24 +311,24 @@ fn expect_limits<E: TwoEnds<u8, A>, M: TwoEnds<Mark, A>, A: Allocator + Copy>(
     };
     for (limited, limit) in limits {
         let at = (*limited, limit.saturating_add(more));
-        let refusal = unloaded::<E, M, A>(rt, alloc, &parts_at(rt, alloc, long, at));
+        let refusal = unloaded::<S, A>(rt, alloc, &parts_at(rt, alloc, long, at));
         assert!(rt; refusal == wanted, "{limited:?}");
     }
 }
 
-fn expect_all_limits<E: TwoEnds<u8, A>, M: TwoEnds<Mark, A>, A: Allocator + Copy>(
+fn expect_all_limits<S: SubjectOver<A>, A: Allocator + Copy>(
     rt: &impl Abort,
     alloc: A,
     long: &[u8],
 ) {
-    expect_limits::<E, M, A>(rt, alloc, long, LIMITS, 0);
-    expect_limits::<E, M, A>(rt, alloc, long, LIMITS, 1);
-    expect_limits::<E, M, A>(rt, alloc, long, LONG_NAME, 1);
+    expect_limits::<S, A>(rt, alloc, long, LIMITS, 0);
+    expect_limits::<S, A>(rt, alloc, long, LIMITS, 1);
+    expect_limits::<S, A>(rt, alloc, long, LONG_NAME, 1);
 }
 
 #[test]
 fn limits_of_parts(rt: HostRuntime) {
     // no text or name may be as long
     let long = vec![in rt.alloc(); b'a'; 16_777_217].expect(&rt, "there was no memory");
-    expect_all_limits::<GapBuf<u8>, GapBuf<Mark>, Global>(&rt, rt.alloc(), long.as_slice());
+    expect_all_limits::<Machine, Global>(&rt, rt.alloc(), long.as_slice());
 }

@@ -1,14 +1,15 @@
 -- What a window shows of the output, as it is made, walked and cut.
 use Rattle.std.proofs.Common.{◌≡◌, ℕ, ◌+◌, ◌-◌, ◌^◌, false, List, [], ◌++◌, length, min, sym, ap, subst, ◌∙◌, arith}
 use Rattle.std.specs.Prelude.{Some}
-use Rattle.std.proofs.lemmas.List.{length-append}
+use Rattle.std.proofs.lemmas.List.{append-nil, length-append}
+use Rattle.trac_rules.specs.declared.reply.Reply.TheVariants.{Done}
 use Rattle.trac_rules.specs.declared.width.Width.{Width}
 use Rattle.trac_rules.specs.Session.{PlainSession, Back, Commit, End, Feed, Step, answer, done, first_kept, new_session, repeated}
 use Rattle.trac_rules.proofs.GoingOn.{after_repeated}
 use Rattle.trac_rules.proofs.Released.{length-committed}
 use Rattle.trac_rules.proofs.Replies.{Commit_done, End_done, Feed_done}
 use Rattle.trac_session.specs.Outputs.{HasReleased}
-use Rattle.trac_session.proofs.Released.{back_released, commit_released, end_released, last_on_tape, new_released, stepped_released}
+use Rattle.trac_session.proofs.Released.{answered_released, back_released, commit_released, end_released, last_on_tape, new_released, stepped_released}
 use Rattle.trac_session.proofs.Returned.{back_count}
 use Rattle.trac_moves.specs.Windows.{IsWindow}
 
@@ -40,6 +41,15 @@ pub ended : (input text : List ℕ) (steps forgotten released : ℕ) (p q : Plai
     IsWindow input steps text forgotten released q
 ended input text steps forgotten released p q w h =
     record { has = end_released input text steps p q w.has h; steps_forgotten = omega (arith, w.steps_forgotten, ap (λ (r : PlainSession). length r.earlier) (End_done p q h)); bytes_forgotten = w.bytes_forgotten }
+
+-- more input
+pub fed : (bytes input text : List ℕ) (steps forgotten released : ℕ) (p q : PlainSession) → IsWindow input steps text forgotten released p → answer (Feed bytes) p ≡ done q →
+    IsWindow (input ++ bytes) steps text forgotten released q
+fed bytes input text steps forgotten released p q w h = record {
+  has = subst (λ (all : List ℕ). HasReleased (input ++ bytes) steps all q) (append-nil text) (answered_released (Feed bytes) Done input text steps p q w.has h);
+  steps_forgotten = omega (arith, w.steps_forgotten, ap (λ (r : PlainSession). length r.earlier) (Feed_done bytes p q h).0);
+  bytes_forgotten = w.bytes_forgotten;
+}
 
 -- some of the steps are kept, and the others counted
 pub kept : (keep forgotten released forgets releases : ℕ) (p q : PlainSession) (input text : List ℕ) (steps : ℕ) → IsWindow input steps text forgotten released p → answer (Commit keep) p ≡ done q →

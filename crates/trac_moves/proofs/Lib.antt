@@ -1,4 +1,6 @@
+pub mod InRun
 pub mod Kept
 pub mod Searched
 pub mod SearchedOn
+pub mod Standing
 pub mod SteppedBack

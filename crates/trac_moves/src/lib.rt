@@ -12,4 +12,4 @@ pub use aim::Aim;
 pub use doubted::place_of;
 pub use searching::Search;
 pub use walker::Walker;
-pub use window::{Window, windows_are_walked};
+pub use window::{Window, windows_are_walked, windows_show_what_steps_print};

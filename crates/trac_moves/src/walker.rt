@@ -1,8 +1,13 @@
 //! A walker: a session whose way back never stops a walk, and where it stands.
-ghost use Rattle.std.specs.Prelude.{◌≡◌, ◌≤◌, length, not, true, IfErr, None, OnOk};
+ghost use Rattle.std.specs.Prelude.{◌≡◌, ◌≤◌, ◌++◌, ℕ, length, not, false, true, IfErr, IfOk, None, OnOk, Some};
+ghost use Rattle.trac_rules.specs.Session.{Step, repeated};
+ghost use Rattle.trac_rules.specs.State.{Tape};
+ghost use Rattle.trac_streams.specs.Escapes.{feed};
 ghost use Rattle.trac_streams.specs.Tape.{MayRefuseTape};
 ghost use Rattle.trac_moves.specs.Aims.{MeetsAim, goal_of_aim};
 ghost use Rattle.trac_moves.specs.Steps.{number_of_step};
+ghost use Rattle.trac_moves.specs.Walkers.{IsBackward, IsForward, IsReturned, IsTo, IsTowards, Moves, Stands};
+ghost use Rattle.trac_moves.specs.Walkers.{refusal_said};
 
 use crate::aim::{Aim, goal_for};
 use crate::window::Window;
@@ -48,6 +53,7 @@ impl<A: Allocator + Copy> Walker<A> {
         requires most_records { limit ≤ JOURNAL_LIMIT }
         ensures made { OnOk result (length tape.now ≤ TAPE_LIMIT) }
         ensures refused { IfErr result (MayRefuseTape tape.now) }
+        ensures stands { IfOk result (Stands (record { bytes = tape.now; ended = false }) width 0) }
     {
         let window = Window::over(alloc, tape, JOURNAL_LIMIT, width)?;
         let Ok(input) = Vec::from_slice(alloc, tape) else {
@@ -85,7 +91,9 @@ impl<A: Allocator + Copy> Walker<A> {
     }
 
     /// How wide the program's numbers are.
-    pub fn width(&self) -> Width {
+    pub fn width(&self) -> Width
+        ensures { result ≡ self.now.window.session.width }
+    {
         self.window.session.width()
     }
 
@@ -100,7 +108,9 @@ impl<A: Allocator + Copy> Walker<A> {
     }
 
     /// What is printed and not released.
-    pub fn pending(&self) -> &[u8] {
+    pub fn pending(&self) -> &[u8]
+        ensures { result.now ≡ self.now.window.session.last.output }
+    {
         self.window.session.pending()
     }
 
@@ -118,12 +128,16 @@ impl<A: Allocator + Copy> Walker<A> {
     }
 
     /// The first step that one can go back to.
-    pub fn first_step(&self) -> u64 {
+    pub fn first_step(&self) -> u64
+        ensures { result ≡ self.now.window.forgotten }
+    {
         self.window.forgotten
     }
 
     /// How many bytes of the output were printed before the first step that one can go back to.
-    pub fn released(&self) -> u64 {
+    pub fn released(&self) -> u64
+        ensures { result ≡ self.now.window.released }
+    {
         self.window.released
     }
 
@@ -158,7 +172,10 @@ impl<A: Allocator + Copy> Walker<A> {
 
     /// Adds a line to the input.
     /// Refused, with nothing changed, as `Closed` after the end of the input, as `TooLong` and as `Memory`.
-    pub fn feed(&mut self, alloc: A, text: &[u8]) -> Result<(), Refusal> {
+    pub fn feed(&mut self, alloc: A, text: &[u8]) -> Result<(), Refusal>
+        ensures { OnOk result ((input : Tape) (width : Width) (steps : ℕ) → Stands input width steps self.old →
+            Stands (record input { bytes = input.bytes ++ (text.now ++ feed) }) width steps self.new) }
+    {
         let Ok(line) = with_line_feed(alloc, text) else {
             return Err(Refusal::Memory);
         };
@@ -166,11 +183,11 @@ impl<A: Allocator + Copy> Walker<A> {
         let Ok(()) = self.input.extend_from_slice(line.as_slice()) else {
             return Err(Refusal::Memory);
         };
-        let fed = self.window.session.feed(line.as_slice());
-        if fed.is_err() {
+        if let Err(refusal) = self.window.session.feed(line.as_slice()) {
             self.input.truncate(len);
+            return Err(refusal);
         }
-        fed
+        Ok(())
     }
 
     /// Which byte of all input that of this number of the tape is, the first being number 0.
@@ -196,26 +213,34 @@ impl<A: Allocator + Copy> Walker<A> {
     }
 
     /// Ends the input.
-    pub fn end_input(&mut self) {
+    pub fn end_input(&mut self)
+        ensures { (input : Tape) (width : Width) (steps : ℕ) → Stands input width steps self.old →
+            Stands (record input { ended = true }) width steps self.new }
+    {
         self.has_ended = true;
         self.window.session.end();
     }
 
     /// Goes forward by so many steps, until one is refused, which is returned.
-    pub fn forward(&mut self, most: u64) -> Option<Refusal> {
+    pub fn forward(&mut self, most: u64) -> Option<Refusal>
+        ensures { Moves (IsForward most result) self.old self.new }
+    {
         self.go(None, most)
     }
 
     /// Goes forward to a goal, by so many steps at most, until one is refused, which is returned. Returns `NotMet` if
     /// the steps were taken and the goal was not met.
     pub fn forward_to(&mut self, aim: Aim<'_>, most: u64) -> Option<Refusal>
-        ensures { result ≡ None → goal_of_aim aim.entry self.new.window.session.last ≡ true }
+        ensures moved { Moves (IsTowards most) self.old self.new }
+        ensures met { result ≡ None → goal_of_aim aim.entry self.new.window.session.last ≡ true }
     {
         self.go(Some(aim), most)
     }
 
     /// Goes to this step, forward or back, until a step is refused, which is returned.
-    pub fn go_to(&mut self, step: u64) -> Option<Refusal> {
+    pub fn go_to(&mut self, step: u64) -> Option<Refusal>
+        ensures { Moves (IsTo step result) self.old self.new }
+    {
         let now = self.step();
         if step < now {
             self.back(now - step)
@@ -225,17 +250,21 @@ impl<A: Allocator + Copy> Walker<A> {
     }
 
     /// Goes forward as far as no step has to be forgotten for it, or until one is refused, which is returned.
-    pub fn look_ahead(&mut self) -> Option<Refusal> {
+    pub fn look_ahead(&mut self) -> Option<Refusal>
+        ensures { Moves (λ steps after. steps ≤ after) self.old self.new }
+    {
         let room = self.room();
         walk_on(&mut self.window.session, None, room, self.weight).why
     }
 
     // Goes forward, to a goal if there is one, walk by walk: after each that ended for want of room it makes room.
     fn go(&mut self, aim: Option<Aim<'_>>, most: u64) -> Option<Refusal>
-        ensures { result ≡ None → MeetsAim aim.entry self.new.window.session.last }
+        ensures moved { Moves (IsTowards most) self.old self.new }
+        ensures all { aim.entry ≡ None → Moves (IsForward most result) self.old self.new }
+        ensures met { result ≡ None → MeetsAim aim.entry self.new.window.session.last }
     {
         let mut left = most;
-        for _ in 0..u64::MAX {
+        for _turn in 0..u64::MAX {
             if left == 0 {
                 break;
             }
@@ -248,8 +277,8 @@ impl<A: Allocator + Copy> Walker<A> {
             left = left.saturating_sub(walk.done);
         }
         match aim {
-            Some(_) => Some(Refusal::NotMet),
-            None => None,
+            None if left == 0 => None,
+            _ => Some(Refusal::NotMet),
         }
     }
 
@@ -261,7 +290,8 @@ impl<A: Allocator + Copy> Walker<A> {
     // Whether a walk goes on that has ended so, with a goal or without one: the journal was full or weighed enough,
     // there is room for the output now, or some steps of a search were taken.
     fn goes_on(&mut self, walk: Walk, has_aim: bool) -> bool
-        ensures { walk.why ≡ None → (result ≡ not has_aim) × (self.new ≡ self.old) }
+        ensures moved { Moves (λ steps after. after ≡ steps) self.old self.new }
+        ensures ended { walk.why ≡ None → (result ≡ not has_aim) × (self.new ≡ self.old) }
     {
         match walk.why {
             None => !has_aim,
@@ -273,13 +303,17 @@ impl<A: Allocator + Copy> Walker<A> {
     }
 
     /// Goes back over so many steps, or all that there are; the refusal is `AtStart`.
-    pub fn back(&mut self, steps: u64) -> Option<Refusal> {
+    pub fn back(&mut self, steps: u64) -> Option<Refusal>
+        ensures { Moves (IsBackward steps result) self.old self.new }
+    {
         self.window.session.back(steps).why
     }
 
     /// Goes back to a goal, and forward again if it is not met on the way back: then `NotMet` is returned. If a step
     /// was refused on the way forward again, the walker stands there, and that refusal is returned.
-    pub fn return_to(&mut self, aim: Aim<'_>) -> Option<Refusal> {
+    pub fn return_to(&mut self, aim: Aim<'_>) -> Option<Refusal>
+        ensures { Moves (IsReturned result) self.old self.new }
+    {
         refusal_of(self.window.session.return_to(goal_for(aim)))
     }
 
@@ -294,19 +328,31 @@ impl<A: Allocator + Copy> Walker<A> {
     }
 
     /// Forgets all but the last steps, so many as are kept.
-    pub fn forget_surplus(&mut self) {
-        if self.window.session.len() > self.limit {
-            self.window.keep_steps(self.limit);
+    pub fn forget_surplus(&mut self)
+        ensures { Moves (λ steps after. after ≡ steps) self.old self.new }
+    {
+        if self.window.session.len() <= self.limit {
+            return;
         }
+        self.window.keep_steps(self.limit);
     }
 
-    // Forgets the older half of the steps that are kept, if there are enough, and as often as their records weigh too
-    // much.
-    fn make_room(&mut self) {
-        if self.window.session.len() >= self.limit {
-            self.window.keep_steps(self.limit / 2);
+    // Forgets the older half of the steps that are kept, if there are enough.
+    fn make_step_room(&mut self)
+        ensures { Moves (λ steps after. after ≡ steps) self.old self.new }
+    {
+        if self.window.session.len() < self.limit {
+            return;
         }
-        for _ in 0..usize::BITS {
+        self.window.keep_steps(self.limit / 2);
+    }
+
+    // The same, and as often as their records weigh too much.
+    fn make_room(&mut self)
+        ensures { Moves (λ steps after. after ≡ steps) self.old self.new }
+    {
+        self.make_step_room();
+        for _turn in 0..usize::BITS {
             if !self.window.lighten(self.weight) {
                 return;
             }
@@ -316,7 +362,9 @@ impl<A: Allocator + Copy> Walker<A> {
 
     // Forgets the older half of the journal if that is why the next step is refused: what it prints has no room.
     // Whether it did; it may take several times, until the output of the steps that are left is short enough.
-    fn make_output_room(&mut self) -> bool {
+    fn make_output_room(&mut self) -> bool
+        ensures { Moves (λ steps after. after ≡ steps) self.old self.new }
+    {
         let len = self.window.session.len();
         if len == 0 || !lacks_output_room(self.window.session.machine()) {
             return false;
@@ -338,7 +386,9 @@ fn walk_on<A: Allocator + Copy>(
     most: u64,
     weight: u64,
 ) -> Walk
-    ensures { result.why ≡ None → MeetsAim aim.entry session.new.last }
+    ensures within { result.done ≤ most }
+    ensures walked { repeated Step result.done session.old ≡ Some session.new }
+    ensures met { result.why ≡ None → MeetsAim aim.entry session.new.last }
 {
     match aim {
         Some(aim) => session.forward_to_within(goal_for(aim), most, weight),
@@ -347,7 +397,9 @@ fn walk_on<A: Allocator + Copy>(
 }
 
 // Why a walk back did not meet its goal.
-fn refusal_of(outcome: Return) -> Option<Refusal> {
+fn refusal_of(outcome: Return) -> Option<Refusal>
+    ensures { result ≡ refusal_said outcome }
+{
     match outcome {
         Return::Met(_) => None,
         Return::NotMet => Some(Refusal::NotMet),
@@ -356,7 +408,9 @@ fn refusal_of(outcome: Return) -> Option<Refusal> {
 }
 
 // A text as a line.
-fn with_line_feed<A: Allocator + Copy>(alloc: A, text: &[u8]) -> Result<Vec<u8, A>, AllocError> {
+fn with_line_feed<A: Allocator + Copy>(alloc: A, text: &[u8]) -> Result<Vec<u8, A>, AllocError>
+    ensures { IfOk result (λ line. line.items ≡ text.now ++ feed) }
+{
     let mut line = Vec::from_slice(alloc, text)?;
     line.push(LINE_FEED)?;
     Ok(line)

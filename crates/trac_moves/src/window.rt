@@ -1,11 +1,13 @@
 //! A session whose last steps are kept, with counts of what is forgotten.
 ghost use Rattle.std.specs.Prelude.{◌≡◌, ◌+◌, ◌-◌, ◌/◌, ◌^◌, ◌<◌, ◌≤◌, ◌↔◌, ℕ, List, [], ◌++◌, length, true, false};
-ghost use Rattle.std.specs.Prelude.{IfErr, IfOk, OnOk, Some};
+ghost use Rattle.std.specs.Prelude.{IfErr, IfOk, OnOk, Some, min};
 ghost use Rattle.trac_rules.specs.Session.{Back, Commit, End, Feed, PlainSession, Step, answer, done};
 ghost use Rattle.trac_rules.specs.Session.{first_kept, new_session, repeated};
 ghost use Rattle.trac_rules.specs.Weights.{weights_from};
+ghost use Rattle.trac_session.specs.Outputs.{Prints};
 ghost use Rattle.trac_streams.specs.Tape.{MayRefuseTape};
-ghost use Rattle.trac_moves.specs.Windows.{IsWindow};
+ghost use Rattle.trac_moves.specs.Steps.{number_of_step};
+ghost use Rattle.trac_moves.specs.Windows.{IsOver, IsWindow, StaysOver};
 
 use std::alloc::Allocator;
 use trac_rules::limit::{JOURNAL_LIMIT, TAPE_LIMIT};
@@ -36,6 +38,7 @@ impl<A: Allocator + Copy> Window<A> {
         ensures begun { IfOk result (λ w. answer (Feed tape.now) (new_session limit width) ≡ done w.session) }
         ensures fresh { IfOk result (λ w. (w.forgotten ≡ 0) × (w.released ≡ 0)) }
         ensures output { IfOk result (λ w. IsWindow tape.now 0 [] w.forgotten w.released w.session) }
+        ensures over { IfOk result (IsOver (record { bytes = tape.now; ended = false }) width 0) }
         ensures refused { IfErr result (MayRefuseTape tape.now) }
     {
         if tape.len() > TAPE_LIMIT {
@@ -64,6 +67,7 @@ impl<A: Allocator + Copy> Window<A> {
             IsWindow input steps text self.old.forgotten self.old.released self.old.session →
             IsWindow input steps (text ++ (first_kept keep self.old.session).output)
             self.new.forgotten self.new.released self.new.session }
+        ensures over { StaysOver self.old self.new }
     {
         let steps = self.session.len().saturating_sub(keep);
         let released = forget_before(&mut self.session, keep);
@@ -91,6 +95,7 @@ impl<A: Allocator + Copy> Window<A> {
             (text ++ (first_kept (length self.old.session.earlier / 2) self.old.session).output)
             self.new.forgotten self.new.released self.new.session }
         ensures stayed { result ≡ false → self.new ≡ self.old }
+        ensures over { StaysOver self.old self.new }
     {
         let len = self.session.len();
         if len < 2 || self.session.weight() <= most {
@@ -101,8 +106,8 @@ impl<A: Allocator + Copy> Window<A> {
     }
 }
 
-/// If the session of a window goes forward or back, or its input ends, what it has released stays,
-/// and is still what the window has counted.
+/// If the session of a window goes forward or back, or is fed, or its input ends, what it has released stays, and is
+/// still what the window has counted.
 pub fn windows_are_walked()
     ensures forward { (n : ℕ) (input text : List ℕ) (steps forgotten released : ℕ) (p q : PlainSession) →
         IsWindow input steps text forgotten released p → repeated Step n p ≡ Some q →
@@ -110,9 +115,23 @@ pub fn windows_are_walked()
     ensures back { (n : ℕ) (input text : List ℕ) (steps forgotten released : ℕ) (p q : PlainSession) →
         IsWindow input steps text forgotten released p → repeated Back n p ≡ Some q →
         IsWindow input (steps - n) text forgotten released q }
+    ensures fed { (bytes input text : List ℕ) (steps forgotten released : ℕ) (p q : PlainSession) →
+        IsWindow input steps text forgotten released p → answer (Feed bytes) p ≡ done q →
+        IsWindow (input ++ bytes) steps text forgotten released q }
     ensures end { (input text : List ℕ) (steps forgotten released : ℕ) (p q : PlainSession) →
         IsWindow input steps text forgotten released p → answer End p ≡ done q →
         IsWindow input steps text forgotten released q }
+{}
+
+/// A window knows how many steps led to where it stands, as far as 64 bits count. What it has released and then what is
+/// pending is what these steps print, however the input goes on.
+pub fn windows_show_what_steps_print()
+    ensures counted { (input text : List ℕ) (steps forgotten released : ℕ) (p : PlainSession) →
+        IsWindow input steps text forgotten released p →
+        number_of_step forgotten (length p.earlier) ≡ min steps (2 ^ 64 - 1) }
+    ensures printed { (input text : List ℕ) (steps forgotten released : ℕ) (p : PlainSession) →
+        IsWindow input steps text forgotten released p → (more : List ℕ) → (p.tape.ended ≡ true → more ≡ []) →
+        Prints p.width (input ++ more) steps (text ++ p.last.output) }
 {}
 
 // A session over this tape. The error is that memory was refused.

@@ -6,7 +6,8 @@ use Rattle.std.proofs.lemmas.List.{append-nil, append_assoc, length-append, leng
 use Rattle.trac_follow.specs.declared.tracing.End as ends
 use Rattle.trac_follow.specs.Passing.{Passing}
 use Rattle.trac_follow.specs.Tracing.{IsTold, ToldAll}
-use Rattle.trac_walk.specs.declared.calls_told.TheConstants.{LINE_COUNT, FIRST_COUNT}
+use Rattle.trac_replies.specs.declared.telling.TheConstants.{LINE_COUNT}
+use Rattle.trac_walk.specs.declared.calls_told.TheConstants.{FIRST_COUNT}
 use Rattle.trac_walk.specs.declared.calls_told.Told.{Told}
 use Rattle.trac_walk.specs.declared.calls_told.Way.{Way}
 use Rattle.trac_walk.specs.Ways.{AreTold, Deed, HasTold, Tells, deed_at, deed_of, deeds_said, shown}

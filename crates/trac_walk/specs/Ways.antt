@@ -7,7 +7,8 @@ use Rattle.trac_origins.specs.Places.{Place, InForm, InHeld, InOutput}
 use Rattle.trac_follow.specs.declared.tracing.End.{End}
 use Rattle.trac_follow.specs.declared.tracing.End.TheVariants.{Untold}
 use Rattle.trac_follow.specs.Passing.{Passing}
-use Rattle.trac_walk.specs.declared.calls_told.TheConstants.{LINE_COUNT, FIRST_COUNT}
+use Rattle.trac_replies.specs.declared.telling.TheConstants.{LINE_COUNT}
+use Rattle.trac_walk.specs.declared.calls_told.TheConstants.{FIRST_COUNT}
 use Rattle.trac_walk.specs.declared.calls_told.Told.{Told}
 use Rattle.trac_walk.specs.declared.calls_told.Way.{Way}
 

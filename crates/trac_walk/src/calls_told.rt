@@ -9,14 +9,13 @@ use crate::tracing::traced;
 use std::alloc::{AllocError, Allocator};
 use trac_follow::{Place, Traced, Witness};
 use trac_moves::Walker;
-use trac_person_lines::{Treatment, treatment_into};
+use trac_person_lines::{Treatment, left_out_into, treatment_into};
+use trac_replies::LINE_COUNT;
 use trac_session::Machine;
 use trac_sight::sight_of;
 
-/// So many lines of a way are shown at most. A longer way has its first lines, how many are left out, and the last.
-pub(crate) const LINE_COUNT: usize = 30;
-
-/// Of a longer way so many calls are shown: two lines are left, for how many are left out, and for the end.
+/// Of a longer way than `LINE_COUNT` so many calls are shown: two lines are left, for how many are left out, and for
+/// the end.
 pub(crate) const FIRST_COUNT: usize = LINE_COUNT - 2;
 
 /// A call that passed a byte on.
@@ -49,6 +48,18 @@ impl<A: Allocator + Copy> Way<A> {
             0
         } else {
             self.count - FIRST_COUNT
+        }
+    }
+
+    /// Puts the lines of the calls that are shown at the end of a text, and how many are left out. The error is that
+    /// memory was refused.
+    pub(crate) fn lines_into(&self, out: &mut Vec<u8, A>) -> Result<(), AllocError> {
+        for told in self.told.iter() {
+            out.extend_from_slice(told.line.as_slice())?;
+        }
+        match self.left_out() {
+            0 => Ok(()),
+            others => left_out_into(self.alloc, others, out),
         }
     }
 }

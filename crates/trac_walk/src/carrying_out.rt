@@ -1,18 +1,18 @@
 //! Moves, carried out.
 ghost use Rattle.trac_walk.specs.Stops.{IsAsToldOf};
 
-use crate::output::{printed, printed_text};
 use std::alloc::Allocator;
 use trac_dialogue::Move;
 use trac_moves::{Aim, Search, Walker};
 use trac_person_lines::{SEARCH_LIMIT, Stop};
+use trac_replies::{printed, printed_text};
 use trac_session::Refusal;
 
 /// Carries out a move, and says why it stopped before its goal, if it did. It takes no memory but for steps, and for a
 /// copy of the form of which the last change is looked for.
 ///
 /// A search forward goes on after so many steps on which it has met nothing.
-pub fn carry_out<A: Allocator + Copy>(
+pub(crate) fn carry_out<A: Allocator + Copy>(
     walker: &mut Walker<A>,
     way: Move<'_>,
     searched: u64,
@@ -30,8 +30,15 @@ pub fn carry_out<A: Allocator + Copy>(
         Move::Until(call) => until(walker, call_aim(call), searched),
         Move::Return(call) => stop_back(walker.return_to(call_aim(call))),
         Move::Changed(name) => to_change(walker, name),
-        Move::Printed(number) => to_unprinted(printed(walker, number), walker),
-        Move::PrintedText(text) => to_unprinted(printed_text(walker, text), walker),
+        Move::Printed(number) => {
+            to_unprinted(printed(walker.released(), walker.pending(), number), walker)
+        }
+        Move::PrintedText(text) => {
+            to_unprinted(
+                printed_text(walker.released(), walker.pending(), text),
+                walker,
+            )
+        }
         Move::ToDoubt => until(walker, Aim::Doubtful(walker.width()), searched),
         Move::BackToDoubt => stop_back(walker.return_to(Aim::Doubtful(walker.width()))),
     }

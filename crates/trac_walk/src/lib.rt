@@ -1,20 +1,12 @@
-//! A debugger for a person at a terminal: what is replied to each line, and the way of a byte back to where it comes
-//! from.
+//! A debugger for a person at a terminal: a walker that the replies ask, its moves, and the way of a byte back to where
+//! it comes from.
 #![tactic(auto)]
 
-mod begun_told;
-mod call_list;
 mod calls_told;
 mod carrying_out;
-mod doubts_told;
-mod later;
-mod missing;
-mod origins;
-mod output;
-mod places;
-mod replying;
-mod telling;
+mod following;
 mod tracing;
 mod walking;
+mod walks;
 
 pub use walking::{Settings, walk};

@@ -2,15 +2,15 @@
 ghost use Rattle.std.specs.Prelude.{◌≤◌, ◌<◌, ◌≡◌, ◌↔◌, length};
 ghost use Rattle.std.specs.Io.KnownBytes.{Keeps};
 ghost use Rattle.trac_rules.specs.declared.limit.TheConstants.{JOURNAL_LIMIT, TAPE_LIMIT};
-ghost use Rattle.trac_dialogue.specs.Talks.{Gives, Takes};
+ghost use Rattle.trac_dialogue.specs.Talks.{Gives, IsStop, Takes};
 ghost use Rattle.trac_walk.specs.Ends.{MayEnd};
 
-use crate::replying::Memo;
-use crate::telling::Telling;
-use std::alloc::{AllocError, Allocator};
+use crate::walks::Walked;
+use std::alloc::Allocator;
 use std::io::{Read, Write};
-use trac_dialogue::{Replier, converse};
+use trac_dialogue::converse;
 use trac_moves::Walker;
+use trac_replies::Guide;
 use trac_rules::width::Width;
 use trac_streams::Ending;
 
@@ -25,37 +25,6 @@ pub struct Settings {
     pub decimals: Width,
     /// Whether the number of the next step is written before each line is read.
     pub prompt: bool,
-}
-
-// A walker, and what is kept of the lines so far.
-#[derive(Drop)]
-struct Guide<'p, A: Allocator + Copy> {
-    walker: Walker<A>,
-    program: &'p [u8],
-    memo: Memo<A>,
-}
-
-impl<'p, A: Allocator + Copy> Replier<A> for Guide<'p, A> {
-    fn number(&self) -> u64 {
-        self.walker.step()
-    }
-
-    fn reply_into(
-        &mut self,
-        alloc: A,
-        line: &[u8],
-        out: &mut Vec<u8, A>,
-    ) -> Result<bool, AllocError> {
-        let recalled = self.memo.recalled(&self.walker);
-        let mut telling = Telling {
-            alloc,
-            walker: &mut self.walker,
-            program: self.program,
-            recalled,
-            out,
-        };
-        telling.reply_into(&mut self.memo, line)
-    }
 }
 
 /// Walks through a program, forwards and backwards, for a person. It reads lines, does what each asks for, and writes
@@ -90,14 +59,24 @@ pub fn walk<R: Read, W: Write, A: Allocator + Copy>(
         settings.keep,
         settings.decimals,
     ) {
-        Ok(walker) => {
-            let mut guide = Guide {
-                walker,
-                program: tape,
-                memo: Memo::new(alloc),
-            };
-            converse(alloc, &mut guide, settings.prompt, input, output)
-        }
+        Ok(walker) => talk(alloc, walker, tape, settings.prompt, input, output),
         Err(ending) => ending,
     }
+}
+
+// Replies to a person who walks through this program with a walker that stands at its start.
+fn talk<R: Read, W: Write, A: Allocator + Copy>(
+    alloc: A,
+    walker: Walker<A>,
+    program: &[u8],
+    prompt: bool,
+    input: &mut R,
+    output: &mut W,
+) -> Ending
+    ensures took { Takes (R.remaining input.old) (R.remaining input.new) }
+    ensures gave { Gives (W.contents output.old) (W.contents output.new) }
+    ensures ends { IsStop result }
+{
+    let mut guide = Guide::new(alloc, Walked { walker }, program);
+    converse(alloc, &mut guide, prompt, input, output)
 }

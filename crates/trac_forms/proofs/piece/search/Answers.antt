@@ -69,3 +69,12 @@ returns-clause-bytes g c =
     passed_in_last_run c.args.finder.now c.args.items.now c.loop-item.start.items c.loop-item.run.items (drop c.loop-item.item-index c.args.items.now) (omega arith) c.loop-item.invariant.rest
     c.loop-item.invariant.none c.place_in_run-2.result c.loop-item.start.bytes (searched c.loop-item.run.items c.args.finder.now _ _ c.as_slice-2.ensures.value c.place_in_run-2.ensures.place)
     c.place_in_run-2.ensures.after c.loop-item.invariant.counted c.place_in_run-2.ensures.bytes
+
+pub loop-item-init : goal.loop-item-init
+loop-item-init g c = record {
+  passed = omega (arith, ap length c.requires.empty);
+  rest = ap (λ (r : List ℕ). as_items r ++ c.args.items.now) (sym c.requires.empty);
+  counted = refl;
+  fewer = omega arith;
+  none = λ k l. absurd (omega (arith, l));
+}

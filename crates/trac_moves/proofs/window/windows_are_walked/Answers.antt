@@ -1,5 +1,5 @@
-use Rattle.trac_moves.proofs.Kept.{backward, ended, forward}
+use Rattle.trac_moves.proofs.Kept.{backward, ended, fed, forward}
 use Rattle.trac_moves.proofs.window.windows_are_walked.Goals as goal
 
 pub returns : goal.returns
-returns c = record { forward = forward; back = backward; end = ended }
+returns c = record { forward = forward; back = backward; fed = fed; end = ended }

@@ -1,0 +1,2 @@
+-- Steps to go back to.
+pub mod Places

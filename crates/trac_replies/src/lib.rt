@@ -1,0 +1,20 @@
+//! What is replied to a person who walks through a program, whoever walks: what each line asks for, and what is said.
+#![tactic(auto)]
+
+mod begun_told;
+mod call_list;
+mod doubts_told;
+mod guide;
+mod later;
+mod missing;
+mod origins;
+mod output;
+mod places;
+mod replying;
+mod telling;
+pub mod walks;
+
+pub use guide::Guide;
+pub use output::{printed, printed_text};
+pub use telling::LINE_COUNT;
+pub use walks::{End, Walks};
