@@ -113,6 +113,14 @@ export function showDoubts(page, told) {
   const inProgram = page.isStale ? [] : doubts.filter(isInProgram);
   page.editor.light("doubtful", inProgram.map(({ byte, end = byte + 1 }) => [byte, end]), false);
   page.tabs.count("doubts", grouped(doubts.length), doubts.length > 0);
+  // (the tab may be out of the window: beside the output they are told, too)
+  const button = byId("doubted");
+  button.hidden = doubts.length === 0;
+  button.textContent = `${grouped(doubts.length)} ${doubts.length === 1 ? "doubt" : "doubts"}`;
+  button.onclick = () => {
+    page.tabs.choose("doubts");
+    byId("tab-doubts").focus();
+  };
   const hint = doubts.length ? "What was probably not meant." : "Nothing is done that was probably not meant.";
   byId("doubts-hint").textContent = hint;
   byId("doubts").replaceChildren(...doubts.slice(0, MOST_DOUBTS).map((doubt) => {

@@ -5,7 +5,7 @@ const FOCUSABLE = "button, select, input, textarea, [tabindex]";
 /** @type {Record<string, string>} what has the focus where an element is gone, and nothing stands in its place */
 const INSTEAD = {
   stop: "run", undo: "source", mend: "source", welcome: "run", tries: "run", input: "output", "end-input": "output",
-  ending: "output", output: "output",
+  ending: "output", output: "output", doubted: "output",
 };
 
 // Where an element stands: the element with an id that it is in, its name, and how many before it have the same.

@@ -2,6 +2,7 @@
 import { grouped } from "./bytes.js";
 import { addCells, placed } from "./cells.js";
 import { byId, make } from "./elements.js";
+import { endingOf } from "./endings.js";
 
 const SHOWN_OUTPUT = 8192;
 // whether the end of what is shown is in view
@@ -15,6 +16,7 @@ export function showOutput(view, bytes, printed, fresh, step) {
   const first = startOfSign(bytes, Math.max(last - SHOWN_OUTPUT, 0));
   const key = [first, last, printed, fresh].join();
   const parent = placed(byId("output"), "output", step);
+  if (printed === 0) byId("output-note").textContent = nothing(view.page, step);
   if (view.output === bytes && view.outputKey === key) return;
   [view.output, view.outputKey] = [bytes, key];
   const split = Math.max(first, Math.min(printed - fresh, last));
@@ -29,9 +31,15 @@ export function showOutput(view, bytes, printed, fresh, step) {
   if (last < printed) parent.append(turnButton("later", Math.min(last + SHOWN_OUTPUT, printed), view));
   const part = `bytes ${grouped(first + 1)} to ${grouped(last)} of ${grouped(printed)}`;
   const isWhole = first === 0 && last === printed;
-  byId("output-note").textContent = printed === 0 ? "nothing printed yet" : isWhole ? view.hint : part;
+  if (printed > 0) byId("output-note").textContent = isWhole ? view.hint : part;
   parent.scrollTop = parent.scrollHeight;
   isAtEnd = true;
+}
+
+// What is said where nothing is printed: that more may come, unless the run is done there.
+/** @param {Page} page @param {number} step */
+function nothing(page, step) {
+  return step === page.shownRun.end && endingOf(page).isGood ? "nothing is printed" : "nothing printed yet";
 }
 
 // The end of the output stays in view where the box gets another height, as by a line of input under it; unless one has

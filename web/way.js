@@ -169,6 +169,7 @@ export class Way {
     const isLast = row === this.rows[this.rows.length - 1];
     const { texts } = callOf(row) ?? { texts: [] };
     if (row.deed === "makes" && isLast && texts.length > 1) return "makes it: follow one of its arguments";
+    if (row.deed === "makes" && row.state && ruleOf(row.state) === "i") return "the idle program begins, which has it";
     if (row.deed !== "reads") return DEEDS[row.deed];
     const { shownRun: { program } } = this.page, { byte = 0 } = row;
     if (byte < program.length) return `reads it: ${placeSaid(this.page, byte)}`;

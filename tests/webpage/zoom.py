@@ -9,8 +9,8 @@ from webpage.rows import CHROMIUM, rows
 from webpage.window import OUTSIDE
 
 # Windows at 200 percent, in pixels of the page: of 1280 by 800, 1024 by 700, 1920 by 1080; and of twice the sizes that
-# the page fills.
-SMALL = ((640, 400), (512, 350), (960, 540))
+# the page fills. (A phone is among the small ones.)
+SMALL = ((640, 400), (512, 350), (960, 540), (390, 844))
 FILLED = ((1024, 700), (1280, 800), (1920, 1080))
 # What is cut off or wider than its place: not the text beside the mark and rows of the tree, whose ends are cut, nor
 # words that a small window leaves out.
@@ -96,6 +96,17 @@ def check_cut(page: Deeds) -> None:
         looked_at(page, what)
 
 
+def check_millions(page: Deeds) -> None:
+    """The number of a step of eight figures has room in its box; in the large view, too."""
+    page.put("#(ds,L,(#(cl,L)))'#(cl,L)'")
+    page.run()
+    page.until("document.getElementById('place').value === '2,000,000'", "the run takes all steps")
+    page.script("document.getElementById('place').value = '20,000,000'")
+    looked_at(page, "20,000,000 steps")
+    page.script("document.getElementById('big').click()")
+    looked_at(page, "large view")
+
+
 def check_focus(page: Deeds) -> None:
     """In small windows what gets the focus is seen, and the program and the bar stay."""
     page.followed()
@@ -111,4 +122,4 @@ def check_focus(page: Deeds) -> None:
             check(outside == [], "{} by {}: out of the window: {}".format(width, height, outside))
 
 
-TRIED = rows(check_cut, check_focus, where=CHROMIUM, seconds=10)
+TRIED = rows(check_cut, check_focus, check_millions, where=CHROMIUM, seconds=10)
