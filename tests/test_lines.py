@@ -9,6 +9,7 @@ import sys
 
 from support.cases import DATA, EXAMPLES, TOP, Case, Word, each, ran, scratch, tests
 from support.terminals import at_terminal, ending_of
+from test_streams import OLDER
 
 sys.path.insert(0, str(TOP / "python"))
 from trac_tools import walk  # noqa: E402
@@ -106,6 +107,17 @@ class Lines(Case):
         is_plain = seen.startswith("0> s 3\n3  ") and seen.endswith("\n3> q\n")
         self.holds("it prompts and replies: {!r}".format(seen), is_plain)
         self.holds("and ends well", status == 0)
+        self.holds("and nothing is kept", not (self.room / "trac").exists())
+
+    def test_older_python(self) -> None:
+        """Where Python is too old for the line editor, lines are plain too."""
+        python = self.room / "python3"
+        python.write_text(OLDER.format(sys.executable), encoding="utf-8")
+        python.chmod(0o755)
+        path = "{}:{}".format(self.room, os.environ["PATH"])
+        seen, status = at_terminal([TRAC, "walk", FIRST], ["s 3\n", "q\n"], **{**self.state, "PATH": path})
+        self.holds("it prompts and replies: {!r}".format(seen), seen.startswith("0> s 3\n3  "))
+        self.holds("it ends well: {}".format(status), status == 0)
         self.holds("and nothing is kept", not (self.room / "trac").exists())
 
     def test_file_that_the_shell_opens(self) -> None:
