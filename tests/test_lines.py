@@ -125,6 +125,12 @@ class Lines(Case):
         seen, status = at_terminal(words, ["s 3\n", "q\n"], **self.state)
         self.holds("it is walked through: {!r}".format(seen), status == 0 and "> s 3\n3  " in seen)
 
+    def test_file_that_is_typed(self) -> None:
+        """FILE may be the terminal itself."""
+        words: list[Word] = ["/bin/bash", "-c", 'printf "> " && exec "$0" walk /dev/stdin', TRAC]
+        seen, status = at_terminal(words, ["#(ps,a)'\n\x04", "s 3\n", "q\n"], **self.state)
+        self.holds("it is walked through: {!r}, {}".format(seen, status), status == 0 and "> s 3\n3  " in seen)
+
     def test_output_elsewhere(self) -> None:
         """Where standard output is no terminal, lines are plain too."""
         words: list[Word] = ["/bin/sh", "-c", 'exec "$0" walk "$1" >"$2"', TRAC, FIRST, self.room / "out"]
