@@ -9,6 +9,7 @@ import sys
 
 from support.cases import DATA, EXAMPLES, TOP, Case, Word, each, ran, scratch, tests
 from support.terminals import at_terminal, ending_of
+from test_streams import OLDER
 
 sys.path.insert(0, str(TOP / "python"))
 from trac_tools import walk  # noqa: E402
@@ -108,10 +109,27 @@ class Lines(Case):
         self.holds("and ends well", status == 0)
         self.holds("and nothing is kept", not (self.room / "trac").exists())
 
+    def test_older_python(self) -> None:
+        """Where Python is too old for the line editor, lines are plain too."""
+        python = self.room / "python3"
+        python.write_text(OLDER.format(sys.executable), encoding="utf-8")
+        python.chmod(0o755)
+        path = "{}:{}".format(self.room, os.environ["PATH"])
+        seen, status = at_terminal([TRAC, "walk", FIRST], ["s 3\n", "q\n"], **{**self.state, "PATH": path})
+        self.holds("it prompts and replies: {!r}".format(seen), seen.startswith("0> s 3\n3  "))
+        self.holds("it ends well: {}".format(status), status == 0)
+        self.holds("and nothing is kept", not (self.room / "trac").exists())
+
     def test_file_that_the_shell_opens(self) -> None:
         words: list[Word] = ["/bin/bash", "-c", 'exec "$0" walk /dev/fd/3 3<"$1"', TRAC, FIRST]
         seen, status = at_terminal(words, ["s 3\n", "q\n"], **self.state)
         self.holds("it is walked through: {!r}".format(seen), status == 0 and "> s 3\n3  " in seen)
+
+    def test_file_that_is_typed(self) -> None:
+        """FILE may be the terminal itself."""
+        words: list[Word] = ["/bin/bash", "-c", 'printf "> " && exec "$0" walk /dev/stdin', TRAC]
+        seen, status = at_terminal(words, ["#(ps,a)'\n\x04", "s 3\n", "q\n"], **self.state)
+        self.holds("it is walked through: {!r}, {}".format(seen, status), status == 0 and "> s 3\n3  " in seen)
 
     def test_output_elsewhere(self) -> None:
         """Where standard output is no terminal, lines are plain too."""

@@ -226,6 +226,17 @@ runpy.run_path(sys.argv[0], run_name="__main__")
 ' "$@"
 """
 
+# A Python in the place of python3 that says that it is of another version.
+OLDER = """#!/bin/sh
+exec {} -ISB -c '
+import runpy, sys
+
+sys.version_info = (3, 7, 16)
+sys.argv[:2] = []
+runpy.run_path(sys.argv[0], run_name="__main__")
+' "$@"
+"""
+
 
 def keys_seen(keys: bytes, room: pathlib.Path) -> tuple[bytes, int]:
     """What a walk shows at a pseudo-terminal where these keys are pressed at its first prompt, and then `q` on a
@@ -532,6 +543,17 @@ class Streams(Case):
                                env={**os.environ, "PATH": "{}:{}".format(self.room, os.environ["PATH"])})
             self.holds("{}: {}".format(fault, ended),
                        ended.returncode == wanted and ended.stderr.count(b"\n") == 1)
+
+    @each(IN_PYTHON)
+    def test_older_python(self, name: str) -> None:
+        """Where Python is too old for the tools, nothing but that is said."""
+        python = self.room / "python3"
+        python.write_text(OLDER.format(sys.executable), encoding="utf-8")
+        python.chmod(0o755)
+        ended = self.ended(command(TOOLS[name], self.file),
+                           env={**os.environ, "PATH": "{}:{}".format(self.room, os.environ["PATH"])})
+        self.holds("{}".format(ended), ended.returncode == 70 and ended.stdout == b""
+                   and re.fullmatch(rb"trac [a-z]+: it takes Python 3\.8 or later\n", ended.stderr))
 
     @each(KEYS)
     def test_keys(self, name: str) -> None:

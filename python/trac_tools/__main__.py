@@ -10,13 +10,17 @@ if sys.argv[1] == "taken":
 
 
 def give_up(words: str, status: int) -> None:
-    """Ends a command that cannot begin."""
+    """Ends a command that cannot begin. A walk goes on without Python: then its lines are plain."""
     try:
+        if sys.argv[5] == "walk":
+            os.execv(os.path.join(sys.argv[4], "trac-walk"), ["trac-walk"] + sys.argv[6:])
         os.write(2, "trac {}: {}\n".format(sys.argv[5], words).encode("ascii", "backslashreplace"))
     finally:
         os._exit(status)
 
 
+if sys.version_info < (3, 8):
+    give_up("it takes Python 3.8 or later", 70)
 try:
     import importlib
 

@@ -4,6 +4,7 @@ The proved program trac-walk does all else. It is begun with --prompt: its promp
 """
 from __future__ import annotations
 
+import contextlib
 import os
 import re
 from subprocess import PIPE
@@ -67,6 +68,13 @@ def completed(front: str, forms: list[str]) -> list[str]:
     return AFTER.get(words[0], []) if len(words) == 1 else []
 
 
+def is_own_input(name: str | None) -> bool:
+    """Whether FILE is the terminal that the lines come from, such as /dev/stdin."""
+    with contextlib.suppress(OSError, ValueError):
+        return name is not None and os.path.samestat(os.stat(name), os.fstat(0))
+    return False
+
+
 class Session:
     """The program, by its streams."""
 
@@ -114,7 +122,11 @@ class Session:
 
 def main(words: list[str]) -> int:
     """Walks; returns the exit status."""
-    forms = forms_of(file_of(words))
+    file = file_of(words)
+    if is_own_input(file):
+        # (of the pipe that is begun here for its lines, it would wait for the end first)
+        os.execv(program("trac-walk"), ["trac-walk", *words])
+    forms = forms_of(file)
     with lines.History("walk", lambda front: completed(front, forms)):
         session = Session(words)
         prompt = session.prompt()
