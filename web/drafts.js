@@ -34,6 +34,8 @@ export class Draft {
     this.editor = editor;
     // whether what stands in the editor is kept or saved
     this.isKept = true;
+    // whether it was typed; whether such a program gave way to another, and was then no longer kept
+    this.isTyped = this.isOther = this.isLost = false;
     /** @type {string | null} what this page has kept, if it is not saved too */
     this.own = null;
     /** @type {ReturnType<typeof setTimeout> | 0} */
@@ -46,7 +48,7 @@ export class Draft {
     // what was typed and is neither saved nor kept is not to be lost
     addEventListener("beforeunload", (event) => {
       if (this.later) this.keep();
-      if (!this.isKept && editor.bytes().length > 0) event.preventDefault();
+      if ((!this.isKept || this.isLost) && editor.bytes().length > 0) event.preventDefault();
     });
   }
 
@@ -57,29 +59,51 @@ export class Draft {
     this.later = setTimeout(() => this.keep(), DRAFT_TIME);
   }
 
+  typed() {
+    this.isTyped = true;
+    this.changed();
+  }
+
+  // Another program is opened in its place. That of a link is not kept before it is changed.
+  /** @param {boolean} isKept */
+  opened(isKept) {
+    this.isOther ||= this.isTyped;
+    this.isTyped = false;
+    if (isKept) this.changed();
+  }
+
+  // One that stood there before is back.
+  restored() {
+    [this.isLost, this.isOther, this.isTyped] = [this.isTyped, false, true];
+    this.changed();
+  }
+
   keep() {
     clearTimeout(this.later);
     this.later = 0;
     const { editor } = this;
     const bytes = editor.bytes();
     const text = bytes.length > MOST_DRAFT ? null : textOf(bytes);
-    const draft = text === null ? null : JSON.stringify({ name: editor.name, text });
+    const draft = text === null ? null : JSON.stringify({ name: editor.name, text, isTyped: this.isTyped });
     this.isKept = draft !== null && keepText(DRAFT, draft);
+    if (this.isKept && this.isOther) [this.isOther, this.isLost] = [false, true];
     this.own = this.isKept ? draft : null;
   }
 
   // The program is in a file.
   saved() {
     this.isKept = true;
+    this.isTyped = false;
     this.own = null;
   }
 
   // Brings back what was kept, if there is something.
   restore() {
     try {
-      const { name, text } = JSON.parse(kept(DRAFT) ?? "");
+      const { name, text, isTyped } = JSON.parse(kept(DRAFT) ?? "");
       if (typeof name !== "string" || typeof text !== "string" || text === "") return false;
       this.editor.put({ name, bytes: new TextEncoder().encode(text) });
+      this.isTyped = isTyped !== false;
       return true;
     } catch {
       return false;

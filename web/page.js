@@ -30,7 +30,7 @@ export class Page {
     this.draft = new Draft(this.editor);
     this.editor.restored = (name) => {
       this.forget();
-      this.draft.changed();
+      this.draft.restored();
       this.announcer.say("ending", `${name} is back.`);
     };
     /** @type {Run | null} the run that is shown */
@@ -78,7 +78,7 @@ export class Page {
     this.editor.open(name, bytes);
     byId("welcome-about").hidden = true;
     this.forget();
-    if (isKept) this.draft.changed();
+    this.draft.opened(isKept);
     this.announcer.say("ending", `${byId("program-name").textContent} is opened.`);
   }
 
@@ -93,7 +93,7 @@ export class Page {
   // The program is not what was run.
   changed() {
     this.isStale = true;
-    this.draft.changed();
+    this.draft.typed();
     if (!this.run) return;
     byId("program-note").textContent = CHANGED;
     unlinkPlaces();

@@ -62,6 +62,25 @@ def check_other_page(page: Deeds) -> None:
     page.until("(localStorage.getItem('trac.draft') ?? '').includes('last')", "it is kept")
 
 
+def check_replaced(page: Deeds) -> None:
+    """Where what was typed gave way to another program, which is kept in its place, it is asked before the page is
+    left; not where it is back, or none was typed."""
+    is_kept = "(localStorage.getItem('trac.draft') ?? '').includes('{}')"
+    for name in "hello.trac", "guess.trac":
+        pick(page, name)
+        page.until(is_kept.format(name), "an example is kept")
+        check(not page.script(ASKS), "examples are left")
+    page.type("#(ps,mine)'")
+    page.until(is_kept.format("mine"), "what was typed is kept")
+    check(not page.script(ASKS), "what is kept is left")
+    pick(page, "hello.trac")
+    page.until(is_kept.format("hello.trac"), "an example is kept in its place")
+    check(page.script(ASKS), "it is not asked where it is not kept any more")
+    page.click("document.getElementById('undo')")
+    page.until(is_kept.format("mine"), "it is back, and kept")
+    check(not page.script(ASKS), "what is back is left")
+
+
 def check_undo(page: Deeds) -> None:
     """Another program is opened without a question, and Ctrl+Z brings back what was there; so does a button; and forth
     again."""
@@ -92,4 +111,4 @@ def check_question(page: Deeds) -> None:
     page.script("document.getElementById('question').close()")
 
 
-TRIED = rows(check_draft, given=file_of) + rows(check_undo, check_other_page, check_question)
+TRIED = rows(check_draft, given=file_of) + rows(check_undo, check_other_page, check_replaced, check_question)
