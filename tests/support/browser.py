@@ -67,7 +67,7 @@ class Browser(Waiting):
         os.close(by_it)
         self.reader, self.writer, self.modules = from_it, to_it, modules
         self.read, self.number, self.session, self.events, self.replies = b"", 0, None, [], {}
-        self.is_new = True
+        self.is_new, self.is_leaving = True, False
         try:
             targets = self.call("Target.getTargets")["targetInfos"]
             self.target = next(one for one in targets if one["type"] == "page")["targetId"]
@@ -114,7 +114,9 @@ class Browser(Waiting):
         """Leaves the page for an empty one, and ends what was said of it. (To open an empty one takes more of a
         processor than to go to one.)"""
         self.script(LEFT)
+        self.is_leaving = True
         self.navigate("about:blank")
+        self.is_leaving = False
         session, self.session = self.session, None
         self.call("Target.detachFromTarget", sessionId=session)
         self.is_new = True
@@ -165,6 +167,9 @@ class Browser(Waiting):
             pass
         elif said["method"] == "Inspector.targetCrashed":
             raise Gone("the page has crashed")
+        elif self.is_leaving and said["method"] == "Page.javascriptDialogOpening":
+            # (a page that asks before it is left)
+            self.tell("Page.handleJavaScriptDialog", accept=True)
         else:
             self.events.append(said)
 
