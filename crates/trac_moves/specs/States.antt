@@ -9,7 +9,8 @@ use Rattle.trac_rules.specs.Stepping.{step}
 -- so many steps lead from the initial state to this one, if the output is emptied before each step
 abbrev pub IsAfter : Environment → ℕ → State → Type 0
 IsAfter environment zero s = s ≡ initial
-IsAfter environment (suc n) s = (before : State) × IsAfter environment n before × (step environment (silent before) ≡ Ok s)
+IsAfter environment (suc n) s =
+    (before : State) × IsAfter environment n before × (step environment (silent before) ≡ Ok s)
 
 -- a state is the one after so many steps, but for its output. So many bytes that it has read are dropped from the tape
 pub record IsOfRun (environment : Environment) (dropped steps : ℕ) (s : State) : Type 0 where

@@ -15,8 +15,8 @@ pub record IsWindow (input : List ℕ) (steps : ℕ) (text : List ℕ) (forgotte
   pub steps_forgotten : forgotten ≡ min (steps - length p.earlier) (2 ^ 64 - 1)
   pub bytes_forgotten : released ≡ min (length text) (2 ^ 64 - 1)
 
--- so many steps over this input, with numbers of this width, led to where a window stands. It keeps states of a run over
--- that input, and has released some text
+-- so many steps over this input, with numbers of this width, led to where a window stands. It keeps states of a run
+-- over that input, and has released some text
 pub record IsOver {A : Type 0} (input : Tape) (width : Width) (steps : ℕ) (w : Window A) : Type 0 where
   pub text : List ℕ
   pub is : IsWindow input.bytes steps text w.forgotten w.released w.session
