@@ -3,7 +3,7 @@
 import { grouped, textOf } from "./bytes.js";
 import { fixedOf, unitOfFixed } from "./fixed.js";
 import { setLight } from "./lights.js";
-import { LONG, Paint, pairAround } from "./paint.js";
+import { isLong, Paint, pairAround } from "./paint.js";
 import { isWriting } from "./focus.js";
 import { byId, elementOf, focused } from "./elements.js";
 import { insertText, startIndenting } from "./indent.js";
@@ -75,10 +75,10 @@ export class Editor {
   // Something else stands in the box.
   typed() {
     clearTimeout(this.later);
-    const { length } = this.box.value;
-    if (length > MOST_EDITED) return this.put({ name: this.name, bytes: this.encoded(this.box.value) });
+    const { name, box: { value } } = this;
+    if (value.length > MOST_EDITED) return this.put({ name, bytes: this.encoded(value) });
     if (this.fixed) this.free();
-    if (length < LONG) this.repaint();
+    if (!isLong(value)) this.repaint();
     else this.later = setTimeout(() => this.repaint(), 150);
     return undefined;
   }
@@ -254,9 +254,9 @@ export class Editor {
   light(name, stretches, isShown = true) {
     this.lit.set(name, stretches);
     const rising = [...new Set(stretches.flatMap(([from, to]) => [from, to - 1]))].sort((one, other) => one - other);
-    const units = this.unitsOf(rising);
+    const units = new Map(this.unitsOf(rising).map((unit, at) => [rising[at], unit]));
     /** @param {number} byte */
-    const unitOf = (byte) => units[rising.indexOf(byte)];
+    const unitOf = (byte) => units.get(byte) ?? -1;
     const ranges = stretches.flatMap(([from, to]) => this.paint.rangesOf(unitOf(from), unitOf(to - 1) + 1));
     setLight(name, ranges);
     if (isShown && ranges.length && focused() !== this.box) this.bring(ranges[0]);
