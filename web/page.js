@@ -12,6 +12,7 @@ import { Big } from "./big.js";
 import { CHANGED, View } from "./view.js";
 import { Cursor } from "./cursor.js";
 import { Library } from "./welcome.js";
+import { dismiss } from "./question.js";
 import { byId } from "./elements.js";
 import { Runs } from "./runs.js";
 
@@ -37,6 +38,8 @@ export class Page {
     this.run = null;
     // whether the editor has another program than was run
     this.isStale = false;
+    // how often a program was opened, or brought back
+    this.opened = 0;
     this.announcer = new Announcer();
     this.view = new View(this);
     this.runs = new Runs(this);
@@ -82,8 +85,10 @@ export class Page {
     this.announcer.say("ending", `${byId("program-name").textContent} is opened.`);
   }
 
-  // Another program is opened: nothing of the last run is shown.
+  // Another program is opened: nothing of the last run is shown, and nothing is asked of it.
   forget() {
+    this.opened++;
+    dismiss();
     this.runs.leave();
     this.view.clear();
     this.view.busy(false);
