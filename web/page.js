@@ -29,9 +29,9 @@ export class Page {
     engine.told = (count) => this.view.waits(count);
     this.editor = new Editor(() => this.changed());
     this.draft = new Draft(this.editor);
-    this.editor.restored = (name) => {
+    this.editor.undoing.restored = (name) => {
       this.forget();
-      this.draft.restored();
+      this.draft.changed();
       this.announcer.say("ending", `${name} is back.`);
     };
     /** @type {Run | null} the run that is shown */
@@ -78,6 +78,7 @@ export class Page {
   // editor can be brought back. That of a link is not kept for the next time.
   /** @param {string} name @param {Uint8Array} bytes */
   open(name, bytes, isKept = true) {
+    this.draft.leave();
     this.editor.open(name, bytes);
     byId("welcome-about").hidden = true;
     this.forget();
