@@ -257,11 +257,14 @@ class Playing(Case):
         held = int(peak.read_text("ascii"))
         self.holds("it held {} KiB".format(held), held <= 32768)
 
-    @each(("at-a-prompt", "at-work"))
+    @each(("at-a-prompt", "at-work", "by-quit-at-a-prompt", "by-quit-at-work"))
     def test_interrupted(self, where: str) -> None:
-        """Ctrl-C ends it at a prompt, and while the program is at work."""
+        """Ctrl-C ends it at a prompt, and while the program is at work, and so does Ctrl-\\; the terminal is as
+        before."""
         self.file.write_bytes(b"#(ds,L,(#(cl,L)))'#(ps,<#(rs)>)#(cl,L)'")
-        words = ["--line", "x'"] if where == "at-work" else []
+        words = ["--quit"] if where.startswith("by-quit") else []
+        words += ["--line", "x'"] if where.endswith("at-work") else []
         # (what a script begins in the background takes no interrupt, unless env says so)
-        self.ends("Ctrl-C", ran(["env", "--default-signal=INT", TESTS / "support" / "interrupted", *words, *PLAY,
-                                 self.file], env={**os.environ, "XDG_STATE_HOME": os.fspath(self.room / "state")}))
+        command: list[Word] = ["env", "--default-signal=INT", TESTS / "support" / "interrupted", *words, *PLAY, self.file]
+        state = {"XDG_STATE_HOME": os.fspath(self.room / "state")}
+        self.ends(where, ran(command, env={**os.environ, **state}))

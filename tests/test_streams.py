@@ -11,6 +11,7 @@ import pathlib
 import pty
 import random
 import re
+import resource
 import select
 import shutil
 import signal
@@ -270,7 +271,7 @@ KEYS = {"edit": b"touch ran\x18\x05", "list": b"p \t\t\x1b?", "expand": b"$(touc
 OF_NAMES = {**{name: TOOLS[name] for name in ("play", "page", "check", "debug", "walk", "lint")},
             "lint-input": ["trac", "lint", "--input", "FILE", "FILE"]}
 SLOW = (TOOLS["play"], TOOLS["page"], ["trac", "course", "check", "5.1", "FILE"], TOOLS["walk"])
-SIGNALS = "SIGTERM", "SIGHUP", "SIGINT"
+SIGNALS = "SIGTERM", "SIGHUP", "SIGINT", "SIGQUIT"
 # Where the system gives less than a tool would take: of memory, though nobody may raise that bound, and no thread. And
 # where whoever begins it leaves it more open files than select takes.
 BOUNDS = (("ulimit -v 900000", TOOLS["check"], 1), ("ulimit -v 900000", TOOLS["play"], 0),
@@ -452,13 +453,15 @@ class Streams(Case):
         if pid == 0:
             os.environ.update(TMPDIR=room, TERM="dumb")
             signal.signal(number, signal.SIG_DFL)
+            # (of what a signal ends no core is kept)
+            resource.setrlimit(resource.RLIMIT_CORE, (0, 0))
             line = 'exec "$@" >/dev/null' if words[1] == "page" else 'exec "$@"'
             os.execvp("bash", ("bash", "-c", line, "-", *command(words, self.file)))
         os.write(terminal, typed)
         seen: list[bytes] = []
         status = seen_until(pid, terminal, after, seen)
-        # (a Ctrl-C while Python begins is passed over)
-        turns = 40 if number == signal.SIGINT else 1
+        # (a Ctrl-C while Python begins is passed over; and bash, which begins it, passes over each Ctrl-\\)
+        turns = 40 if number in (signal.SIGINT, signal.SIGQUIT) else 1
         for _ in range(turns):
             if status is None:
                 os.kill(pid, number)

@@ -212,8 +212,9 @@ def stop(number: int, _: object) -> None:
 
 
 def take_signals() -> None:
-    """Has signals end the tool in its own way, but for those that whoever began it wants passed over."""
-    for number in (signal.SIGINT, signal.SIGTERM, signal.SIGHUP):
+    """Has signals end the tool in its own way, but for those that whoever began it wants passed over. (Else one that
+    comes at a prompt, as Ctrl-\\ does, would leave the terminal as the line editor has it.)"""
+    for number in (signal.SIGINT, signal.SIGTERM, signal.SIGHUP, signal.SIGQUIT):
         if signal.getsignal(number) != signal.SIG_IGN:
             signal.signal(number, stop)
 
