@@ -5,6 +5,7 @@ from __future__ import annotations
 import argparse
 import contextlib
 import errno
+import fcntl
 import os
 import re
 import select
@@ -123,6 +124,12 @@ def ready(reads: list[int], writes: list[int], seconds: float | None = None) -> 
         poll.register(stream, select.POLLOUT)
     found = {stream for stream, _ in poll.poll(None if seconds is None else 1000 * seconds)}
     return [it for it in reads if it in found], [it for it in writes if it in found]
+
+
+def is_opened(stream: int, way: int) -> bool:
+    """Whether a stream was opened to be read (os.O_RDONLY) or written (os.O_WRONLY); a terminal, too, may be so in one
+    way alone."""
+    return fcntl.fcntl(stream, fcntl.F_GETFL) & (os.O_WRONLY | os.O_RDWR) in (way, os.O_RDWR)
 
 
 def write(text: str | bytes | bytearray, to: int = 1) -> None:
