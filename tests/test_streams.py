@@ -645,6 +645,19 @@ class FirstStarts(Case):
         open_to_all = [place.name for place in there if place.stat().st_mode & 0o022]
         self.holds("others may write {} of {}".format(open_to_all, len(there)), len(there) == 4 and not open_to_all)
 
+    def test_umask_and_options_of_the_shell(self) -> None:
+        """Whatever the umask, all may read the programs; and no option that SHELLOPTS sets is of use."""
+        before = os.umask(0o077)
+        try:
+            self.runs("a umask of 077, and options", SHELLOPTS="noglob:noclobber:posix")
+        finally:
+            os.umask(before)
+        wanted = {self.made.parent: 0o755, self.made: 0o755, self.made.with_name("trac-walk"): 0o755,
+                  self.made.with_name("made.txt"): 0o644}
+        modes = {place: place.stat().st_mode & 0o777 for place in wanted}
+        self.holds("their modes: {}".format(modes), modes == wanted)
+        self.runs("a later start", SHELLOPTS="noglob")
+
     def test_damaged_programs(self) -> None:
         self.runs("a first start")
         for damage in b"echo damaged\n", b"", b"\x7fELF":
