@@ -251,6 +251,12 @@ class Made(Case):
         run = ran([TOP / "node" / "assemble", "--compare"])
         self.ends("node/assemble --compare", run, b"1 passed, 0 failed\n")
 
+    def test_files_that_cannot_be_used(self) -> None:
+        """Where it cannot be written, or the page not be made of a file, a line says why."""
+        for name, place in ("node", "/proc/x"), ("node", "/nowhere/\x1b[1m"), ("web", "/nowhere"):
+            said = "{}/assemble: {}: No such file or directory\n".format(name, ascii(place))
+            self.ends("", ran([TOP / name / "assemble", place]), b"", 1, said.encode())
+
     def test_takes_nothing_of_the_system(self) -> None:
         """It takes four parts of Node, and no addon, file or program beside these: so no C library but Node's own.
         (Its module has no imports either: all rows give it none.)"""

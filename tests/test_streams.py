@@ -144,6 +144,10 @@ WORDED = [line.split() for line in """
     install WORD x
     install -WORD
     build WORD
+    check WORD
+    check -k WORD
+    check -k WORD -WORD
+    check --edits WORD
     trac WORD
     trac walkWORD
     trac --WORD
