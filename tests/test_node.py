@@ -268,6 +268,54 @@ class Made(Case):
         self.same("what else may take something", " ".join(found), "")
 
 
+# The programs that an action looks through, and what it tells of them, but for the numbers of steps.
+LINTED = {"a,b": b"#(pr)'", "near": b"#(ds,greeting,hi)'\n#(cl,greting)'",
+          "percent": b"#(ds,F,x)'\n#(cl,F,100%:1:2: y)'", "right": b"#(ps,a)'"}
+TOLD = """\
+::warning file=a%2Cb.trac,line=1,col=3::no primitive is named pr
+::warning file=near.trac,line=2,col=6::no form is named greting
+::notice file=near.trac,line=1,col=6::a form of nearly this name is defined here
+::warning file=percent.trac,line=2,col=8::argument 2 of cl is not used: 100%25:1:2: y
+"""
+
+
+class Action(InNode):
+    """share/packaging/action.yml, a step of a workflow."""
+
+    def setUp(self) -> None:
+        super().setUp()
+        self.room, self.folder = scratch(self), TOP / "share" / "packaging"
+        self.text = (self.folder / "action.yml").read_text(encoding="utf-8")
+
+    def step(self, files: str) -> Ran:
+        """What the step says of files, as the system that it is for begins it."""
+        script = re.search(r"^      run: \|\n((?:        .*\n)+)", self.text, re.M)
+        assert script
+        line = ["bash", "--noprofile", "--norc", "-eo", "pipefail", "-c", script[1]]
+        run = ran(line, folder=self.room, env={**os.environ, "GITHUB_ACTION_PATH": os.fspath(self.folder),
+                                               "FILES": files, "OPTIONS": "--steps 1000"})
+        return run._replace(output=re.sub(rb" \(step [0-9]+\)$", b"", run.output, flags=re.M), command="action.yml")
+
+    def test_action(self) -> None:
+        """Its script tells each doubt in the words of that system, at the place that trac lint has, and ends as that
+        does."""
+        for name, program in LINTED.items():
+            (self.room / (name + ".trac")).write_bytes(program)
+        self.ends("all programs", self.step("*.trac"), TOLD.encode(), 1)
+        self.ends("one without a doubt", self.step("right.trac"))
+        self.ends("one that is not there", self.step("none.trac"), b"", 2,
+                  b"trac lint: none.trac: it cannot be read\n")
+        self.same("it leaves no file", " ".join(sorted(os.listdir(self.room))),
+                  " ".join(sorted(name + ".trac" for name in LINTED)))
+
+    def test_action_inputs(self) -> None:
+        """The inputs that its script and its example name are those that it has."""
+        has = re.findall(r"^  (\w+):\n    description:", self.text, re.M)
+        for pattern in r"\$\{\{ inputs\.(\w+) \}\}", r"^#         (\w+):":
+            named = re.findall(pattern, self.text, re.M)
+            self.holds("{} are of {}".format(named, has), named and set(named) <= set(has))
+
+
 class Streams(InNode):
     """The file itself, as a process."""
 
