@@ -244,6 +244,18 @@ class Playing(Case):
         self.same("at a terminal", without_prompts(seen, wanted), wanted, None, "seen")
         self.holds("it ends with 0, and not {}".format(status), status == 0)
 
+    def test_much_before_a_question(self) -> None:
+        """4 MB before a question: neither trac play nor this test goes over all that was printed for each part that
+        comes."""
+        text = "abcdefg\n" * 500000
+        self.file.write_bytes(b"#(ps,(" + text.encode() + b"))#(ps,<#(rs)>)'")
+        before = sum(os.times()[:4])
+        seen, status = self.seen([*PLAY, self.file], ["A'"])
+        seconds = sum(os.times()[:4]) - before
+        self.same("at a terminal", seen, text + "> A'\n<A>", None, "seen")
+        self.holds("it ends with 0, and not {}".format(status), status == 0)
+        self.holds("it takes {:.1f} s of a processor".format(seconds), seconds < 6)
+
     @each(SIZES)
     def test_memory(self, name: str) -> None:
         """By --memory 16M neither the run nor the walk beside it takes more, but for 16 MiB for the program itself;
