@@ -251,6 +251,12 @@ class Made(Case):
         run = ran([TOP / "node" / "assemble", "--compare"])
         self.ends("node/assemble --compare", run, b"1 passed, 0 failed\n")
 
+    def test_files_that_cannot_be_used(self) -> None:
+        """Where it cannot be written, or the page not be made of a file, a line says why."""
+        for name, place in ("node", "/proc/x"), ("node", "/nowhere/\x1b[1m"), ("web", "/nowhere"):
+            said = "{}/assemble: {}: No such file or directory\n".format(name, ascii(place))
+            self.ends("", ran([TOP / name / "assemble", place]), b"", 1, said.encode())
+
     def test_takes_nothing_of_the_system(self) -> None:
         """It takes four parts of Node, and no addon, file or program beside these: so no C library but Node's own.
         (Its module has no imports either: all rows give it none.)"""
@@ -260,6 +266,54 @@ class Made(Case):
         self.same("how often", str(len(re.findall(r"\bimport\b(?!\.meta)", text))), str(len(taken)))
         found = re.findall(r"\brequire\(|createRequire|dlopen|process\.binding|child_process|\.node\b", text)
         self.same("what else may take something", " ".join(found), "")
+
+
+# The programs that an action looks through, and what it tells of them, but for the numbers of steps.
+LINTED = {"a,b": b"#(pr)'", "near": b"#(ds,greeting,hi)'\n#(cl,greting)'",
+          "percent": b"#(ds,F,x)'\n#(cl,F,100%:1:2: y)'", "right": b"#(ps,a)'"}
+TOLD = """\
+::warning file=a%2Cb.trac,line=1,col=3::no primitive is named pr
+::warning file=near.trac,line=2,col=6::no form is named greting
+::notice file=near.trac,line=1,col=6::a form of nearly this name is defined here
+::warning file=percent.trac,line=2,col=8::argument 2 of cl is not used: 100%25:1:2: y
+"""
+
+
+class Action(InNode):
+    """share/packaging/action.yml, a step of a workflow."""
+
+    def setUp(self) -> None:
+        super().setUp()
+        self.room, self.folder = scratch(self), TOP / "share" / "packaging"
+        self.text = (self.folder / "action.yml").read_text(encoding="utf-8")
+
+    def step(self, files: str) -> Ran:
+        """What the step says of files, as the system that it is for begins it."""
+        script = re.search(r"^      run: \|\n((?:        .*\n)+)", self.text, re.M)
+        assert script
+        line = ["bash", "--noprofile", "--norc", "-eo", "pipefail", "-c", script[1]]
+        run = ran(line, folder=self.room, env={**os.environ, "GITHUB_ACTION_PATH": os.fspath(self.folder),
+                                               "FILES": files, "OPTIONS": "--steps 1000"})
+        return run._replace(output=re.sub(rb" \(step [0-9]+\)$", b"", run.output, flags=re.M), command="action.yml")
+
+    def test_action(self) -> None:
+        """Its script tells each doubt in the words of that system, at the place that trac lint has, and ends as that
+        does."""
+        for name, program in LINTED.items():
+            (self.room / (name + ".trac")).write_bytes(program)
+        self.ends("all programs", self.step("*.trac"), TOLD.encode(), 1)
+        self.ends("one without a doubt", self.step("right.trac"))
+        self.ends("one that is not there", self.step("none.trac"), b"", 2,
+                  b"trac lint: none.trac: it cannot be read\n")
+        self.same("it leaves no file", " ".join(sorted(os.listdir(self.room))),
+                  " ".join(sorted(name + ".trac" for name in LINTED)))
+
+    def test_action_inputs(self) -> None:
+        """The inputs that its script and its example name are those that it has."""
+        has = re.findall(r"^  (\w+):\n    description:", self.text, re.M)
+        for pattern in r"\$\{\{ inputs\.(\w+) \}\}", r"^#         (\w+):":
+            named = re.findall(pattern, self.text, re.M)
+            self.holds("{} are of {}".format(named, has), named and set(named) <= set(has))
 
 
 class Streams(InNode):

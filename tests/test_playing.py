@@ -244,6 +244,18 @@ class Playing(Case):
         self.same("at a terminal", without_prompts(seen, wanted), wanted, None, "seen")
         self.holds("it ends with 0, and not {}".format(status), status == 0)
 
+    def test_much_before_a_question(self) -> None:
+        """4 MB before a question: neither trac play nor this test goes over all that was printed for each part that
+        comes."""
+        text = "abcdefg\n" * 500000
+        self.file.write_bytes(b"#(ps,(" + text.encode() + b"))#(ps,<#(rs)>)'")
+        before = sum(os.times()[:4])
+        seen, status = self.seen([*PLAY, self.file], ["A'"])
+        seconds = sum(os.times()[:4]) - before
+        self.same("at a terminal", seen, text + "> A'\n<A>", None, "seen")
+        self.holds("it ends with 0, and not {}".format(status), status == 0)
+        self.holds("it takes {:.1f} s of a processor".format(seconds), seconds < 6)
+
     @each(SIZES)
     def test_memory(self, name: str) -> None:
         """By --memory 16M neither the run nor the walk beside it takes more, but for 16 MiB for the program itself;
@@ -257,11 +269,14 @@ class Playing(Case):
         held = int(peak.read_text("ascii"))
         self.holds("it held {} KiB".format(held), held <= 32768)
 
-    @each(("at-a-prompt", "at-work"))
+    @each(("at-a-prompt", "at-work", "by-quit-at-a-prompt", "by-quit-at-work"))
     def test_interrupted(self, where: str) -> None:
-        """Ctrl-C ends it at a prompt, and while the program is at work."""
+        """Ctrl-C ends it at a prompt, and while the program is at work, and so does Ctrl-\\; the terminal is as
+        before."""
         self.file.write_bytes(b"#(ds,L,(#(cl,L)))'#(ps,<#(rs)>)#(cl,L)'")
-        words = ["--line", "x'"] if where == "at-work" else []
+        words = ["--quit"] if where.startswith("by-quit") else []
+        words += ["--line", "x'"] if where.endswith("at-work") else []
         # (what a script begins in the background takes no interrupt, unless env says so)
-        self.ends("Ctrl-C", ran(["env", "--default-signal=INT", TESTS / "support" / "interrupted", *words, *PLAY,
-                                 self.file], env={**os.environ, "XDG_STATE_HOME": os.fspath(self.room / "state")}))
+        command: list[Word] = ["env", "--default-signal=INT", TESTS / "support" / "interrupted", *words, *PLAY, self.file]
+        state = {"XDG_STATE_HOME": os.fspath(self.room / "state")}
+        self.ends(where, ran(command, env={**os.environ, **state}))

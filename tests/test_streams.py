@@ -11,6 +11,7 @@ import pathlib
 import pty
 import random
 import re
+import resource
 import select
 import shutil
 import signal
@@ -22,7 +23,7 @@ from collections.abc import Sequence
 from typing import Any
 
 from support.cases import TOP, Case, Process, Word, each, patience, scratch, tests
-from support.terminals import ending_of
+from support.terminals import at_terminal, ending_of
 from support.unseen import SIGNS
 
 HELLO = b"#(ps,(Hello, world.\n))'"
@@ -33,7 +34,9 @@ TOOLS = {"run": ["trac", "run"], "debug": ["trac", "debug", "FILE"], "walk": ["t
          "lint": ["trac", "lint", "FILE"], "play": ["trac", "play", "FILE"], "page": ["trac", "page", "FILE"],
          "course": ["trac", "course"], "lesson": ["trac", "course", "1"],
          "check": ["trac", "course", "check", "1.1", "FILE"], "play-help": ["trac", "play", "--help"],
-         "page-version": ["trac", "page", "--version"], "help": ["trac", "--help"]}
+         "page-version": ["trac", "page", "--version"], "help": ["trac", "--help"], "version": ["trac", "--version"],
+         "run-help": ["trac", "run", "--help"], "walk-help": ["trac", "walk", "--help"],
+         "lint-help": ["trac", "lint", "--help"], "course-help": ["trac", "course", "--help"]}
 # Which are written in Python.
 PYTHON = ("play", "page", "course")
 IN_PYTHON = [name for name, words in TOOLS.items() if words[1] in PYTHON]
@@ -42,7 +45,8 @@ IN_PYTHON = [name for name, words in TOOLS.items() if words[1] in PYTHON]
 INPUTS = {"run": HELLO, "walk": b"s 3\np\nq\n", "debug": b"s 3\np\nq\n"}
 FILES = {"lint": b"#(ps,Hello, world)'"}
 # Which read standard input.
-READ = [words for words in TOOLS.values() if words[1] in INPUTS or words[1:] == ["play", "FILE"]]
+READ = [words for words in TOOLS.values()
+        if words[1] in INPUTS and words[-1] != "--help" or words[1:] == ["play", "FILE"]]
 # Bytes that a terminal obeys, turns around or does not show: escape sequences, bells, controls of one byte and all in
 # UTF-8, and signs that nobody sees.
 C1 = "".join(map(chr, range(0x80, 0xa0)))
@@ -78,7 +82,7 @@ def documented(words: list[str], streams: Sequence[str]) -> set[int]:
     """The statuses that a tool may end with where its streams are so."""
     reads, writes = (it == usual for it, usual in zip(streams[:2], USUAL))
     if words[1] == "lint":
-        return {1} if writes else {2}
+        return {1 if words[-1] == "FILE" else 0} if writes else {2}
     # (of two faults it meets either first)
     unread = ENDLESS[words[1]] if streams[0] == RARE[0][0] and words in READ else {6}
     faults = (unread if words in READ and not reads else set()) | (set() if writes else {7})
@@ -140,6 +144,10 @@ WORDED = [line.split() for line in """
     install WORD x
     install -WORD
     build WORD
+    check WORD
+    check -k WORD
+    check -k WORD -WORD
+    check --edits WORD
     trac WORD
     trac walkWORD
     trac --WORD
@@ -270,7 +278,7 @@ KEYS = {"edit": b"touch ran\x18\x05", "list": b"p \t\t\x1b?", "expand": b"$(touc
 OF_NAMES = {**{name: TOOLS[name] for name in ("play", "page", "check", "debug", "walk", "lint")},
             "lint-input": ["trac", "lint", "--input", "FILE", "FILE"]}
 SLOW = (TOOLS["play"], TOOLS["page"], ["trac", "course", "check", "5.1", "FILE"], TOOLS["walk"])
-SIGNALS = "SIGTERM", "SIGHUP", "SIGINT"
+SIGNALS = "SIGTERM", "SIGHUP", "SIGINT", "SIGQUIT"
 # Where the system gives less than a tool would take: of memory, though nobody may raise that bound, and no thread. And
 # where whoever begins it leaves it more open files than select takes.
 BOUNDS = (("ulimit -v 900000", TOOLS["check"], 1), ("ulimit -v 900000", TOOLS["play"], 0),
@@ -278,6 +286,13 @@ BOUNDS = (("ulimit -v 900000", TOOLS["check"], 1), ("ulimit -v 900000", TOOLS["p
           ('ulimit -n 4096; for it in {3..1100}; do eval "exec $it</dev/null"; done', TOOLS["check"], 1))
 # By each fault as Python begins, the status of the tool.
 FAULTS = {"MemoryError": 5, "ImportError": 70, "SystemError": 70}
+
+
+# How a terminal may stand for a stream that cannot be used so, and the statuses of tools then.
+ONE_WAY = {"0>/dev/tty": {"run": 6, "walk": 6, "debug": 6, "play": 6},
+           "1</dev/tty": {"run": 7, "walk": 7, "debug": 7, "play": 7, "course": 7, "check": 7, "help": 7, "lint": 2}}
+# A program that prints nothing before it asks.
+ASKS = b"#(ps,#(rs))'"
 
 
 @tests
@@ -452,13 +467,15 @@ class Streams(Case):
         if pid == 0:
             os.environ.update(TMPDIR=room, TERM="dumb")
             signal.signal(number, signal.SIG_DFL)
+            # (of what a signal ends no core is kept)
+            resource.setrlimit(resource.RLIMIT_CORE, (0, 0))
             line = 'exec "$@" >/dev/null' if words[1] == "page" else 'exec "$@"'
             os.execvp("bash", ("bash", "-c", line, "-", *command(words, self.file)))
         os.write(terminal, typed)
         seen: list[bytes] = []
         status = seen_until(pid, terminal, after, seen)
-        # (a Ctrl-C while Python begins is passed over)
-        turns = 40 if number == signal.SIGINT else 1
+        # (a Ctrl-C while Python begins is passed over; and bash, which begins it, passes over each Ctrl-\\)
+        turns = 40 if number in (signal.SIGINT, signal.SIGQUIT) else 1
         for _ in range(turns):
             if status is None:
                 os.kill(pid, number)
@@ -483,6 +500,24 @@ class Streams(Case):
             ended = self.ended(words, env={**os.environ, "TMPDIR": place})
             self.holds("TMPDIR={}: {}".format(place, ended),
                        (ended.returncode, ended.stdout) == (wanted.returncode, wanted.stdout))
+
+    @each("{}-{}".format(name, "read" if way[0] == "0" else "written") for way, wanted in ONE_WAY.items()
+          for name in wanted)
+    def test_terminals_of_one_way(self, case: str) -> None:
+        """Where a terminal stands for a stream and was not opened so, that is a fault as of any stream."""
+        name, deed = case.rsplit("-", 1)
+        way = next(way for way in ONE_WAY if (way[0] == "0") == (deed == "read"))
+        file = self.room / "asks.trac"
+        file.write_bytes(FILES.get(name, ASKS))
+        # (a run reads what it is to print; a debugger prints no prompt)
+        given = {"run": b"A'", "debug": b"p\n"}.get(name, b"")
+        source = self.room / "given"
+        source.write_bytes(given)
+        line = 'exec "$@" ' + ('<"$SOURCE" ' if given and deed == "written" else "") + way
+        seen, status = at_terminal(["/bin/bash", "-c", line, "-", *command(TOOLS[name], file)], [],
+                                   SOURCE=os.fspath(source))
+        self.holds("{} {}: status {}, {}".format(name, way, status, seen), status == ONE_WAY[way][name])
+        self.holds("one line says it: " + seen, re.fullmatch("([ -~]+\n)+", seen) and "Traceback" not in seen)
 
     def test_closed_input_as_file(self) -> None:
         """Where FILE is a standard input that is closed, it cannot be read."""
@@ -613,6 +648,19 @@ class FirstStarts(Case):
         there = [self.made.parent, *self.made.parent.iterdir()]
         open_to_all = [place.name for place in there if place.stat().st_mode & 0o022]
         self.holds("others may write {} of {}".format(open_to_all, len(there)), len(there) == 4 and not open_to_all)
+
+    def test_umask_and_options_of_the_shell(self) -> None:
+        """Whatever the umask, all may read the programs; and no option that SHELLOPTS sets is of use."""
+        before = os.umask(0o077)
+        try:
+            self.runs("a umask of 077, and options", SHELLOPTS="noglob:noclobber:posix")
+        finally:
+            os.umask(before)
+        wanted = {self.made.parent: 0o755, self.made: 0o755, self.made.with_name("trac-walk"): 0o755,
+                  self.made.with_name("made.txt"): 0o644}
+        modes = {place: place.stat().st_mode & 0o777 for place in wanted}
+        self.holds("their modes: {}".format(modes), modes == wanted)
+        self.runs("a later start", SHELLOPTS="noglob")
 
     def test_damaged_programs(self) -> None:
         self.runs("a first start")

@@ -313,9 +313,10 @@ class Terminal(Walker):
         run = ran([TESTS / "support" / "at-a-terminal", TOP / "trac", "walk", file], typed)
         self.ends(name + ", at a terminal", run, wanted.read_bytes(), place=Place(near(wanted)))
 
-    @each(("at-the-prompt", "during-a-long-move"))
+    @each(("at-the-prompt", "during-a-long-move", "by-quit-at-the-prompt", "by-quit-during-a-long-move"))
     def test_interrupted(self, when: str) -> None:
-        """Ctrl-C ends all that the launcher has begun."""
-        line = ["--line", "s 999999999999"] if when == "during-a-long-move" else []
-        run = ran([TESTS / "support" / "interrupted", *line, TOP / "trac", "walk", EXAMPLES / "endless.trac"])
-        self.status("Ctrl-C {}".format(when), run, 0)
+        """Ctrl-C ends all that the launcher has begun, and so does Ctrl-\\; the terminal is as before."""
+        words = ["--quit"] if when.startswith("by-quit") else []
+        words += ["--line", "s 999999999999"] if when.endswith("during-a-long-move") else []
+        run = ran([TESTS / "support" / "interrupted", *words, TOP / "trac", "walk", EXAMPLES / "endless.trac"])
+        self.status(when, run, 0)

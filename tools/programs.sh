@@ -5,6 +5,8 @@
 # they were made of, by `cksum`. Each start looks at them: a time or a size alone does not tell whether a file changed.
 # What release/ has is told from other bytes by SHA-256, in release/contents.txt, before it is taken to out/.
 shopt -s extglob
+# (whoever begins this may have set these by SHELLOPTS)
+set +fC +o posix
 # (else a limit on the size of files would end this where a write is to be refused)
 trap '' XFSZ
 out=$top/out release=$top/release archive=trac-linux-x86_64.tar.xz gzipped=trac-linux-x86_64.tar.gz
@@ -90,11 +92,11 @@ for name in "trac", "trac-walk":
     fi >/dev/null 2>&1
 }
 
-# Makes a folder in out/ for what is new there, `making`, which goes if a signal ends this. Nobody else may write there,
-# whatever the umask.
+# Makes a folder in out/ for what is new there, `making`, which goes if a signal ends this. Whatever the umask, all may
+# read what comes to be in out/, and nobody else may write it.
 make_folder() {
     local it
-    (umask go-w && mkdir -p "$out") 2>/dev/null && making=$(mktemp -d "$out/.new.XXXXXX" 2>/dev/null) || return 1
+    (umask 022 && mkdir -p "$out") 2>/dev/null && making=$(mktemp -d "$out/.new.XXXXXX" 2>/dev/null) || return 1
     for it in INT TERM HUP; do
         trap 'rm -rf "$making"; trap - '$it'; kill -s '$it' $$' $it
     done
@@ -104,7 +106,8 @@ make_folder() {
 # says what the programs are comes last: a program of which it does not tell is not run.
 keep_folder() {
     local status=$?
-    [ $status != 0 ] || { mv -f "$making"/trac{,-walk} "$out" && mv -f "$making/made.txt" "$out"; } || status=1
+    [ $status != 0 ] || { chmod 755 "$making"/trac{,-walk} && mv -f "$making"/trac{,-walk} "$out" &&
+        mv -f "$making/made.txt" "$out"; } || status=1
     rm -rf "$making"
     trap - INT TERM HUP
     return $status
@@ -126,7 +129,7 @@ take_released() {
         unpack "$making" || status=$?
         [ $status = 0 ] && is_sum "$making/trac" "$(released_sum trac)" &&
             is_sum "$making/trac-walk" "$(released_sum trac-walk)" &&
-            (umask go-w && made "$(released_sums)" 2>/dev/null >"$making/made.txt")
+            (umask 022 && made "$(released_sums)" 2>/dev/null >"$making/made.txt")
         keep_folder
     } && return
     if [ $status = 9 ]; then
@@ -154,7 +157,7 @@ built() {
 keep_built() {
     make_folder || return
     cp "$(built trac)" "$making/trac" && cp "$(built trac-walk)" "$making/trac-walk" &&
-        (umask go-w && made "$1" >"$making/made.txt")
+        (umask 022 && made "$1" >"$making/made.txt")
     keep_folder
 }
 

@@ -7,6 +7,7 @@ import { inputAfter, judged } from "./judging.js";
 import { addParts } from "./lesson.js";
 import { buttonOf, byId, make, textIn } from "./elements.js";
 import { startList } from "./lists.js";
+import { inTurn } from "./programs.js";
 
 const SHOWN_BYTES = 4096;
 
@@ -81,7 +82,8 @@ export class Course {
   /** @param {string} name @param {string} text */
   program(name, text) {
     const frame = make("div", "program");
-    const open = buttonOf(`Open ${name}`, () => this.page.open(name, new TextEncoder().encode(text)));
+    const opens = async () => this.page.open(name, new TextEncoder().encode(text));
+    const open = buttonOf(`Open ${name}`, () => inTurn(opens));
     frame.append(make("pre", "block", text.replace(/\n$/, "")), open);
     return frame;
   }

@@ -34,21 +34,24 @@ export class Draft {
     this.editor = editor;
     // whether what stands in the editor is kept or saved
     this.isKept = true;
-    // whether it was typed; whether such a program gave way to another, and was then no longer kept
-    this.isTyped = this.isOther = this.isLost = false;
-    /** @type {string | null} what this page has kept, if it is not saved too */
+    /** @type {string | null} what this page has kept, and the work on that program, unless that is saved too */
     this.own = null;
+    /** @type {import("./undoing.js").Work | null} */
+    this.work = null;
     /** @type {ReturnType<typeof setTimeout> | 0} */
     this.later = 0;
     // (the browser keeps one program: of two pages that of the other is kept now)
     addEventListener("storage", ({ key, newValue }) => {
-      if ((key === DRAFT || key === null) && this.own !== null && newValue !== this.own) this.isKept = false;
+      if ((key !== DRAFT && key !== null) || this.own === null || newValue === this.own) return;
+      if (this.work === editor.work) this.isKept = false;
+      this.own = this.work = null;
     });
-    addEventListener("pagehide", () => this.later && this.keep());
-    // what was typed and is neither saved nor kept is not to be lost
+    addEventListener("pagehide", () => this.leave());
+    // what was typed and is neither saved nor kept is not to be lost, nor is what gave way to another program
     addEventListener("beforeunload", (event) => {
-      if (this.later) this.keep();
-      if ((!this.isKept || this.isLost) && editor.bytes().length > 0) event.preventDefault();
+      this.leave();
+      const isLost = !this.isKept && editor.work.isTyped && editor.bytes().length > 0;
+      if (isLost || editor.undoing.typed().some((work) => work !== this.work)) event.preventDefault();
     });
   }
 
@@ -60,22 +63,20 @@ export class Draft {
   }
 
   typed() {
-    this.isTyped = true;
+    this.editor.work.isTyped = true;
     this.changed();
+  }
+
+  // What is to be kept soon is kept at once.
+  leave() {
+    if (this.later) this.keep();
   }
 
   // Another program is opened in its place. That of a link is not kept before it is changed.
   /** @param {boolean} isKept */
   opened(isKept) {
-    this.isOther ||= this.isTyped;
-    this.isTyped = false;
+    this.isKept = true;
     if (isKept) this.changed();
-  }
-
-  // One that stood there before is back.
-  restored() {
-    [this.isLost, this.isOther, this.isTyped] = [this.isTyped, false, true];
-    this.changed();
   }
 
   keep() {
@@ -84,17 +85,17 @@ export class Draft {
     const { editor } = this;
     const bytes = editor.bytes();
     const text = bytes.length > MOST_DRAFT ? null : textOf(bytes);
-    const draft = text === null ? null : JSON.stringify({ name: editor.name, text, isTyped: this.isTyped });
+    const { isTyped } = editor.work;
+    const draft = text === null ? null : JSON.stringify({ name: editor.name, text, isTyped });
     this.isKept = draft !== null && keepText(DRAFT, draft);
-    if (this.isKept && this.isOther) [this.isOther, this.isLost] = [false, true];
-    this.own = this.isKept ? draft : null;
+    if (this.isKept) [this.own, this.work] = [draft, editor.work];
   }
 
   // The program is in a file.
   saved() {
     this.isKept = true;
-    this.isTyped = false;
-    this.own = null;
+    this.editor.work.isTyped = false;
+    if (this.work === this.editor.work) this.own = this.work = null;
   }
 
   // Brings back what was kept, if there is something.
@@ -102,8 +103,8 @@ export class Draft {
     try {
       const { name, text, isTyped } = JSON.parse(kept(DRAFT) ?? "");
       if (typeof name !== "string" || typeof text !== "string" || text === "") return false;
-      this.editor.put({ name, bytes: new TextEncoder().encode(text) });
-      this.isTyped = isTyped !== false;
+      this.editor.put({ name, bytes: new TextEncoder().encode(text), work: { isTyped: isTyped !== false } });
+      this.work = this.editor.work;
       return true;
     } catch {
       return false;

@@ -3,29 +3,25 @@
 import { grouped, textOf } from "./bytes.js";
 import { fixedOf, unitOfFixed } from "./fixed.js";
 import { setLight } from "./lights.js";
-import { LONG, Paint, pairAround } from "./paint.js";
-import { isWriting } from "./focus.js";
-import { byId, elementOf, focused } from "./elements.js";
+import { isLong, Paint, pairAround } from "./paint.js";
+import { byId, focused } from "./elements.js";
 import { insertText, startIndenting } from "./indent.js";
+import { Undoing } from "./undoing.js";
 import { legible } from "./unseen.js";
 
 // A longer program is for reading only.
 const MOST_EDITED = 1 << 21;
-// So many programs that stood there before are kept, and so many bytes of them.
-const MOST_BEFORE = 20;
-const MOST_BEFORE_BYTES = 1 << 25;
 // Why a program is for reading only.
 const NO_TEXT = "it has bytes that are no text";
 const TWO_ENDS = "its line ends are of two kinds, CR LF and LF";
 
 /**
- * A program: its name, and its bytes. And a stretch of it: from a byte to before another.
- * @typedef {{ name: string, bytes: Uint8Array }} Held
+ * A stretch of a program: from a byte to before another.
  * @typedef {[from: number, to: number]} Stretch
+ * @typedef {import("./fixed.js").Fixed} Fixed
+ * @typedef {import("./undoing.js").Held} Held
+ * @typedef {import("./undoing.js").Work} Work
  */
-
-/** @typedef {import("./fixed.js").Fixed} Fixed */
-
 
 export class Editor {
   /** @param {() => void} changed */
@@ -42,20 +38,17 @@ export class Editor {
     this.kept = null;
     /** @type {Map<string, Stretch[]>} which bytes are lit, in which way */
     this.lit = new Map();
-    /** @type {Held[]} what stood there before, and after */
-    this.before = [];
-    /** @type {Held[]} */
-    this.after = [];
+    /** @type {Work} the work on what stands there */
+    this.work = { isTyped: false };
     // the text as it was opened
     this.opened = "";
     /** @type {ReturnType<typeof setTimeout> | undefined} */
     this.later = undefined;
-    /** @type {(name: string) => void} what is told that such a program is back */
-    this.restored = () => {};
+    this.undoing = new Undoing(this);
     this.box.addEventListener("input", () => {
       this.typed();
       changed();
-      this.showUndo();
+      this.undoing.show();
     });
     this.box.addEventListener("paste", (event) => {
       if (this.pasted(event)) changed();
@@ -66,8 +59,6 @@ export class Editor {
     });
     startIndenting(this.box);
     document.addEventListener("selectionchange", () => this.lightPair());
-    document.addEventListener("keydown", (event) => this.key(event));
-    byId("undo").addEventListener("click", () => this.goBack(this.before, this.after));
     byId("mend").addEventListener("click", () => this.mend());
     this.repaint();
   }
@@ -75,10 +66,10 @@ export class Editor {
   // Something else stands in the box.
   typed() {
     clearTimeout(this.later);
-    const { length } = this.box.value;
-    if (length > MOST_EDITED) return this.put({ name: this.name, bytes: this.encoded(this.box.value) });
+    const { name, work, box: { value } } = this;
+    if (value.length > MOST_EDITED) return this.put({ name, bytes: this.encoded(value), work });
     if (this.fixed) this.free();
-    if (length < LONG) this.repaint();
+    if (!isLong(value)) this.repaint();
     else this.later = setTimeout(() => this.repaint(), 150);
     return undefined;
   }
@@ -98,16 +89,15 @@ export class Editor {
   // Opens a program in place of what is there, which can be brought back.
   /** @param {string} name @param {Uint8Array} bytes */
   open(name, bytes) {
-    if (this.box.value !== "") this.keep(this.before);
-    this.after = [];
+    this.undoing.leave();
     this.put({ name, bytes });
   }
 
   // Shows a program. What is long, is not UTF-8, or has line ends of two kinds, is for reading only.
   /** @param {Held} held */
-  put({ name, bytes }) {
+  put({ name, bytes, work = { isTyped: false } }) {
     clearTimeout(this.later);
-    this.name = name;
+    [this.name, this.work] = [name, work];
     this.lit.clear();
     const text = bytes.length > MOST_EDITED ? null : textOf(bytes);
     const plain = text === null ? null : text.replaceAll("\r\n", "\n");
@@ -122,55 +112,21 @@ export class Editor {
     this.opened = this.box.value;
     this.repaint();
     this.frame.scrollTop = 0;
-    this.showUndo();
+    this.undoing.show();
+  }
+
+  // Whether nothing was typed since a program was opened.
+  get isAsOpened() {
+    return this.box.value === this.opened;
   }
 
   // Has one kind of line ends in place of two, so that the program can be edited.
   mend() {
     const text = textOf(this.bytes()) ?? "";
     this.open(this.name, new TextEncoder().encode(text.replaceAll("\r\n", "\n")));
-    this.restored(this.name);
+    this.work.isTyped = true;
+    this.undoing.restored(this.name);
     this.box.focus();
-  }
-
-  // Keeps what is there.
-  /** @param {Held[]} list */
-  keep(list) {
-    list.push({ name: this.name, bytes: this.bytes() });
-    const length = () => list.reduce((sum, { bytes }) => sum + bytes.length, 0);
-    while (list.length > MOST_BEFORE || length() > MOST_BEFORE_BYTES) list.shift();
-  }
-
-  // Brings back what stood there before another program was opened, or after.
-  /** @param {Held[]} from @param {Held[]} to */
-  goBack(from, to) {
-    const held = from.pop();
-    if (!held) return;
-    this.keep(to);
-    this.put(held);
-    this.restored(held.name);
-    this.box.focus({ preventScroll: true });
-  }
-
-  // Ctrl+Z, where nothing was typed since a program was opened, brings back the one before. All else is undone by the
-  // browser.
-  /** @param {KeyboardEvent} event */
-  key(event) {
-    const key = event.key.toLowerCase();
-    if (!(event.ctrlKey || event.metaKey) || event.altKey || !["z", "y"].includes(key)) return;
-    const isElsewhere = elementOf(event) !== this.box && isWriting(elementOf(event));
-    const isAgain = key === "y" || event.shiftKey;
-    if (isElsewhere || this.box.value !== this.opened || !(isAgain ? this.after : this.before).length) return;
-    event.preventDefault();
-    if (isAgain) this.goBack(this.after, this.before);
-    else this.goBack(this.before, this.after);
-  }
-
-  showUndo() {
-    const held = this.before[this.before.length - 1];
-    const button = byId("undo");
-    button.hidden = !held || this.box.value !== this.opened;
-    button.textContent = held ? `bring back ${legible(held.name)}` : "";
   }
 
   // The box is for writing.
@@ -254,9 +210,9 @@ export class Editor {
   light(name, stretches, isShown = true) {
     this.lit.set(name, stretches);
     const rising = [...new Set(stretches.flatMap(([from, to]) => [from, to - 1]))].sort((one, other) => one - other);
-    const units = this.unitsOf(rising);
+    const units = new Map(this.unitsOf(rising).map((unit, at) => [rising[at], unit]));
     /** @param {number} byte */
-    const unitOf = (byte) => units[rising.indexOf(byte)];
+    const unitOf = (byte) => units.get(byte) ?? -1;
     const ranges = stretches.flatMap(([from, to]) => this.paint.rangesOf(unitOf(from), unitOf(to - 1) + 1));
     setLight(name, ranges);
     if (isShown && ranges.length && focused() !== this.box) this.bring(ranges[0]);
@@ -277,7 +233,7 @@ export class Editor {
   // Shows the part that has a byte in its middle, with what is lit in it.
   /** @param {Fixed} fixed @param {number} number */
   showAround({ bytes, why }, number) {
-    const isOpened = this.box.value === this.opened;
+    const isOpened = this.isAsOpened;
     this.fix(fixedOf(bytes, why, number));
     if (isOpened) this.opened = this.box.value;
     this.repaint();
@@ -292,5 +248,3 @@ export class Editor {
     this.frame.scrollTop += at.top - frame.top - frame.height / 2;
   }
 }
-
-

@@ -1,6 +1,7 @@
 // Bytes of a program that are for reading only: the box cannot give them back as they were, so signs stand in their
 // place.
 import { runsOf } from "./cells.js";
+import { lastFrom } from "./paint.js";
 import { startOfSign } from "./output.js";
 
 // Of more bytes than this a part is shown: browsers take some hundred bytes of memory for each sign that is in a box.
@@ -45,7 +46,7 @@ export function fixedOf(bytes, why, middle = 0) {
  */
 export function unitOfFixed({ from, to, places }, number) {
   if (number < from || number >= to) return -1;
-  const place = places.filter(({ byte }) => byte <= number).at(-1) ?? places[0];
+  const place = places[lastFrom(places.length, (at) => places[at].byte, number)];
   return place.unit + Math.floor((number - place.byte) / place.per);
 }
 

@@ -111,7 +111,7 @@ engineOfPage(DECIMALS).then(async (engine) => {
   welcome(page, given !== null);
   // (a link to the page of a program says more than that)
   if (given && location.hash.length < 2) await openGiven(page, given);
-  else await openAddress(page);
+  else await openAddress(page, location.hash);
   document.documentElement.dataset.ready = "yes";
 }).catch((fault) => {
   byId("ending").textContent = `This page takes Chromium 105, Firefox 121, Safari 16.4 or later: ${fault.message}`;

@@ -12,6 +12,7 @@ import { Big } from "./big.js";
 import { CHANGED, View } from "./view.js";
 import { Cursor } from "./cursor.js";
 import { Library } from "./welcome.js";
+import { dismiss } from "./question.js";
 import { byId } from "./elements.js";
 import { Runs } from "./runs.js";
 
@@ -28,15 +29,17 @@ export class Page {
     engine.told = (count) => this.view.waits(count);
     this.editor = new Editor(() => this.changed());
     this.draft = new Draft(this.editor);
-    this.editor.restored = (name) => {
+    this.editor.undoing.restored = (name) => {
       this.forget();
-      this.draft.restored();
+      this.draft.changed();
       this.announcer.say("ending", `${name} is back.`);
     };
     /** @type {Run | null} the run that is shown */
     this.run = null;
     // whether the editor has another program than was run
     this.isStale = false;
+    // how often a program was opened, or brought back
+    this.opened = 0;
     this.announcer = new Announcer();
     this.view = new View(this);
     this.runs = new Runs(this);
@@ -75,6 +78,7 @@ export class Page {
   // editor can be brought back. That of a link is not kept for the next time.
   /** @param {string} name @param {Uint8Array} bytes */
   open(name, bytes, isKept = true) {
+    this.draft.leave();
     this.editor.open(name, bytes);
     byId("welcome-about").hidden = true;
     this.forget();
@@ -82,8 +86,10 @@ export class Page {
     this.announcer.say("ending", `${byId("program-name").textContent} is opened.`);
   }
 
-  // Another program is opened: nothing of the last run is shown.
+  // Another program is opened: nothing of the last run is shown, and nothing is asked of it.
   forget() {
+    this.opened++;
+    dismiss();
     this.runs.leave();
     this.view.clear();
     this.view.busy(false);

@@ -3,14 +3,28 @@
 import { PRIMITIVES } from "./words.js";
 import { make } from "./elements.js";
 
-// A longer program is painted without colours and numbers of lines, and only once its typist rests.
-export const LONG = 65536;
+// A program that is longer, or has more lines, is painted without colours and numbers of lines, so many lines as one,
+// and only once its typist rests.
+const LONG = 65536;
+const MOST_LINES = 8192;
+const LINES_AS_ONE = 64;
 
 /**
- * A part of a program, with what it is of; and a line that is painted, with what it is known by.
+ * A part of a program, with what it is of; and a line that is painted, or several without colours, with what it is
+ * known by, and once it is asked for its texts, each with where it begins in that.
  * @typedef {{ of: string, text: string }} Part
- * @typedef {{ key: string, element: HTMLElement }} PaintedLine
+ * @typedef {{ text: Text, start: number }} Piece
+ * @typedef {{ key: string, element: HTMLElement, pieces?: Piece[] }} PaintedLine
  */
+
+// Whether a program is painted so.
+/** @param {string} text */
+export function isLong(text) {
+  if (text.length >= LONG) return true;
+  let lines = 0;
+  for (let at = text.indexOf("\n"); at >= 0; at = text.indexOf("\n", at + 1)) lines++;
+  return lines > MOST_LINES;
+}
 
 // The parts of a program, each with what it is of: the signs of calls, names of primitives, protected text, numbers,
 // ends of texts, parentheses that match none. It is said by the bytes alone: what `cm` chooses is not known.
@@ -64,6 +78,39 @@ function linesOfProgram(text) {
   return lines;
 }
 
+// A text without colours, in parts of some lines each: those of the text before that stand at the front and at the end
+// of this one stay, so that a sign that is typed changes one of them. (All of them end with a line end.)
+/** @param {string} text @param {string[]} before */
+function blocksOf(text, before) {
+  let front = 0, from = 0, back = before.length, to = text.length;
+  while (front < back && text.startsWith(before[front], from)) from += before[front++].length;
+  while (back > front && to - before[back - 1].length >= from && text.endsWith(before[back - 1], to)) {
+    to -= before[--back].length;
+  }
+  // (what stands between them may go on in a line of the next one)
+  if (to > from && text[to - 1] !== "\n") to += before[back++].length;
+  const changed = [];
+  while (from < to) {
+    let end = from;
+    for (let count = 0; count < LINES_AS_ONE && end < to; count++) end = text.indexOf("\n", end) + 1;
+    changed.push(text.slice(from, end));
+    from = end;
+  }
+  return [...before.slice(0, front), ...changed, ...before.slice(back)];
+}
+
+// Which of things that stand in order is the last that begins at a place or before it; the first where none does.
+/** @param {number} count @param {(at: number) => number} start @param {number} place */
+export function lastFrom(count, start, place) {
+  let low = 0, high = count - 1;
+  while (low < high) {
+    const middle = (low + high + 1) >> 1;
+    if (start(middle) <= place) low = middle;
+    else high = middle - 1;
+  }
+  return low;
+}
+
 // The beginning and the end of the call or the parentheses that a place stands in, as places; nothing outside all.
 /** @param {string} text @param {number} at */
 export function pairAround(text, at) {
@@ -97,37 +144,64 @@ export class Paint {
   // Paints a text, without colours if it is long or a part. Lines that are the same as before stay as they are.
   /** @param {string} text */
   show(text, isPart = false) {
-    this.isPlain = isPart || text.length >= LONG;
+    const before = this.isPlain ? this.lines.map(({ key }) => key) : [];
+    this.isPlain = isPart || isLong(text);
     // (the line after the last line end has room too)
-    const lines = this.isPlain ? [[{ of: "", text: `${text}\n` }]] : linesOfProgram(text);
-    const keys = lines.map((line) => JSON.stringify(line));
-    const old = this.lines;
+    if (this.isPlain) this.put(blocksOf(`${text}\n`, before), (block) => block, (block) => [{ of: "", text: block }]);
+    else this.put(linesOfProgram(text), (line) => JSON.stringify(line), (line) => line);
+    if (this.isPlain) this.length = text.length;
+  }
+
+  // Shows lines, by what each is known and which parts it has, in place of those before. Of those that differ the
+  // first have their elements: else all lines after them would be numbered anew.
+  /**
+   * @template Kind
+   * @param {Kind[]} lines
+   * @param {(line: Kind) => string} keyOf
+   * @param {(line: Kind) => Part[]} partsOf
+   */
+  put(lines, keyOf, partsOf) {
+    const keys = lines.map(keyOf), old = this.lines;
     let front = 0, back = 0;
     const most = Math.min(keys.length, old.length);
     while (front < most && old[front].key === keys[front]) front++;
     while (back < most - front && old[old.length - 1 - back].key === keys[keys.length - 1 - back]) back++;
-    for (const { element } of old.slice(front, old.length - back)) element.remove();
-    const changed = lines.slice(front, lines.length - back);
-    const fresh = changed.map((line, at) => ({ key: keys[front + at], element: lineOf(line) }));
-    const after = old[old.length - back]?.element ?? null;
-    for (const { element } of fresh) this.place.insertBefore(element, after);
+    const gone = old.slice(front, old.length - back), added = new DocumentFragment();
+    const fresh = lines.slice(front, lines.length - back).map((line, at) => {
+      const element = gone[at]?.element ?? added.appendChild(make("div", "line"));
+      fill(element, partsOf(line));
+      return { key: keys[front + at], element };
+    });
+    for (const { element } of gone.slice(fresh.length)) element.remove();
+    this.place.insertBefore(added, old[old.length - back]?.element ?? null);
     this.lines = [...old.slice(0, front), ...fresh, ...old.slice(old.length - back)];
     this.starts = [0];
-    let end = 0;
-    for (const line of lines) this.starts.push(end += line.reduce((sum, { text: part }) => sum + part.length, 0));
-    this.length = this.isPlain ? text.length : end;
+    this.length = 0;
+    for (const line of lines) {
+      this.length += partsOf(line).reduce((sum, { text }) => sum + text.length, 0);
+      this.starts.push(this.length);
+    }
   }
 
   // The line that has a unit of the text.
   /** @param {number} unit */
   lineAt(unit) {
-    let low = 0, high = this.lines.length - 1;
-    while (low < high) {
-      const middle = (low + high + 1) >> 1;
-      if (this.starts[middle] <= unit) low = middle;
-      else high = middle - 1;
+    return lastFrom(this.lines.length, (at) => this.starts[at], unit);
+  }
+
+  // The texts of a line. (One line may have tens of thousands.)
+  /** @param {number} number */
+  piecesOf(number) {
+    const line = this.lines[number];
+    if (line.pieces) return line.pieces;
+    line.pieces = [];
+    let start = 0;
+    for (const { firstChild: text } of line.element.children) {
+      if (!(text instanceof Text)) continue;
+      line.pieces.push({ text, start });
+      start += text.length;
     }
-    return low;
+    return line.pieces;
   }
 
   // The ranges of a stretch of the text, one in each part that has some of it.
@@ -147,27 +221,20 @@ export class Paint {
   /** @param {number} unit */
   rangeOf(unit, count = 1) {
     if (unit < 0 || unit >= this.length) return null;
-    const line = this.lineAt(unit);
-    let left = unit - this.starts[line];
-    for (const { firstChild: text } of this.lines[line].element.children) {
-      if (!(text instanceof Text)) continue;
-      if (left < text.length) {
-        const range = document.createRange();
-        range.setStart(text, left);
-        range.setEnd(text, Math.min(left + count, text.length));
-        return range;
-      }
-      left -= text.length;
-    }
-    return null;
+    const line = this.lineAt(unit), pieces = this.piecesOf(line), place = unit - this.starts[line];
+    const piece = pieces[lastFrom(pieces.length, (at) => pieces[at].start, place)];
+    if (!piece || place >= piece.start + piece.text.length) return null;
+    const range = document.createRange();
+    range.setStart(piece.text, place - piece.start);
+    range.setEnd(piece.text, Math.min(place - piece.start + count, piece.text.length));
+    return range;
   }
 }
 
-// A line of the painted text.
-/** @param {Part[]} parts */
-function lineOf(parts) {
-  const line = make("div", "line");
-  for (const { of, text } of parts) line.append(make("span", of && `of-${of}`, text));
-  if (parts.length === 0) line.append(make("br"));
-  return line;
+// Gives the element of a line its painted text.
+/** @param {HTMLElement} element @param {Part[]} parts */
+function fill(element, parts) {
+  element.replaceChildren();
+  for (const { of, text } of parts) element.append(make("span", of && `of-${of}`, text));
+  if (parts.length === 0) element.append(make("br"));
 }

@@ -7,6 +7,17 @@ import { legible } from "./unseen.js";
 
 // The most bytes that a program may have. A longer file is not even read: a tab has no room for any size.
 const MOST_BYTES = 33554432;
+/** @type {Promise<unknown>} what is opened, up to what was asked for last */
+let opening = Promise.resolve();
+
+// Takes what is to be opened in its turn: so what was asked for last stands in the editor, however long each takes, and
+// what was there can be brought back.
+/** @template Kind @param {() => Promise<Kind>} does @returns {Promise<Kind>} */
+export function inTurn(does) {
+  const done = opening.then(does);
+  opening = done.catch(() => {});
+  return done;
+}
 
 /** @param {Page} page @param {File | undefined} file */
 async function openFile(page, file) {
@@ -16,11 +27,13 @@ async function openFile(page, file) {
     refuseFile(page, `${legible(file.name)} has ${grouped(file.size)} bytes: ${most}. Nothing is opened.`);
     return;
   }
-  try {
-    page.open(file.name, new Uint8Array(await file.arrayBuffer()));
-  } catch {
-    refuseFile(page, `${legible(file.name)} cannot be read. Nothing is opened.`);
-  }
+  await inTurn(async () => {
+    try {
+      page.open(file.name, new Uint8Array(await file.arrayBuffer()));
+    } catch {
+      refuseFile(page, `${legible(file.name)} cannot be read. Nothing is opened.`);
+    }
+  });
 }
 
 // Says that a file is not opened.
@@ -75,13 +88,16 @@ export function budgetTo(step) {
   return BUDGET * Math.max(Math.ceil((step ?? 0) / BUDGET), 1);
 }
 
-// Runs a program, and goes to the step that a link or a page is to, if there is one.
+// Runs a program, and goes to the step that a link or a page is to, if there is one; unless another run is shown by
+// then.
 /** @param {Page} page @param {Wanted & { step: number | null }} wanted @param {string} who */
 export async function performTo(page, { program, inputs, isClosed, step, budget }, who) {
-  await page.runs.perform({ program, inputs, isClosed, budget, isNew: true });
-  if (!page.run || step === null) return;
+  const run = await page.runs.perform({ program, inputs, isClosed, budget, isNew: true });
+  if (!run || run !== page.run || step === null) return;
   await page.cursor.visit(step);
-  if (step > page.run.end) page.view.note(`${who} is to step ${grouped(step)}, and the run ends before it`);
+  if (step > run.end && run === page.run) {
+    page.view.note(`${who} is to step ${grouped(step)}, and the run ends before it`);
+  }
 }
 
 // Runs what was put into the page, and goes to its step, or stays at the end. It is not kept for the next time.

@@ -10,6 +10,21 @@ const LONGEST = 64;
 const MOST_MARKED = 400;
 const [OPENS, CLOSES, COMMA, HASH, APOSTROPHE] = [..."(),#'"].map((sign) => sign.charCodeAt(0));
 
+// What primitives are called in other languages, or in full.
+/** @type {Record<string, string>} */
+const OTHER_NAMES = {
+  ps: "print println printf write echo say put puts output display", rs: "read readln readline input get gets ask",
+  ds: "define def let set", dd: "delete del", cl: "call", pf: "printform", eq: "equal equals if", gr: "greater if",
+  ad: "add plus", su: "subtract sub minus", ml: "multiply mul times", dv: "divide div", hl: "halt stop exit quit end",
+};
+
+// The primitives that others call so.
+/** @param {string} name */
+export function primitivesCalled(name) {
+  const small = name.toLowerCase().trim();
+  return Object.keys(OTHER_NAMES).filter((one) => OTHER_NAMES[one].split(" ").includes(small));
+}
+
 // Whether one name becomes another by one slip: a sign that is wrong, missing or too many, or two that are swapped.
 /** @param {string} one @param {string} other */
 export function isSlip(one, other) {
@@ -23,10 +38,12 @@ export function isSlip(one, other) {
   return isSwapped || rest.slice(1) === left.slice(1);
 }
 
-// The primitives that a name is one slip from: of names of two signs half are near, so those that begin as it does, if
-// some do.
+// The primitives that others call so, or else that a name is one slip from: of names of two signs half are near, so
+// those that begin as it does, if some do.
 /** @param {string} name */
 function primitivesLike(name) {
+  const called = primitivesCalled(name);
+  if (called.length) return called;
   const small = name.toLowerCase();
   const near = Object.keys(PRIMITIVES).filter((one) => isSlip(small, one));
   const first = near.filter((one) => one[0] === small.trim()[0]);
@@ -61,9 +78,15 @@ function offered(words, forms) {
   if (!name || name.length > LONGEST) return "";
   const near = kind === "form" ? formsLike(name, forms)
     : [...primitivesLike(name), ...formsLike(name, forms).map((form) => `#(cl,${form})`)];
+  return near.length ? `: ${question(near)}` : "";
+}
+
+// Asks whether one of these was meant.
+/** @param {string[]} near */
+export function question(near) {
   const some = near.slice(0, MOST_OFFERED);
   const all = some.length > 1 ? `${some.slice(0, -1).join(", ")} or ${some.at(-1)}` : some[0];
-  return some.length ? `: did you mean ${all}?` : "";
+  return `did you mean ${all}?`;
 }
 
 // Where the name or the argument ends that begins at a byte of a program: at the comma or the parenthesis after it.

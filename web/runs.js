@@ -48,8 +48,9 @@ export class Runs {
 
   /**
    * Runs a program with its input, and goes to the end. Until then the run before is there, and is asked over its own
-   * input.
+   * input. Returns the run, or nothing where it has come to no end, or is not wanted any more.
    * @param {Wanted} asked
+   * @returns {Promise<Run | null>}
    */
   async perform(asked) {
     const { page } = this;
@@ -69,10 +70,13 @@ export class Runs {
       if (wanted.budget === wanted.from) came.stand = "stopped";
       const run = this.runOf(wanted, came);
       const states = await run.story.around(run.end, run.end);
-      if (wanted === this.began) this.take(run, states);
+      if (wanted !== this.began) return null;
+      this.take(run, states);
+      return run;
     } catch (fault) {
       if (wanted === this.began) this.fail(fault instanceof Stopped ? STOPPED : wordsOf(fault));
       page.view.say(fault);
+      return null;
     }
   }
 

@@ -4,7 +4,7 @@ import { BUDGET } from "./measure.js";
 import { linkOf, openedLink, WrongLink } from "./link.js";
 import { DECIMALS, WIDE } from "./given.js";
 import { byId } from "./elements.js";
-import { budgetTo, performTo } from "./programs.js";
+import { budgetTo, inTurn, performTo } from "./programs.js";
 import { ask } from "./question.js";
 
 // A link's run goes no further than this step, and by itself no further than any run.
@@ -25,29 +25,35 @@ function heldByPage(page) {
   };
 }
 
-// Opens what a link holds: the program, and if it was run, a run with the same input, at the same step.
+// Opens what a link holds: the program, and if it was run, a run with the same input, at the same step; unless another
+// program is opened before that is wanted.
 /** @param {Page} page @param {Linked} held */
 async function openHeld(page, held) {
   page.open("shared.trac", held.program, false);
+  const { opened } = page;
   if (held.step === null) return;
   const steps = Math.min(held.step, MOST_LINK_STEPS);
   const isFar = steps > BUDGET
     && await ask(`The link is to step ${grouped(held.step)}. Run ${grouped(steps)} steps of this program?`);
-  await performTo(page, { ...held, budget: budgetTo(isFar ? steps : 0) }, "the link");
+  if (opened === page.opened) await performTo(page, { ...held, budget: budgetTo(isFar ? steps : 0) }, "the link");
 }
 
-// Opens the link that is the address, if there is one. If it is wrong, that is said beside an empty editor.
-/** @param {Page} page */
-export async function openAddress(page) {
-  if (location.hash.length < 2) return;
-  try {
-    await openHeld(page, await openedLink(location.hash));
-  } catch (fault) {
-    if (!(fault instanceof WrongLink)) throw fault;
-    page.open("program.trac", new Uint8Array(0), false);
-    page.view.showWords(fault.message);
-    page.announcer.say("ending", fault.message);
-  }
+// Opens the link that is an address, if there is one. If it is wrong, that is said beside an empty editor.
+/** @param {Page} page @param {string} address */
+export async function openAddress(page, address) {
+  if (address.length < 2) return;
+  let run = Promise.resolve();
+  await inTurn(async () => {
+    try {
+      run = openHeld(page, await openedLink(address));
+    } catch (fault) {
+      if (!(fault instanceof WrongLink)) throw fault;
+      page.open("program.trac", new Uint8Array(0), false);
+      page.view.showWords(fault.message);
+      page.announcer.say("ending", fault.message);
+    }
+  });
+  await run;
 }
 
 // Whether the page came over a network: else a link to it is worth nothing to others.
@@ -89,18 +95,25 @@ async function copyLink() {
   }
 }
 
-// Opens a link that was pasted. If it is wrong, that is said, and nothing else changes.
+// Opens a link that was pasted. If it is wrong, that is said, and nothing else changes; nor does it where the box is
+// closed meanwhile.
 /** @param {Page} page */
 async function openPasted(page) {
-  try {
-    const held = await openedLink(byId("paste").value);
-    byId("open-box").close();
-    await openHeld(page, held);
-  } catch (fault) {
-    if (!(fault instanceof WrongLink)) throw fault;
-    byId("open-note").textContent = fault.message;
-    byId("paste").setAttribute("aria-invalid", "true");
-  }
+  const box = byId("open-box"), text = byId("paste").value;
+  let run = Promise.resolve();
+  await inTurn(async () => {
+    try {
+      const held = await openedLink(text);
+      if (!box.open) return;
+      box.close();
+      run = openHeld(page, held);
+    } catch (fault) {
+      if (!(fault instanceof WrongLink)) throw fault;
+      byId("open-note").textContent = fault.message;
+      byId("paste").setAttribute("aria-invalid", "true");
+    }
+  });
+  await run;
 }
 
 /** @param {Page} page */
@@ -122,5 +135,6 @@ export function startSharing(page) {
     openPasted(page);
   });
   byId("open-close").addEventListener("click", () => byId("open-box").close());
-  addEventListener("hashchange", () => openAddress(page));
+  // (of two links after each other the address has the last one by now)
+  addEventListener("hashchange", ({ newURL }) => openAddress(page, new URL(newURL).hash));
 }

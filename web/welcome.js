@@ -3,6 +3,7 @@
 import { bytesOfSigns, textOf } from "./bytes.js";
 import { buttonOf, byId, make, textIn } from "./elements.js";
 import { startList } from "./lists.js";
+import { inTurn } from "./programs.js";
 
 // What is there at first, and what else is offered beside that.
 const FIRST = "wrong-factorial.trac";
@@ -38,8 +39,10 @@ export class Library {
 
   /** @param {Program} program */
   open(program) {
-    this.page.open(program.name, bytesOfSigns(program.text));
-    this.page.view.showWords(`${program.title}: ${program.line}. Press Run.`);
+    inTurn(async () => {
+      this.page.open(program.name, bytesOfSigns(program.text));
+      this.page.view.showWords(`${program.title}: ${program.line}. Press Run.`);
+    });
   }
 
   /** @param {string} name */

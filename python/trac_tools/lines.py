@@ -3,11 +3,12 @@ the next time, and Tab completes what a tool says. No key runs a command, or lis
 from __future__ import annotations
 
 import contextlib
+import errno
 import os
 import sys
 from collections.abc import Callable
 
-from trac_tools.tool import tell, write
+from trac_tools.tool import Fault, is_opened, tell, write
 
 try:
     import readline
@@ -93,6 +94,9 @@ def ask(prompt: str) -> bytes:
         # (as the line editor does: else a terminal that does not wait for a line would seem to have ended)
         os.set_blocking(0, True)
         return sys.stdin.buffer.readline()
+    if not is_opened(1, os.O_WRONLY):
+        # (the line editor would show no prompt, and wait)
+        raise Fault("the output cannot be written: {}".format(os.strerror(errno.EBADF)), 7)
     try:
         return input(prompt).encode(sys.stdin.encoding, "surrogateescape") + b"\n"
     except EOFError:

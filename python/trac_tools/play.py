@@ -21,8 +21,8 @@ from subprocess import PIPE
 
 from trac_tools import lines
 from trac_tools.dialogue import Debugger, NoMemory, bytes_of
-from trac_tools.tool import (Fault, Process, ShowVersion, Words, begin, beside, program, read_file, ready, shown, tell,
-                             write)
+from trac_tools.tool import (Fault, Process, ShowVersion, Words, begin, beside, is_opened, program, read_file, ready,
+                             shown, tell, write)
 
 # The most memory that the walk may take, where --memory does not say it. The system bounds it too: then with some
 # room for the program itself, and for what the heap of the C library cannot use again.
@@ -399,7 +399,9 @@ def pass_on(words: list[str], tape: bytes) -> int:
         try:
             while data:
                 write(data, ours.fileno())
-                ready([0], [])
+                # (a terminal that cannot be read may be waited for all the same)
+                if is_opened(0, os.O_RDONLY):
+                    ready([0], [])
                 data = os.read(0, 65536)
         except Fault:
             pass
@@ -441,7 +443,7 @@ def main(given: list[str]) -> int:
     words = [word for name in ("budget", "journal", "decimals", "memory") if getattr(chosen, name) is not None
              for word in ("--" + name, getattr(chosen, name))]
     tape = read_file(chosen.file)
-    if not os.isatty(0):
+    if not os.isatty(0) or not is_opened(0, os.O_RDONLY):
         return pass_on(words, tape)
     with lines.History("play"):
         play = Play(words, chosen.memory, tape)

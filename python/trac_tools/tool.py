@@ -5,6 +5,7 @@ from __future__ import annotations
 import argparse
 import contextlib
 import errno
+import fcntl
 import os
 import re
 import select
@@ -125,6 +126,12 @@ def ready(reads: list[int], writes: list[int], seconds: float | None = None) -> 
     return [it for it in reads if it in found], [it for it in writes if it in found]
 
 
+def is_opened(stream: int, way: int) -> bool:
+    """Whether a stream was opened to be read (os.O_RDONLY) or written (os.O_WRONLY); a terminal, too, may be so in one
+    way alone."""
+    return fcntl.fcntl(stream, fcntl.F_GETFL) & (os.O_WRONLY | os.O_RDWR) in (way, os.O_RDWR)
+
+
 def write(text: str | bytes | bytearray, to: int = 1) -> None:
     """Writes a whole text or bytes, also where a stream takes a part at a time. Where it takes no more, that is a fault
     of status 7: in no words, if only the reader is gone."""
@@ -212,8 +219,9 @@ def stop(number: int, _: object) -> None:
 
 
 def take_signals() -> None:
-    """Has signals end the tool in its own way, but for those that whoever began it wants passed over."""
-    for number in (signal.SIGINT, signal.SIGTERM, signal.SIGHUP):
+    """Has signals end the tool in its own way, but for those that whoever began it wants passed over. (Else one that
+    comes at a prompt, as Ctrl-\\ does, would leave the terminal as the line editor has it.)"""
+    for number in (signal.SIGINT, signal.SIGTERM, signal.SIGHUP, signal.SIGQUIT):
         if signal.getsignal(number) != signal.SIG_IGN:
             signal.signal(number, stop)
 

@@ -10,7 +10,7 @@ import re
 from subprocess import PIPE
 
 from trac_tools import lines
-from trac_tools.tool import begin, program, ready, tell, write
+from trac_tools.tool import begin, is_opened, program, ready, tell, write
 
 # A prompt of the program, and what may become one: of a number of 64 bits. (A long line of digits is none.)
 PROMPT, MAY_BE = re.compile(rb"([0-9]{1,20})> "), re.compile(rb"[0-9]{0,20}>? ?")
@@ -123,8 +123,9 @@ class Session:
 def main(words: list[str]) -> int:
     """Walks; returns the exit status."""
     file = file_of(words)
-    if is_own_input(file):
-        # (of the pipe that is begun here for its lines, it would wait for the end first)
+    if is_own_input(file) or not is_opened(0, os.O_RDONLY) or not is_opened(1, os.O_WRONLY):
+        # (of the pipe that is begun here for its lines, it would wait for the end first; and what it cannot read or
+        # write it says itself)
         os.execv(program("trac-walk"), ["trac-walk", *words])
     forms = forms_of(file)
     with lines.History("walk", lambda front: completed(front, forms)):

@@ -22,12 +22,14 @@ def at_terminal(words: Sequence[Word], typed: Iterable[str | bytes], **environme
     if pid == 0:
         os.environ.update(TERM="dumb", COLUMNS="80", **environment)
         os.execv(words[0], tuple(words))
-    seen, since, typed = b"", 0, list(typed)
+    seen, typed = bytearray(), list(typed)
+    # (of what was seen since something was typed, the last bytes: there may be very much of it)
+    last = b""
     while True:
-        if typed and PROMPT.search(seen[since:]):
+        if typed and PROMPT.search(last):
             text = typed.pop(0)
             os.write(terminal, text if isinstance(text, bytes) else text.encode())
-            since = len(seen)
+            last = b""
         if not select.select([terminal], [], [], patience())[0]:
             os.kill(pid, signal.SIGKILL)
             break
@@ -37,7 +39,9 @@ def at_terminal(words: Sequence[Word], typed: Iterable[str | bytes], **environme
             data = b""
         if not data:
             break
-        seen += PASTING.sub(b"", data)
+        data = PASTING.sub(b"", data)
+        seen += data
+        last = (last + data)[-4:]
     return seen.decode("utf-8", "replace").replace("\r\n", "\n"), ending_of(pid, terminal)
 
 

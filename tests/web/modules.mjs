@@ -3,6 +3,7 @@ globalThis.document ??= { getElementById: () => ({ textContent: 'null' }) }
 
 const { movedAnew } = await import('../../web/anew.js')
 const { wayFrom } = await import('../../web/follow.js')
+const { hintsOf } = await import('../../web/hints.js')
 const { measure } = await import('../../web/measure.js')
 const { endOfArgument, formsSet, isSlip, remedied } = await import('../../web/remedies.js')
 const { Story } = await import('../../web/story.js')
@@ -55,7 +56,10 @@ function remedies(holds) {
         ['no primitive is named  ps', 'no primitive is named  ps: did you mean ps?'],
         ['no primitive is named ADD', 'no primitive is named ADD: did you mean ad?'],
         ['no primitive is named Factoral', 'no primitive is named Factoral: did you mean #(cl,Factorial)?'],
-        ['no primitive is named print', 'no primitive is named print'],
+        ['no primitive is named print', 'no primitive is named print: did you mean ps?'],
+        ['no primitive is named SUB', 'no primitive is named SUB: did you mean su?'],
+        ['no primitive is named if', 'no primitive is named if: did you mean eq or gr?'],
+        ['no primitive is named lobby', 'no primitive is named lobby'],
         ['no form is named greting', 'no form is named greting: did you mean greeting?'],
         ['no form is named HALL', 'no form is named HALL: did you mean Hall?'],
         ['no form is named lobby', 'no form is named lobby'],
@@ -66,6 +70,26 @@ function remedies(holds) {
         holds(`${call} divides by 0: ${said(fits, call)}`, said(fits, call).startsWith('this divides by 0'))
     }
     holds('another result', said(fits, '#(ml,7,0)') === fits && said(fits, '#(dv,7,10)') === fits)
+}
+
+// What a program shows by itself: the places, what stands there, and what is said of it.
+function hints(holds) {
+    const call = (name) => `no # stands before this, so no call begins here: did you mean #(${name},?`
+    const rows = [
+        ["print(hello)'", [`0 print( ${call('ps')}`]],
+        ["#(ps,a)'\n\tPrint(b)'ds(a,b)'", [`10 Print( ${call('ps')}`, `19 ds( ${call('ds')}`]],
+        ["if(a)'", ['0 if( no # stands before this, so no call begins here: did you mean #(eq, or #(gr,?']],
+        ["# (ps,a)'", ['0 # ( a blank stands between # and (, so no call begins here; without it one does']],
+        ["#(ps,it's)'", ["7 ' this ' ends the text, as it does wherever it stands; #(cm,;)' has ; end texts instead"]],
+    ]
+    const none = ["#(print,a)'", "print (a)'", "Name(x)'", "#(ps,Hello(,) print(x))'", "(print(x))'", 'print hello',
+        "#(ps,(\nprint(x)))'", "#(cm,;)'print(hello);", "'".repeat(100_000) + ' '.repeat(900_000)]
+    for (const [program, wanted] of [...rows, ...none.map((one) => [one, []])]) {
+        const said = hintsOf(Buffer.from(program))
+            .map(({ byte, end, words }) => `${byte} ${program.slice(byte, end)} ${words}`)
+        const [is, should] = [said, wanted].map((one) => JSON.stringify(one))
+        holds(`of ${program.slice(0, 40)}: ${is}, and not ${should}`, is === should)
+    }
 }
 
 // Moves in a run of more steps than the processor keeps.
@@ -137,6 +161,7 @@ async function keptAnew(engine, holds) {
 export async function modules(engine, holds) {
     slips(holds)
     remedies(holds)
+    hints(holds)
     await longMoves(engine, holds)
     await keptAnew(engine, holds)
 }

@@ -1,14 +1,19 @@
 """What is kept: the program over a reload, in the middle of typing too, its name and the looks; and over the opening of
-another."""
+others."""
+import json
+
 from webpage.pages import Deeds, check, ready
 from webpage.rows import file_of, rows
+from webpage.share import body, link
 from webpage.window import pick
 
 VALUE = "document.getElementById('source').value"
 NAME = "document.getElementById('program-name').textContent"
 PAPER = "getComputedStyle(document.body).backgroundColor"
 
-# Whether it is asked before the page is left; and what another page of the same browser does.
+# Whether the browser keeps a program that has a text, and whether it is asked before the page is left; and what another
+# page of the same browser does.
+IS_KEPT = "(localStorage.getItem('trac.draft') ?? '').includes('{}')"
 ASKS = """(() => {
   const event = new Event('beforeunload', { cancelable: true });
   dispatchEvent(event);
@@ -62,22 +67,53 @@ def check_other_page(page: Deeds) -> None:
     page.until("(localStorage.getItem('trac.draft') ?? '').includes('last')", "it is kept")
 
 
+def check_two_typed(page: Deeds) -> None:
+    """Of two programs that were typed the browser keeps one, so it is asked as long as the other is neither kept nor
+    saved, whichever is brought back."""
+    for text, other in ("first", "hello.trac"), ("second", "guess.trac"):
+        page.type("#(ps,{})'".format(text))
+        page.until(IS_KEPT.format(text), "what was typed is kept")
+        pick(page, other)
+        page.until(IS_KEPT.format(other), "an example is kept in its place")
+        check(page.script(ASKS), "it is asked where what was typed is not kept any more")
+    for text in "second", "first":
+        page.click("document.getElementById('undo')")
+        page.until(IS_KEPT.format(text), "the {} is back, and kept".format(text))
+        check(page.script(ASKS), "it is asked for the one that is not kept")
+    page.script("document.getElementById('save').click()")
+    check(page.script(ASKS), "it is asked for the one that is not saved")
+    page.script("document.getElementById('source').focus()")
+    page.press("y", control=True)
+    page.until(IS_KEPT.format("second"), "that is back, and kept")
+    check(not page.script(ASKS), "one is saved, and the other kept")
+
+
+def check_typed_before_a_link(page: Deeds) -> None:
+    """What was typed just before a link is followed is kept, and the program of the link is not."""
+    page.script("(() => {{ const box = document.getElementById('source'); box.value = \"#(ps,mine)'\"; "
+                "box.dispatchEvent(new Event('input')); location.hash = {}; }})()".format(
+                    json.dumps(link(body(b"#(ps,shared)'")))))
+    page.until(VALUE + " === \"#(ps,shared)'\"", "the link is opened")
+    page.rest(400)
+    check(page.script(IS_KEPT.format("mine")), "kept is: " + page.script("localStorage.getItem('trac.draft') ?? ''"))
+    check(not page.script(ASKS), "nothing is lost")
+
+
 def check_replaced(page: Deeds) -> None:
     """Where what was typed gave way to another program, which is kept in its place, it is asked before the page is
     left; not where it is back, or none was typed."""
-    is_kept = "(localStorage.getItem('trac.draft') ?? '').includes('{}')"
     for name in "hello.trac", "guess.trac":
         pick(page, name)
-        page.until(is_kept.format(name), "an example is kept")
+        page.until(IS_KEPT.format(name), "an example is kept")
         check(not page.script(ASKS), "examples are left")
     page.type("#(ps,mine)'")
-    page.until(is_kept.format("mine"), "what was typed is kept")
+    page.until(IS_KEPT.format("mine"), "what was typed is kept")
     check(not page.script(ASKS), "what is kept is left")
     pick(page, "hello.trac")
-    page.until(is_kept.format("hello.trac"), "an example is kept in its place")
+    page.until(IS_KEPT.format("hello.trac"), "an example is kept in its place")
     check(page.script(ASKS), "it is not asked where it is not kept any more")
     page.click("document.getElementById('undo')")
-    page.until(is_kept.format("mine"), "it is back, and kept")
+    page.until(IS_KEPT.format("mine"), "it is back, and kept")
     check(not page.script(ASKS), "what is back is left")
 
 
@@ -111,4 +147,6 @@ def check_question(page: Deeds) -> None:
     page.script("document.getElementById('question').close()")
 
 
-TRIED = rows(check_draft, given=file_of) + rows(check_undo, check_other_page, check_replaced, check_question)
+TRIED = (rows(check_draft, given=file_of)
+         + rows(check_undo, check_other_page, check_replaced, check_two_typed, check_typed_before_a_link,
+                check_question))

@@ -1,5 +1,5 @@
-"""Much of what the page shows: 72,000 calls in the tree, a step with 1,000 begun calls, and one with 20,000
-arguments."""
+"""Much of what the page shows: 72,000 calls in the tree, a step with 1,000 begun calls, one with 20,000 arguments, and
+programs of many parts in a line and of 40,000 lines."""
 from webpage import names
 from webpage.pages import Deeds, check
 from webpage.rows import CHROMIUM, rows
@@ -8,6 +8,31 @@ from webpage.rows import CHROMIUM, rows
 TURNS = "#(ds,L,(#(eq,N,0,,(#(cl,L,#(su,N,1))))))'#(ss,L,N)'#(cl,L,{})'"
 NUMBER = ("document.getElementById(document.getElementById('tree').getAttribute('aria-activedescendant'))"
           ".querySelector('.number').textContent")
+# Counts how often a text is asked for its length, as where a place in painted text is looked for.
+ASKED = """(() => {
+  const length = Object.getOwnPropertyDescriptor(CharacterData.prototype, 'length');
+  window.asked = 0;
+  Object.defineProperty(CharacterData.prototype, 'length', {
+    ...length,
+    get() {
+      window.asked++;
+      return length.get.call(this);
+    },
+  });
+})()"""
+# Counts how many lines come and go in the painted text, and how many signs are painted.
+PAINTED = """(() => {
+  const paint = document.getElementById('paint');
+  window.lines = window.signs = 0;
+  window.watch?.disconnect();
+  window.watch = new MutationObserver((changes) => {
+    for (const { target, addedNodes, removedNodes } of changes) {
+      if (target === paint) window.lines += addedNodes.length + removedNodes.length;
+      for (const node of addedNodes) window.signs += node.textContent.length;
+    }
+  });
+  window.watch.observe(paint, { childList: true, subtree: true });
+})()"""
 
 
 def check_calls(page: Deeds) -> None:
@@ -75,4 +100,43 @@ def check_arguments(page: Deeds) -> None:
     check("19,601 more arguments" in page.text("last"), "how many more it had: " + page.text("last")[-200:])
 
 
-TRIED = rows(check_calls, check_begun, check_arguments, where=CHROMIUM)
+def check_parts(page: Deeds) -> None:
+    """1,000 doubts in a line of 42,000 painted parts are marked, and the line is not gone over for each."""
+    page.put("0 " * 20000 + "#(xx)" * 1000 + "'")
+    parts = page.script("document.querySelectorAll('#paint span').length")
+    check(parts > 42000, "so many parts are painted: {}".format(parts))
+    page.script(ASKED)
+    page.run()
+    page.until("document.querySelector('#tab-doubts .count')?.textContent === '1,000'", "1,000 doubts are listed")
+    marked = page.script("CSS.highlights.get('doubtful').size")
+    check(marked == 1000, "so many are marked: {}".format(marked))
+    asked = page.script("window.asked")
+    check(asked < 200000, "texts are asked for their lengths {:,} times".format(asked))
+
+
+def check_typed_lines(page: Deeds) -> None:
+    """40,000 lines are painted without a number for each, whether they are short or long. A sign or a line that is
+    typed there has at most some lines painted anew, with colours and without, and the others neither come nor go."""
+    painted, value = "document.getElementById('paint').textContent", "document.getElementById('source').value"
+    for line, count in ("", 40000), ("#(ps,a)", 40000), ("#(ps,a)", 8000):
+        page.put((line + "\n") * count)
+        # (without colours the line after the last line end has a line end, too)
+        more = int(count == 40000)
+        page.until("{}.length === {}".format(painted, count * (len(line) + 1) + more), "the lines are painted")
+        elements = page.script("document.querySelectorAll('#paint .line').length")
+        check(elements < 1000 if more else elements == count + 1,
+              "{} lines are painted in {} elements".format(count, elements))
+        for keys in ["x"], ["Enter"], ["Enter", "y", "Enter"]:
+            page.script(PAINTED)
+            page.script("(() => {{ const box = document.getElementById('source'); box.focus(); "
+                        "box.setSelectionRange({0}, {0}); }})()".format(count // 2 * (len(line) + 1)))
+            for key in keys:
+                page.press(key)
+            page.until("{}.length === {}.length + {}".format(painted, value, more), "it is painted")
+            check(page.script("{}.startsWith({})".format(painted, value)), "all of it is painted")
+            lines, signs = page.script("[window.lines, window.signs]")
+            check(lines <= 2 and signs <= 2000,
+                  "of {} {} lines come and go, and {} signs are painted".format(keys, lines, signs))
+
+
+TRIED = rows(check_calls, check_begun, check_arguments, check_parts, check_typed_lines, where=CHROMIUM)

@@ -260,6 +260,42 @@ def check_large_file(page: Deeds) -> None:
     check(page.script("document.getElementById('source').value") == "#(ps,kept)'", "the program stays")
 
 
+def check_two(page: Deeds) -> None:
+    """Of two links that are followed at once, or one soon after the other, the later one is opened, also where the
+    first takes longer; that is there to be brought back."""
+    value = "document.getElementById('source').value"
+    # (hardly anything of it is packed, so it takes long)
+    slow = b"#(ps,(" + random.Random(77).randbytes(150000).hex().encode() + b"))'"
+    for number, pause in enumerate(("", "await new Promise((done) => setTimeout(done));")):
+        quick = "#(ps,quick {})'".format(number)
+        page.script("(async () => {{ location.hash = {!r}; {} location.hash = {!r}; }})()".format(
+            link(body(slow)), pause, link(body(quick.encode()), False)))
+        page.until("{} === {!r}".format(value, quick), "the later one is opened")
+        page.rest(300)
+        check(page.script(value) == quick, "it stays: " + page.script(value)[:40])
+        page.click("document.getElementById('undo')")
+        check(page.script(value).encode() == slow, "the first is brought back: " + page.script(value)[:40])
+
+
+def check_asked(page: Deeds) -> None:
+    """A link that is followed while something is asked of another one takes its place, and only its program is run."""
+    endless, question = b"#(ds,L,(#(cl,L)))'#(cl,L)'", "document.getElementById('question').open"
+    follow(page, link(body(endless, [], True, 3000000)))
+    page.until(question, "a far link asks first")
+    follow(page, link(body(endless + b" ", [], True, 4000000)))
+    page.until("document.getElementById('question-text').textContent.startsWith('The link is to step 4,000,000.')",
+               "another far link asks in its place")
+    page.rest(100)
+    check(page.script(question), "that is asked still")
+    follow(page, link(body(b"#(ps,later)'", [], False, 4)))
+    page.until("!" + question, "of one that is not far nothing is asked, nor of those before it")
+    page.at(4, "it goes")
+    check(page.script("document.getElementById('source').value") == "#(ps,later)'", "its program is there")
+    page.script("document.activeElement.blur()")
+    page.press("End")
+    page.until("document.getElementById('output').textContent === 'later'", "and its run")
+
+
 class Quiet(http.server.SimpleHTTPRequestHandler):
     """A server that says nothing."""
 
@@ -267,5 +303,5 @@ class Quiet(http.server.SimpleHTTPRequestHandler):
         """Nothing."""
 
 
-TRIED = (rows(check_bytes, check_pasted, check_without_packing, check_large_file)
+TRIED = (rows(check_bytes, check_pasted, check_without_packing, check_large_file, check_two, check_asked)
          + rows(check_run, check_wrong, check_far, check_served, given=file_of))

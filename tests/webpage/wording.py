@@ -54,7 +54,12 @@ def check_messages(page: Deeds) -> None:
                            ("#(ds,down,x)'#(cl,dwon)'", "no form is named dwon: did you mean down?"),
                            ("#(cl,dwon)#(ds,down,x)'", "dwon: did you mean down?"),
                            ("#(pr,a)'", "no primitive is named pr: did you mean ps or pf?"),
-                           ("#(ds,Double,x)#(Duoble,2)'", "no primitive is named Duoble: did you mean #(cl,Double)?")):
+                           ("#(ds,Double,x)#(Duoble,2)'", "no primitive is named Duoble: did you mean #(cl,Double)?"),
+                           ("#(print,a)'", "no primitive is named print: did you mean ps?"),
+                           ("#(IF,a,b,c,d)'", "no primitive is named IF: did you mean eq or gr?"),
+                           ("#(ps,a)'\n print(hello)'", "no # stands before this, so no call begins here: "
+                            "did you mean #(ps,?line 2, column 2"),
+                           ("ds(a,b)'", "no call begins here: did you mean #(ds,?line 1, column 1")):
         page.type(program)
         page.run()
         page.until("document.getElementById('doubts').textContent.includes(\"{}\")".format(words),
