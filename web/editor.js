@@ -1,7 +1,7 @@
 // The program: a box of text over the same text, on which places are lit. Bytes are the truth: what the box cannot give
 // back as it was is shown for reading only.
 import { grouped, textOf } from "./bytes.js";
-import { fixedOf, unitOfFixed } from "./fixed.js";
+import { fixedOf, isWide, unitOfFixed } from "./fixed.js";
 import { setLight } from "./lights.js";
 import { isLong, Paint, pairAround } from "./paint.js";
 import { byId, focused } from "./elements.js";
@@ -14,6 +14,7 @@ const MOST_EDITED = 1 << 21;
 // Why a program is for reading only.
 const NO_TEXT = "it has bytes that are no text";
 const TWO_ENDS = "its line ends are of two kinds, CR LF and LF";
+const WIDE = "a line is too long for signs that join";
 
 /**
  * A stretch of a program: from a byte to before another.
@@ -22,6 +23,12 @@ const TWO_ENDS = "its line ends are of two kinds, CR LF and LF";
  * @typedef {import("./undoing.js").Held} Held
  * @typedef {import("./undoing.js").Work} Work
  */
+
+/**
+ * Whether a text is more than a box can hold for writing.
+ * @param {string} text
+ */
+const isTooMuch = (text) => text.length > MOST_EDITED || isWide(text);
 
 export class Editor {
   /** @param {() => void} changed */
@@ -67,18 +74,18 @@ export class Editor {
   typed() {
     clearTimeout(this.later);
     const { name, work, box: { value } } = this;
-    if (value.length > MOST_EDITED) return this.put({ name, bytes: this.encoded(value), work });
+    if (isTooMuch(value)) return this.put({ name, bytes: this.encoded(value), work });
     if (this.fixed) this.free();
     if (!isLong(value)) this.repaint();
     else this.later = setTimeout(() => this.repaint(), 150);
     return undefined;
   }
 
-  // A long text that is pasted never comes into the box. Whether it was one.
+  // A long or wide text that is pasted never comes into the box. Whether it was one.
   /** @param {ClipboardEvent} event */
   pasted(event) {
     const text = event.clipboardData?.getData("text/plain") ?? "";
-    if (text.length <= MOST_EDITED || this.box.readOnly) return false;
+    if (!isTooMuch(text) || this.box.readOnly) return false;
     event.preventDefault();
     const { value, selectionStart, selectionEnd } = this.box;
     const whole = value.slice(0, selectionStart) + text.replaceAll("\r\n", "\n") + value.slice(selectionEnd);
@@ -93,7 +100,7 @@ export class Editor {
     this.put({ name, bytes });
   }
 
-  // Shows a program. What is long, is not UTF-8, or has line ends of two kinds, is for reading only.
+  // Shows a program. What is long, is not UTF-8, has wide lines or line ends of two kinds, is for reading only.
   /** @param {Held} held */
   put({ name, bytes, work = { isTyped: false } }) {
     clearTimeout(this.later);
@@ -102,13 +109,14 @@ export class Editor {
     const text = bytes.length > MOST_EDITED ? null : textOf(bytes);
     const plain = text === null ? null : text.replaceAll("\r\n", "\n");
     this.eol = text !== null && text !== plain ? "\r\n" : "\n";
-    if (plain !== null) this.box.value = plain;
-    const isSame = plain !== null && this.box.value === plain && plain.replaceAll("\n", this.eol) === text;
+    const wide = plain !== null && isWide(plain);
+    if (plain !== null && !wide) this.box.value = plain;
+    const isSame = plain !== null && !wide && this.box.value === plain && plain.replaceAll("\n", this.eol) === text;
     // (other carriage returns are bytes that the box would change)
-    const areEnds = !isSame && text !== null && !/\r(?!\n)|\0/.test(text);
+    const areEnds = !isSame && !wide && text !== null && !/\r(?!\n)|\0/.test(text);
     byId("mend").hidden = !areEnds;
     if (isSame) this.free();
-    else this.fix(fixedOf(bytes, areEnds ? TWO_ENDS : NO_TEXT));
+    else this.fix(fixedOf(bytes, wide ? WIDE : areEnds ? TWO_ENDS : NO_TEXT));
     this.opened = this.box.value;
     this.repaint();
     this.frame.scrollTop = 0;

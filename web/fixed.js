@@ -4,9 +4,29 @@ import { runsOf } from "./cells.js";
 import { lastFrom } from "./paint.js";
 import { startOfSign } from "./output.js";
 
-// Of more bytes than this a part is shown: browsers take some hundred bytes of memory for each sign that is in a box.
+// Of more bytes than the first a part of the second is shown: browsers take some hundred bytes of memory for each sign
+// that is in a box. The third is for wide lines.
 const MOST_FIXED = 1 << 18;
 const PART = 1 << 16;
+const NARROW = 1 << 12;
+
+// Signs that are laid out by those around them: they join, stand over others, or turn the direction. In a line of many
+// of them a browser looks at each with each.
+const JOINING = /[\u0300-\u036f\u0483-\u0489\u0590-\u1fff\u200b-\u20ff\ud800-\udfff\ufb1d-\ufeff]/;
+
+/**
+ * Whether a text has a line of more than 4,096 signs, of which some join: it would hold the page for minutes.
+ * @param {string} text
+ */
+export function isWide(text) {
+  if (text.length <= NARROW) return false;
+  for (let from = 0, to; from < text.length; from = to + 1) {
+    to = text.indexOf("\n", from);
+    if (to < 0) to = text.length;
+    if (to - from > NARROW && JOINING.test(text.slice(from, to))) return true;
+  }
+  return false;
+}
 
 /**
  * Bytes that are for reading only: why, which of them are shown, by which text, and where their signs stand in that.
@@ -21,15 +41,28 @@ const PART = 1 << 16;
  */
 
 /**
- * Signs in place of bytes; of many, a part that has one of them in its middle.
+ * Signs in place of bytes; of many, and of wide lines, a part that has one of them in its middle.
  * @param {Uint8Array} bytes
  * @param {string} why
  * @returns {Fixed}
  */
 export function fixedOf(bytes, why, middle = 0) {
-  const isWhole = bytes.length <= MOST_FIXED;
-  const from = isWhole ? 0 : startOfSign(bytes, Math.max(middle - PART / 2, 0));
-  const to = isWhole ? bytes.length : startOfSign(bytes, Math.min(from + PART, bytes.length));
+  const fixed = partOf(bytes, why, middle, bytes.length <= MOST_FIXED ? MOST_FIXED : PART);
+  return isWide(fixed.text) ? partOf(bytes, why, middle, NARROW) : fixed;
+}
+
+/**
+ * The same, of a part that has at most so many bytes.
+ * @param {Uint8Array} bytes
+ * @param {string} why
+ * @param {number} middle
+ * @param {number} most
+ * @returns {Fixed}
+ */
+function partOf(bytes, why, middle, most) {
+  const isWhole = bytes.length <= most;
+  const from = isWhole ? 0 : startOfSign(bytes, Math.max(middle - most / 2, 0));
+  const to = isWhole ? bytes.length : startOfSign(bytes, Math.min(from + most, bytes.length));
   const places = [];
   let text = "";
   for (const run of runsOf(bytes.subarray(from, to))) {

@@ -191,6 +191,25 @@ def check_files(page: Deeds) -> None:
     shutil.rmtree(room)
 
 
+def check_wide(page: Deeds) -> None:
+    """A line of many signs that join, with which a browser would be busy for minutes, is shown in a part; many short
+    lines of them, or a long one of letters, can be edited."""
+    name, hebrew = "document.getElementById('program-name').textContent", "a\u05d0"
+    for text, is_fixed in ((hebrew * 40000, True), ("\u0e01\u0e33" * 40000, True), ("e\u0301" * 40000, True),
+                           ((hebrew * 500 + "\n") * 80, False), ("\u00e9\u0416" * 20000, False)):
+        with tempfile.TemporaryDirectory(prefix="trac-webpage-test-") as room:
+            path = os.path.join(room, "wide.trac")
+            with open(path, "w", encoding="utf-8") as out:
+                out.write(text)
+            page.script(name + " = ''")
+            page.choose_file("#file", path)
+            page.until(name + ".startsWith('wide.trac')", "it is opened")
+        check(page.script("document.getElementById('source').readOnly") == is_fixed, ascii(text[:9]) + ": reading only")
+    page.script("(() => { const box = document.getElementById('source'); box.value = 'a\\u05d0'.repeat(40000); "
+                "box.dispatchEvent(new InputEvent('input')); })()")
+    check("of 120,000 are shown" in page.script(name), "what is typed is shown in a part: " + page.script(name))
+
+
 def check_unseen(page: Deeds) -> None:
     """Signs that nobody sees stand as their bytes: in a text, and in the name of a file."""
     with tempfile.TemporaryDirectory(prefix="trac-webpage-test-") as room:
@@ -284,5 +303,5 @@ def factorial(page: Deeds) -> None:
 
 
 TRIED = (opening(check_newcomer) + rows(check_moves, before=factorial) + rows(check_large, where=ONE, seconds=15)
-         + rows(check_states, check_input, check_doubts, check_examples, check_files, check_unseen, check_dropped,
-                check_hostile))
+         + rows(check_states, check_input, check_doubts, check_examples, check_files, check_unseen, check_wide,
+                check_dropped, check_hostile))
