@@ -1,8 +1,8 @@
 -- Searches forward that stay where they began unless they meet something.
-use Rattle.std.specs.Prelude.{◌≡◌, ◌⊎◌, ℕ, ◌+◌, ◌<◌, min, Bool, true, false, Option, None, Some}
+use Rattle.std.specs.Prelude.{◌≡◌, ◌⊎◌, ℕ, ◌+◌, ◌<◌, ◌≤◌, min, Bool, true, false, Option, None, Some}
 use Rattle.trac_rules.specs.declared.refusal.Refusal.{Refusal}
 use Rattle.trac_rules.specs.declared.refusal.Refusal.TheVariants.{JournalFull, NotMet, TooLong}
-use Rattle.trac_rules.specs.Session.{PlainSession, Goal}
+use Rattle.trac_rules.specs.Session.{PlainSession, Goal, Step, repeated}
 use Rattle.trac_session.specs.Within.{IsSearchWithin}
 use Rattle.trac_rules.specs.Weights.{weights_from}
 use Rattle.trac_moves.specs.declared.searching.TheConstants.{NEAR_WEIGHT}
@@ -13,6 +13,11 @@ use Rattle.trac_moves.specs.declared.searching.Search.TheVariants.{Met, Unmet}
 abbrev pub HasStayed : {X : Type 0} → Search → X → X → Type 0
 HasStayed Met old new = Unit {0}
 HasStayed (Unmet why step) old new = new ≡ old
+
+-- one that met its goal has gone forward, by so many steps at most; else it stopped after so many at most
+abbrev pub HasGone : Search → ℕ → PlainSession → PlainSession → Type 0
+HasGone Met most old new = (steps : ℕ) × (steps ≤ most) × (repeated Step steps old ≡ Some new)
+HasGone (Unmet why steps) most old new = steps ≤ most
 
 -- ---- within the room that there is
 

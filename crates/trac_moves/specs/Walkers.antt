@@ -1,11 +1,15 @@
 -- Where a walker stands, and where its moves lead.
-use Rattle.std.specs.Prelude.{◌≡◌, ℕ, ◌+◌, ◌^◌, ◌<◌, ◌≤◌, Option, None, Some}
+use Rattle.std.specs.Prelude.{◌≡◌, ℕ, ◌+◌, ◌^◌, ◌<◌, ◌≤◌, max, Option, None, Some}
 use Rattle.trac_rules.specs.declared.refusal.Refusal.{Refusal}
 use Rattle.trac_rules.specs.declared.refusal.Refusal.TheVariants.{NotMet}
 use Rattle.trac_rules.specs.declared.width.Width.{Width}
 use Rattle.trac_rules.specs.State.{Tape}
+use Rattle.trac_follow_step.specs.declared.place.Place.{Place}
+use Rattle.trac_follow_step.specs.declared.place.Place.TheVariants.{Argument}
 use Rattle.trac_session.specs.declared.walk.Return as returns
 use Rattle.trac_session.specs.declared.walk.Return.{Return}
+use Rattle.trac_moves.specs.declared.searching.Search.{Search}
+use Rattle.trac_moves.specs.declared.searching.Search.TheVariants.{Met, Unmet}
 use Rattle.trac_moves.specs.declared.walker.Walker.{Walker}
 use Rattle.trac_moves.specs.Windows.{IsOver}
 
@@ -48,3 +52,21 @@ refusal_said (returns.TheVariants.Stopped left why) = Some why
 -- no more, and as many if a goal is not met
 abbrev pub IsReturned : Option Refusal → ℕ → ℕ → Type 0
 IsReturned why steps after = (after ≤ steps) × (why ≡ Some NotMet → after ≡ steps)
+
+-- so many more at least, and at most the greater of two numbers, as far as 64 bits count
+abbrev pub IsBeyond : ℕ → ℕ → ℕ → ℕ → Type 0
+IsBeyond done most steps after =
+    steps + max done most < 2 ^ 64 → (steps + done ≤ after) × (after ≤ steps + max done most)
+
+-- so it is after a search by so many steps at most that met its goal, if so many met nothing before. After another
+-- search there are as many as before
+abbrev pub IsSearched : Search → ℕ → ℕ → ℕ → ℕ → Type 0
+IsSearched Met done most steps after = IsBeyond done most steps after
+IsSearched (Unmet why further) done most steps after = after ≡ steps
+
+-- ---- at what place
+
+-- at the place of an argument it stands as it stood
+abbrev pub StaysAt : {X : Type 0} → Place → X → X → Type 0
+StaysAt (Argument function argument byte) old new = new ≡ old
+StaysAt place old new = Unit {0}

@@ -1,11 +1,15 @@
 //! Searches forward that stay where they began unless they meet something.
-ghost use Rattle.std.specs.Prelude.{◌≡◌, ◌-◌, ◌<◌, ◌≤◌, None, Some, min, true};
+ghost use Rattle.std.specs.Prelude.{◌≡◌, ℕ, ◌+◌, ◌-◌, ◌<◌, ◌≤◌, None, Some, min, true};
 ghost use Rattle.trac_rules.specs.declared.refusal.Refusal.TheVariants.{NotMet};
+ghost use Rattle.trac_rules.specs.declared.width.Width.{Width};
 ghost use Rattle.trac_rules.specs.Session.{Step, repeated};
+ghost use Rattle.trac_rules.specs.State.{Tape};
 ghost use Rattle.trac_rules.specs.Weights.{weights_from};
 ghost use Rattle.trac_moves.specs.Aims.{goal_of_aim};
 ghost use Rattle.trac_session.specs.Within.{IsSearchWithin};
-ghost use Rattle.trac_moves.specs.Searches.{HasStayed, IsAsNear, IsReason, found_by, is_unmet, near_weight};
+ghost use Rattle.trac_moves.specs.Searches.{HasGone, HasStayed, IsAsNear, IsReason, found_by, is_unmet, near_weight};
+ghost use Rattle.trac_moves.specs.Walkers.{IsBeyond, IsSearched, Moves, Stands};
+ghost use Rattle.trac_moves.specs.Windows.{IsOver};
 
 use crate::aim::{Aim, goal_for};
 use crate::walker::Walker;
@@ -78,6 +82,7 @@ impl<A: Allocator + Copy> Walker<A> {
     /// than 1,048,576 steps from the first one that is kept, or over records that weigh more than it may keep. It does
     /// so too after as many steps as it keeps, if the records weigh 32,768 more than at first.
     pub fn search(&mut self, aim: Aim<'_>, most: u64) -> Search
+        ensures moved { Moves (IsSearched result 0 most) self.old self.new }
         ensures stayed { HasStayed result self.old.window self.new.window }
         ensures met { result ≡ Search.Met → goal_of_aim aim.entry self.new.window.session.last ≡ true }
         ensures near { weights_from self.old.window.session.earlier ≤ self.old.weight → IsAsNear
@@ -103,6 +108,7 @@ impl<A: Allocator + Copy> Walker<A> {
     /// The same after so many steps on which nothing was met, in a run of the program anew. What that keeps takes the
     /// place of what was kept if it meets the goal.
     pub fn search_far(&mut self, aim: Aim<'_>, done: u64, most: u64) -> Search
+        ensures moved { Moves (IsSearched result done most) self.old self.new }
         ensures stayed { HasStayed result self.old.window self.new.window }
         ensures met { result ≡ Search.Met → goal_of_aim aim.entry self.new.window.session.last ≡ true }
     {
@@ -114,6 +120,9 @@ impl<A: Allocator + Copy> Walker<A> {
 
     // The same in this window, which is at the start of the program. The window that does not stay is left there.
     fn search_in(&mut self, window: &mut Window<A>, aim: Aim<'_>, done: u64, most: u64) -> Search
+        ensures moved { (input : Tape) (width : Width) (steps : ℕ) → Stands input width steps self.old →
+            IsOver input width 0 window.old →
+            (after : ℕ) × IsSearched result done most steps after × Stands input width after self.new }
         ensures stayed { HasStayed result self.old.window self.new.window }
         ensures met { result ≡ Search.Met → goal_of_aim aim.entry self.new.window.session.last ≡ true }
     {
@@ -129,7 +138,9 @@ impl<A: Allocator + Copy> Walker<A> {
 
     // Goes forward from the start to this step and so many further, and from there to a goal.
     fn search_from(&mut self, start: u64, aim: Aim<'_>, done: u64, most: u64) -> Search
-        ensures { result ≡ Search.Met → goal_of_aim aim.entry self.new.window.session.last ≡ true }
+        ensures moved { Moves (λ before after. result ≡ Search.Met →
+            IsBeyond (start + done) (start + most) before after) self.old self.new }
+        ensures met { result ≡ Search.Met → goal_of_aim aim.entry self.new.window.session.last ≡ true }
     {
         if let Some(refusal) = self.forward(start.saturating_add(done)) {
             return Search::Unmet(refusal, done);
@@ -150,6 +161,7 @@ fn search_near<A: Allocator + Copy>(
     most: u64,
     room: Room,
 ) -> Search
+    ensures gone { HasGone result most session.old session.new }
     ensures stayed { HasStayed result session.old session.new }
     ensures met { result ≡ Search.Met → goal_of_aim aim.entry session.new.last ≡ true }
     ensures near { weights_from session.old.earlier ≤ room.light →
@@ -172,6 +184,7 @@ fn walk_near<A: Allocator + Copy>(
     most: u64,
     room: Room,
 ) -> Walk
+    ensures within { result.done ≤ most }
     ensures walked { repeated Step result.done session.old ≡ Some session.new }
     ensures met { result.why ≡ None → goal_of_aim aim.entry session.new.last ≡ true }
     ensures near { weights_from session.old.earlier ≤ room.light → IsAsNear room.light

@@ -8,6 +8,7 @@ ghost use Rattle.trac_moves.specs.Aims.{MeetsAim, goal_of_aim};
 ghost use Rattle.trac_moves.specs.Steps.{number_of_step};
 ghost use Rattle.trac_moves.specs.Walkers.{IsBackward, IsForward, IsReturned, IsTo, IsTowards, Moves, Stands};
 ghost use Rattle.trac_moves.specs.Walkers.{refusal_said};
+ghost use Rattle.trac_moves.specs.Windows.{IsOver};
 
 use crate::aim::{Aim, goal_for};
 use crate::window::Window;
@@ -72,7 +73,10 @@ impl<A: Allocator + Copy> Walker<A> {
 
     /// At the start of the program again, with all input so far. Refused as `TooLong`, if that has more than 33,554,432
     /// bytes, and as `Memory`.
-    pub(crate) fn window_anew(&self) -> Result<Window<A>, Refusal> {
+    pub(crate) fn window_anew(&self) -> Result<Window<A>, Refusal>
+        ensures { IfOk result (IsOver (record { bytes = self.now.input.items; ended = self.now.has_ended })
+            self.now.window.session.width 0) }
+    {
         let input = self.input.as_slice();
         let mut window = match Window::over(self.alloc, input, JOURNAL_LIMIT, self.width()) {
             Ok(window) => window,
@@ -319,7 +323,9 @@ impl<A: Allocator + Copy> Walker<A> {
 
     /// Goes back to the call that changed the form of this name last, as `return_to` does. `Memory` also if there is
     /// none for a copy of the form, and then it does not move.
-    pub fn return_to_change(&mut self, name: &[u8]) -> Option<Refusal> {
+    pub fn return_to_change(&mut self, name: &[u8]) -> Option<Refusal>
+        ensures { Moves (IsReturned result) self.old self.new }
+    {
         let copy = self.sight().store.get(name).map(|form| form.copy());
         let Ok(form) = copy.transpose() else {
             return Some(Refusal::Memory);

@@ -3,4 +3,5 @@ pub mod Outcomes
 pub mod Replies
 pub mod Requests
 pub mod Rows
+pub mod Shown
 pub mod Ways

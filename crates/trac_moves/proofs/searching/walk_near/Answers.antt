@@ -2,8 +2,14 @@ use Rattle.std.proofs.Common.{min, sym, ◌∙◌, arith}
 use Rattle.trac_rules.specs.Session.{Step}
 use Rattle.trac_session.proofs.Walked.{repeated-from}
 use Rattle.trac_moves.proofs.Searched.{kept_second, near_first, near_second}
+use Rattle.trac_moves.proofs.SearchedAnew.{legs_within}
 use Rattle.trac_moves.proofs.SearchedOn.{other_why, unmet, unmet_why}
 use Rattle.trac_moves.proofs.searching.walk_near.Goals as goal
+
+pub returns-then-has_met_nothing-clause-within : goal.returns-then-has_met_nothing-clause-within
+returns-then-has_met_nothing-clause-within g c =
+    legs_within c.walk_leg-first.result.done c.second_leg-leg.result.most c.walk_leg-second.result.done (min c.args.most c.args.room.steps) c.args.most
+    (omega (arith, c.walk_leg-first.ensures.within, c.min.ensures)) (omega arith) c.second_leg-leg.ensures.kept c.second_leg-leg.ensures.others c.walk_leg-second.ensures.within
 
 pub returns-then-has_met_nothing-clause-walked : goal.returns-then-has_met_nothing-clause-walked
 returns-then-has_met_nothing-clause-walked g c =
