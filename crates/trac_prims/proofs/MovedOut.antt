@@ -1,13 +1,16 @@
 -- Forms that are moved out one after another: what a further name adds, what is left, and that the names of those that were moved out
 -- say as much as all the names.
-use Rattle.std.proofs.Common.{◌≡◌, ℕ, ◌+◌, ◌≤◌, Bool, true, false, cond, ◌||◌, List, [], ◌∷◌, ◌++◌, length, refl, sym, ap, ◌∙◌, arith, ⊎_elim}
+use Rattle.std.proofs.Common.{◌≡◌, ℕ, ◌+◌, ◌≤◌, Bool, Bor, true, false, cond, ◌||◌, List, [], ◌∷◌, ◌++◌, length, refl, sym, ap, ◌∙◌, arith, ⊎_elim}
 use Rattle.std.specs.Prelude.{Option, None, Some, Vec, bytes_eq, is_some}
 use Rattle.std.specs.Cmp.Lexicographic.{slice_cmp, nat_list_cmp_total}
 use Rattle.std.specs.FinMap as finite
 use Rattle.std.specs.List.{list_any}
+use Rattle.std.specs.List.Sorted.{IsPermutation}
 use Rattle.std.specs.Ordering.{nat_cmp, eq_by_cmp}
 use Rattle.std.proofs.lemmas.Bool.{cases_Bool, cond-true}
 use Rattle.std.proofs.lemmas.List.{append-nil, append_assoc, length-append, length-map, map-append}
+use Rattle.std.proofs.lemmas.List.Folds.{list_any-append}
+use Rattle.std.proofs.lemmas.List.Sorted.{list_any-IsPermutation}
 use Rattle.std.proofs.lemmas.Map.Text.{is_eq-slice_cmp}
 use Rattle.std.proofs.lemmas.Slice.Eq.{bytes_eq-Decides}
 use Rattle.trac_rules.specs.Blocks.{moved_out, with_name}
@@ -164,6 +167,21 @@ without-again (name ∷ names) forms =
 pub any_text : {A : Type 0} (name : List ℕ) (texts : List (Vec ℕ A)) → list_any (λ text. bytes_eq name text.items) texts ≡ list_any (bytes_eq name) (texts_of texts)
 any_text name [] = refl
 any_text name (text ∷ texts) = ap (λ b. bytes_eq name text.items || b) (any_text name texts)
+
+-- a key more among those of a set, and a name more among texts
+pub key_added : (q : List ℕ) (keys new : List (Bor (List ℕ))) (key : Bor (List ℕ)) (held : List (List ℕ)) → IsPermutation (key ∷ keys) new →
+    list_any (λ k. bytes_eq q k.now) keys ≡ list_any (bytes_eq q) held → list_any (λ k. bytes_eq q k.now) new ≡ list_any (bytes_eq q) (held ++ key.now ∷ [])
+key_added q keys new key held put before =
+    sym (list_any-IsPermutation (λ k. bytes_eq q k.now) (key ∷ keys) new put)
+    ∙ turned (bytes_eq q key.now) (list_any (λ k. bytes_eq q k.now) keys)
+    ∙ ap (λ b. b || (bytes_eq q key.now || false)) before
+    ∙ sym (list_any-append (bytes_eq q) held (key.now ∷ []))
+  where
+    turned : (a b : Bool) → (a || b) ≡ (b || (a || false))
+    turned true true = refl
+    turned true false = refl
+    turned false true = refl
+    turned false false = refl
 
 -- a text more
 pub text_added : {A : Type 0} (held new : List (Vec ℕ A)) (text : Vec ℕ A) (name : List ℕ) → new ≡ held ++ text ∷ [] → text.items ≡ name → texts_of new ≡ texts_of held ++ name ∷ []

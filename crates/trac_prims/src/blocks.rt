@@ -22,6 +22,7 @@ ghost use Rattle.trac_text.specs.Framing.{texts_of};
 
 use crate::effect::{Deed, NOTHING};
 use std::alloc::Allocator;
+use std::collections::HashSet;
 use trac_change::{LaterArguments, UnnamedChange, after};
 use trac_forms::{Block, Form, Item, Store, Texts};
 use trac_num::{print_into, read_tail, value};
@@ -98,8 +99,27 @@ pub(crate) fn erase_block<A: Allocator + Copy>(
 
 // ---- forms that leave
 
+// So many names are compared each with those before it: to look them up would take longer.
+const FEW_NAMES: usize = 16;
+
 // The names of the forms that leave, of those that are given: each that has a form, once.
 fn leaving<A: Allocator + Copy>(
+    alloc: A,
+    store: &Store<A>,
+    names: &LaterArguments<'_>,
+) -> Result<Vec<Vec<u8, A>, A>, Refusal>
+    ensures made { IfOk result (λ held. texts_of held.items ≡ names_in (moved_out names.now store.now.forms)) }
+    ensures err { IsOkUnless result Refusal.Memory }
+{
+    if names.count() <= FEW_NAMES {
+        leaving_few(alloc, store, names)
+    } else {
+        leaving_many(alloc, store, names)
+    }
+}
+
+// The same, where each is compared with those before it.
+fn leaving_few<A: Allocator + Copy>(
     alloc: A,
     store: &Store<A>,
     names: &LaterArguments<'_>,
@@ -111,6 +131,26 @@ fn leaving<A: Allocator + Copy>(
     for i in 0..names.count() {
         let name = names.get(i);
         if store.get(name).is_some() && !stands_among(held.as_slice(), name) {
+            held.push(Vec::from_slice(alloc, name)?)?;
+        }
+    }
+    Ok(held)
+}
+
+// The same, where each is looked up: so the time is not the square of their number.
+fn leaving_many<A: Allocator + Copy>(
+    alloc: A,
+    store: &Store<A>,
+    names: &LaterArguments<'_>,
+) -> Result<Vec<Vec<u8, A>, A>, Refusal>
+    ensures made { IfOk result (λ held. texts_of held.items ≡ names_in (moved_out names.now store.now.forms)) }
+    ensures err { IsOkUnless result Refusal.Memory }
+{
+    let mut held = Vec::new(alloc);
+    let mut seen = HashSet::new(alloc);
+    for i in 0..names.count() {
+        let name = names.get(i);
+        if store.get(name).is_some() && seen.insert(name)? {
             held.push(Vec::from_slice(alloc, name)?)?;
         }
     }

@@ -7,8 +7,8 @@ use Rattle.trac_rules.specs.Undone.{names_in}
 use Rattle.trac_text.specs.Framing.{texts_of}
 use Rattle.trac_prims.proofs.MovedOut.{name_added, name_again, name_missing, text_added}
 use Rattle.trac_prims.proofs.Putting.{there_behind}
-use Rattle.trac_prims.proofs.blocks.leaving.Goals as goal
-use Rattle.trac_prims.proofs.blocks.leaving.Goals.{then-is_some+then-not-stands_among+in_ok-from_slice+in_ok-push, else-is_some, else-is_some-via-then-is_some+else-not-stands_among, else-is_some-via-else-is_some}
+use Rattle.trac_prims.proofs.blocks.leaving_few.Goals as goal
+use Rattle.trac_prims.proofs.blocks.leaving_few.Goals.{then-is_some+then-not-stands_among+in_ok-from_slice+in_ok-push, else-is_some, else-is_some-via-then-is_some+else-not-stands_among, else-is_some-via-else-is_some}
 
 pub loop-i-preserved : goal.loop-i-preserved
 loop-i-preserved g c =
