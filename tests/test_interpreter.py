@@ -89,9 +89,22 @@ class Interpreter(Case):
         if len(self.faults) + self.cut == faults:
             self.well()
 
+    def test_limit(self) -> None:
+        """Steps and a search that come to a limit are said to, and the way back from there goes."""
+        tape = b"#(ds,E,(#(ds,D,##(cl,D)##(cl,D))#(cl,E)))'#(ds,D,x)#(cl,E)'"
+        commands = ["s 999999999", "u zz 9", "b 3", "s 9"]
+        with tempfile.TemporaryDirectory() as room:
+            self.debugged(0, tape, 128, 65536, commands, room)
+        replies = session.replies(tape, 128, 65536, commands)
+        self.holds("three replies say so: {!r}".format(replies), replies.count(b"TooLong\n") == 3)
+
     def try_session(self, number: int, tape: bytes, writer: author.Author, room: str) -> None:
         """A session over a program."""
-        bits, journal, commands = writer.pick([128, 64]), writer.pick([5, 40, 65536, 65536]), writer.commands()
+        bits, journal = writer.pick([128, 64]), writer.pick([5, 40, 65536, 65536])
+        self.debugged(number, tape, bits, journal, writer.commands(), room)
+
+    def debugged(self, number: int, tape: bytes, bits: int, journal: int, commands: list[str], room: str) -> None:
+        """The replies to commands over a program."""
         words = ["debug", "--decimals", str(bits), "--journal", str(journal), os.path.join(room, "program")]
         pathlib.Path(words[-1]).write_bytes(tape)
         given = started(room, words, "".join(line + "\n" for line in commands).encode())
