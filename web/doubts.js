@@ -94,13 +94,13 @@ export function markDoubts({ tree, cursor: { step } }) {
 }
 
 // Lists the first doubts, each as a link to its step, marks all of them in the program, and each under its call. Hints
-// of the page have no step.
-/** @param {Page} page @param {Doubt[]} told */
+// of the page have no step. Until they are known there is no number of them.
+/** @param {Page} page @param {Doubt[] | null} told */
 export function showDoubts(page, told) {
   const { shownRun: run } = page;
   page.tree.doubts = new Map();
   const forms = formsSet(run, page.tree.calls);
-  const doubts = told.map((doubt) => remedied(doubt, page, forms));
+  const doubts = (told ?? []).map((doubt) => remedied(doubt, page, forms));
   for (const { step, words } of doubts) {
     if (step === null) continue;
     const said = page.tree.doubts.get(step);
@@ -112,7 +112,7 @@ export function showDoubts(page, told) {
   const isInProgram = ({ byte }) => byte < run.program.length;
   const inProgram = page.isStale ? [] : doubts.filter(isInProgram);
   page.editor.light("doubtful", inProgram.map(({ byte, end = byte + 1 }) => [byte, end]), false);
-  page.tabs.count("doubts", grouped(doubts.length), doubts.length > 0);
+  page.tabs.count("doubts", told ? grouped(doubts.length) : "", doubts.length > 0);
   // (the tab may be out of the window: beside the output they are told, too)
   const button = byId("doubted");
   button.hidden = doubts.length === 0;
@@ -121,8 +121,8 @@ export function showDoubts(page, told) {
     page.tabs.choose("doubts");
     byId("tab-doubts").focus();
   };
-  const hint = doubts.length ? "What was probably not meant." : "Nothing is done that was probably not meant.";
-  byId("doubts-hint").textContent = hint;
+  const none = told ? "Nothing is done that was probably not meant." : "What was probably not meant is looked for ..";
+  byId("doubts-hint").textContent = doubts.length ? "What was probably not meant." : none;
   byId("doubts").replaceChildren(...doubts.slice(0, MOST_DOUBTS).map((doubt) => {
     const { step, byte, words } = doubt;
     const row = make("p", "way-row");

@@ -1,6 +1,7 @@
 // Calls that are seen in the list or named over the slider get their arguments one by one, as they stood when they were
 // performed, so that they look as they do in sentences: protected ones in quotes, and empty ones with their sign.
 import { addText, boundary, grouped } from "./bytes.js";
+import { NO_CALLS } from "./calls.js";
 import { Tree } from "./tree.js";
 import { addCallText, isProtected } from "./words.js";
 import { Story } from "./story.js";
@@ -36,7 +37,7 @@ export class CallTree extends Tree {
   /** @override */
   list() {
     super.list();
-    this.counted?.(grouped(this.calls.steps.length));
+    this.counted?.(this.calls === NO_CALLS ? "" : grouped(this.calls.steps.length));
   }
 
   // It is seen now: its rows are made, and that of the step is in view.

@@ -11,7 +11,6 @@ import { depthsOf, idlesOf, printsOf } from "./tracks.js";
 // Gathers all that, as long as the run is the one that is shown.
 /** @param {Page} page @param {Run} run */
 export async function gather(page, run) {
-  const { tree } = page;
   byId("tree-count").textContent = "are listed ..";
   let calls = null;
   try {
@@ -20,9 +19,16 @@ export async function gather(page, run) {
     showCalls(page, run, calls);
     await gatherMore(page, run, calls);
   } catch (fault) {
-    if (!calls && run === page.run && !(fault instanceof Stopped)) tree.lack(wordsOf(fault));
+    if (run === page.run && !(fault instanceof Stopped)) lack(page, calls !== null, wordsOf(fault));
     page.view.say(fault);
   }
+}
+
+// Why calls, or doubts alone, are not listed.
+/** @param {Page} page @param {boolean} isListed @param {string} words */
+function lack(page, isListed, words) {
+  if (!isListed) page.tree.lack(words);
+  if (!page.run?.isDoubted) byId("doubts-hint").textContent = words;
 }
 
 /** @param {Page} page @param {Run} run @param {Calls} calls */
@@ -47,6 +53,7 @@ async function gatherMore(page, run, calls) {
   if (run !== page.run) return;
   doubts.push(...hintsOf(run.program));
   showDoubts(page, doubts);
+  run.isDoubted = true;
   const count = doubts.length === 1 ? "1 doubt is" : `${grouped(doubts.length)} doubts are`;
   if (doubts.length) page.announcer.say("note", `${count} listed`);
   calls.prints = await printsOf(background, tape, calls, run);

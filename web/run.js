@@ -64,8 +64,8 @@ export class Run {
     this.meta = came.meta;
     this.isOfByte = came.isOfByte;
     this.story = story;
-    // whether its calls and doubts are known
-    this.isGathered = false;
+    // whether its calls and doubts are known, and whether its doubts are
+    this.isGathered = this.isDoubted = false;
   }
 
   // What of it can be run anew, with other words.

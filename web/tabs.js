@@ -22,7 +22,8 @@ export class Tabs {
     tab.id = `tab-${name}`;
     tab.setAttribute("role", "tab");
     tab.setAttribute("aria-controls", `${name}-panel`);
-    tab.append(" ", make("span", "count"));
+    // (a plain blank at an end, as long as there is no number, would be left out of what is read aloud)
+    tab.append("\xa0", make("span", "count"));
     byId(`${name}-panel`).setAttribute("aria-labelledby", tab.id);
     tab.addEventListener("click", () => this.choose(name));
     return tab;

@@ -68,7 +68,7 @@ export class View {
     byId("of-steps").textContent = `of ${grouped(end)}`;
     showOutput(this, output, output.length, 0, end);
     byId("program-note").textContent = isStale ? CHANGED : "";
-    showDoubts(this.page, []);
+    showDoubts(this.page, null);
     tree.note = "";
     tree.show(NO_CALLS);
     timeline.show(tree.calls, end);

@@ -52,7 +52,7 @@ def check_listed(page: Deeds) -> None:
     page.run()
     page.until("document.getElementById('tree-count').textContent.endsWith(', the last of the run')",
                "the last calls are listed")
-    page.until("document.querySelector('#doubts-hint').textContent !== ''", "all is gathered")
+    page.until("document.querySelector('#tab-doubts .count').textContent !== ''", "all is gathered")
     page.go(1000)
     page.until("/, those of steps up to 51,000$/.test(document.getElementById('tree-count').textContent)",
                "those around step 1,000 are listed")

@@ -1,5 +1,7 @@
 """The first minute: what is there at first, how a run ends in true words, where the focus is, and what Stop leaves."""
-from webpage.pages import FACTORIAL, Deeds, check
+import os
+
+from webpage.pages import FACTORIAL, TOP, Deeds, check
 from webpage.rows import rows
 from webpage.window import pick
 
@@ -7,6 +9,14 @@ from webpage.window import pick
 ENDLESS = ("#(ds,A,0123456789abcdef)'#(ds,D,(#(ds,A,##(cl,A)##(cl,A))))'" + "#(cl,D)" * 11
            + "#(ds,L,(#(ps,x)#(ds,B,##(cl,A)##(cl,A))#(cl,L)))'#(cl,L)'")
 FOCUS = "document.activeElement.id"
+# Keeps all that is told of how many calls and doubts there are.
+TOLD = """(() => {
+  const told = ['#tab-tree .count', '#tab-doubts .count', '#doubts-hint'].map((it) => document.querySelector(it));
+  window.told = [];
+  const note = () => window.told.push(told.map((it) => it.textContent));
+  new MutationObserver(note).observe(document.getElementById('panels'),
+                                     { childList: true, characterData: true, subtree: true });
+})()"""
 HIDDEN = "document.getElementById('{}').hidden"
 
 
@@ -105,6 +115,20 @@ def check_right(page: Deeds) -> None:
     check(page.script("document.querySelector('#ending button').textContent") == "go on", "it can go on")
 
 
+def check_looked_for(page: Deeds) -> None:
+    """Until the calls and doubts of a long run are known, their tabs have no number, and none is denied."""
+    page.put(open(os.path.join(TOP, "programs", "examples", "endless.trac")).read())
+    page.script(TOLD)
+    page.run()
+    page.until("document.querySelector('#tab-doubts .count').textContent === '0'", "its doubts are known")
+    told = page.script("window.told")
+    count = page.script("document.querySelector('#tab-tree .count').textContent")
+    check(len(count) > 4 and {it[0] for it in told} == {"", count}, "how many calls there are: {}".format(told[-1]))
+    check({it[1] for it in told} == {"", "0"}, "how many doubts there are: {}".format(told[-1]))
+    hasty = [it for it in told if it[1] == "" and "Nothing" in it[2]]
+    check(hasty == [] and "looked for" in told[0][2], "what is said of doubts: {}".format((hasty or told)[0]))
+
+
 def check_stopped(page: Deeds) -> None:
     """While a program runs, what it prints is shown; Stop leaves that, and the player, at the step where it was
     stopped."""
@@ -128,4 +152,4 @@ def check_stopped(page: Deeds) -> None:
     page.unit("token")
 
 
-TRIED = rows(check_first, check_done, check_unended, check_waits, check_right, check_stopped)
+TRIED = rows(check_first, check_done, check_unended, check_waits, check_right, check_looked_for, check_stopped)

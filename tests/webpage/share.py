@@ -23,6 +23,9 @@ PROGRAMS = {
     "empty": b"", "any": random.Random(62).randbytes(3000), "every": bytes(range(256)) * 3,
     "long": b"#(ps,(" + b"0123456789 \n" * 5000 + b"))'",
 }
+# How high the lines of the link are, by its letters.
+LINE = """(({ lineHeight, fontSize }) => parseFloat(lineHeight) / parseFloat(fontSize))(
+  getComputedStyle(document.getElementById('share-text')))"""
 # That a link is wrong is said.
 SAID = "document.getElementById('ending').textContent.endsWith(' Nothing is opened.')"
 
@@ -115,6 +118,7 @@ def check_run(page: Deeds, file: str) -> None:
           and ASKING.encode() in data,
           "what the link holds: {}".format(data))
     check(36 <= len(text) <= 300, "a link of {} signs".format(len(text)))
+    check((page.script(LINE) or 0) >= 1.35, "lines are so high that no _ is hidden: {}".format(page.script(LINE)))
     check(page.script("location.hash") == "", "the address stays as it is")
     page.well("sharing")
     page.load(file, text)
