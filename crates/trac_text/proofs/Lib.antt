@@ -11,3 +11,5 @@ pub mod NeutralAgain
 pub mod Framed
 pub mod TakenOut
 pub mod Lengths
+pub mod Beginnings
+pub mod Holding
