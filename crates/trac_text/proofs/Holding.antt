@@ -1,14 +1,16 @@
 -- Lists with two ends that hold texts, and what each rule of scanning makes of them.
-use Rattle.std.proofs.Common.{◌≡◌, ℕ, ◌+◌, ◌-◌, ◌<◌, ◌≤◌, ◌^◌, List, [], ◌∷◌, ◌++◌, length, take, drop, reverse, refl, sym, ap, ◌∙◌, subst, arith}
+use Rattle.std.proofs.Common.{◌≡◌, ℕ, ◌+◌, ◌-◌, ◌<◌, ◌≤◌, ◌^◌, List, [], ◌∷◌, ◌++◌, length, take, drop, reverse, refl, sym, ap, ◌∙◌, subst, arith, Bool, true, false}
 use Rattle.std.specs.Prelude.{Option, Some, None}
 use Rattle.std.proofs.lemmas.List.{length-append, length-drop, length-take}
 use Rattle.std.proofs.lemmas.Option.{none-some}
 use Rattle.trac_gap.specs.Ends.{Ends, item_count}
 use Rattle.trac_rules.specs.declared.kind.Kind.{Kind}
+use Rattle.trac_rules.specs.declared.kind.Kind.TheVariants.{Active, Neutral}
 use Rattle.trac_rules.specs.declared.limit.TheConstants.{MARK_LIMIT, TEXT_LIMIT}
 use Rattle.trac_rules.specs.Bytes.{idle_program}
 use Rattle.trac_rules.specs.Limits.{argument_bytes, marks}
 use Rattle.trac_rules.specs.Matching.{Protected, protected}
+use Rattle.trac_rules.specs.Performing.{placed}
 use Rattle.trac_rules.specs.PlainRuns.{moved_on}
 use Rattle.trac_rules.specs.Records.{Texts, texts_in}
 use Rattle.trac_rules.specs.Scanning.{begun, comma_in, deleted, gather, gathered_in, protect}
@@ -19,9 +21,9 @@ use Rattle.trac_text.specs.Cuts.{cut}
 use Rattle.trac_text.specs.Framing.{marked_in}
 use Rattle.trac_text.specs.Holding.{AreSound, BeginsInnermost, CanHold, IsBegun, ShownTexts, alone, bytes_in, innermost_arguments, shown_texts, texts_by}
 use Rattle.trac_text.specs.Marks.{mark_at}
-use Rattle.trac_text.specs.Moving.{with_protected}
-use Rattle.trac_text.specs.Neutral.{AreMarks, Neutral, marked}
-use Rattle.trac_text.proofs.Beginnings.{is_begun}
+use Rattle.trac_text.specs.Moving.{with_protected, with_value}
+use Rattle.trac_text.specs.Neutral.{Neutral as NeutralOf, cut_back, marked, neutral_of}
+use Rattle.trac_text.proofs.Beginnings.{is_begun, some_frame}
 use Rattle.trac_text.proofs.Neutral.{longer}
 use Rattle.trac_text.proofs.NeutralAgain.{Shows, mark_size, shows_mark, shows_more, text_size}
 use Rattle.trac_text.proofs.Protected.{protected_length}
@@ -29,7 +31,7 @@ use Rattle.trac_text.proofs.Protected.{protected_length}
 -- ---- lists that hold texts
 
 -- base text and frames of texts
-abbrev pub neutral_in : Texts → Neutral
+abbrev pub neutral_in : Texts → NeutralOf
 neutral_in t = record { base = t.base; frames = t.frames }
 
 -- lists hold these texts
@@ -70,7 +72,7 @@ held_in {k} {text} {ms} {t} held depth can =
     record {
       sound = record {
         ordered = held.neutral.ordered;
-        depth = depth ∙ ap (λ (n : Neutral). length n.frames) (sym held.neutral.same);
+        depth = depth ∙ ap (λ (n : NeutralOf). length n.frames) (sym held.neutral.same);
         text_limit = omega (arith, bytes, can.text_limit);
         mark_limit = omega (arith, count, can.mark_limit);
         text_room = omega (arith, bytes, can.text_room);
@@ -249,3 +251,63 @@ pub arguments_here : {functions : ℕ} {text : Ends ℕ} {ms : Ends Mark} {m : S
 arguments_here now b begins =
     let inner = (begun_here now b begins).innermost in
     sym inner.arguments_are ∙ ap innermost_arguments (sym inner.frames_are) ∙ ap (λ (n : ShownTexts). innermost_arguments n.texts.frames) now.view
+
+-- ---- a call ends
+
+module _ {functions : ℕ} {text : Ends ℕ} {ms : Ends Mark} {m : ShownTexts} (now : AreNow functions text ms m) where
+  -- the innermost function goes with its `)`
+  pub ended_now : (b : Beginning) → 0 < length m.texts.active → BeginsInnermost m.texts b → {k : ℕ} {next : Ends ℕ} {ns : Ends Mark} → k + 1 ≡ functions →
+      next ≡ record text { left = take b.place text.left; right = drop 1 text.right } → ns ≡ record ms { left = take b.number ms.left } →
+      AreNow k next ns (record m { texts = record m.texts { active = drop 1 m.texts.active; frames = drop 1 m.texts.frames } })
+  ended_now b some begins {k} {next} {ns} count text_is marks_are =
+      let held = held_now now in
+      let inner = (begun_here now b begins).innermost in
+      let rest : Texts = record m.texts { active = drop 1 m.texts.active; frames = drop 1 m.texts.frames } in
+      let frames_are : m.texts.frames ≡ inner.frame ∷ (neutral_of (cut_back b.number b.place (marked_in text ms))).frames =
+      ap (λ (n : ShownTexts). n.texts.frames) (sym now.view) ∙ inner.frames_are in
+      let base_is : m.texts.base ≡ (neutral_of (cut_back b.number b.place (marked_in text ms))).base =
+      ap (λ (n : ShownTexts). n.texts.base) (sym now.view) ∙ inner.base_is in
+      let shows : Shows (take b.place text.left) (take b.number ms.left) (neutral_in rest) =
+      record { same = (λ i. record { base = sym base_is i; frames = drop 1 (sym frames_are i) }); ordered = inner.ordered } in
+      let holds : Hold (record text { left = take b.place text.left; right = drop 1 text.right }) (record ms { left = take b.number ms.left }) rest =
+      record { active = ap (λ (active : List ℕ). drop 1 active) held.active; neutral = shows } in
+      let depth : k ≡ length rest.frames = omega (arith, count, depth_now now, ap (λ (fs : List Frame). length fs) frames_are, ap (λ (fs : List Frame). length (drop 1 fs)) frames_are) in
+      subst (λ (e : Ends ℕ). AreNow k e ns (record m { texts = rest })) (sym text_is)
+      (subst (λ (e : Ends Mark). AreNow k (record text { left = take b.place text.left; right = drop 1 text.right }) e (record m { texts = rest })) (sym marks_are)
+      (held_within now holds depth refl refl (omega (arith, length-take b.place text.left, length-drop 1 text.right)) (omega (arith, length-take b.number ms.left))))
+
+  pub some_function : (b : Beginning) → BeginsInnermost m.texts b → 1 ≤ functions
+  some_function b begins = omega (arith, depth_now now, some_frame m.texts.frames m.texts.base b begins)
+
+-- a value goes where it goes
+holds_value : {text : Ends ℕ} {ms : Ends Mark} {t : Texts} (kind : Kind) (forced : Bool) (value : List ℕ) → Hold text ms t → Hold (with_value kind forced value text) ms (texts_by (placed kind forced value) t)
+holds_value Active forced value held = record { active = ap (λ (active : List ℕ). value ++ active) held.active; neutral = held.neutral }
+holds_value Neutral true value held = record { active = ap (λ (active : List ℕ). value ++ active) held.active; neutral = held.neutral }
+holds_value {text} {ms} {t} Neutral false value held =
+    subst (λ (active : List ℕ). Hold (record text { left = text.left ++ value }) ms (gathered active value t)) held.active (holds_more text.right value held)
+
+value_depth : (kind : Kind) (forced : Bool) (value : List ℕ) (t : Texts) → length (texts_by (placed kind forced value) t).frames ≡ length t.frames
+value_depth Active forced value t = refl
+value_depth Neutral true value t = refl
+value_depth Neutral false value t = gathered_depth t.frames value (alone t) refl
+
+value_capacity : (kind : Kind) (forced : Bool) (value : List ℕ) (e : Ends ℕ) → (with_value kind forced value e).capacity ≡ e.capacity
+value_capacity Active forced value e = refl
+value_capacity Neutral true value e = refl
+value_capacity Neutral false value e = refl
+
+value_length : (kind : Kind) (forced : Bool) (value : List ℕ) (e : Ends ℕ) → item_count (with_value kind forced value e) ≡ item_count e + length value
+value_length Active forced value e = omega (arith, length-append value e.right)
+value_length Neutral true value e = omega (arith, length-append value e.right)
+value_length Neutral false value e = omega (arith, length-append e.left value)
+
+module _ {functions : ℕ} {text : Ends ℕ} {ms : Ends Mark} {m : ShownTexts} (now : AreNow functions text ms m) (kind : Kind) (forced : Bool) (value : List ℕ)
+    (can : CanHold m (texts_by (placed kind forced value) m.texts)) where
+  pub value_fits : item_count text + length value ≤ text.capacity
+  value_fits =
+      omega (arith, can.text_room, byte_count (holds_value kind forced value (held_now now)), value_length kind forced value text, ap (λ (x : ShownTexts). x.text_room) now.view)
+
+  pub placed_now : {next : Ends ℕ} → next ≡ with_value kind forced value text → AreNow functions next ms (record m { texts = texts_by (placed kind forced value) m.texts })
+  placed_now {next} is =
+      subst (λ (e : Ends ℕ). AreNow functions e ms (record m { texts = texts_by (placed kind forced value) m.texts })) (sym is)
+      (held_as now (holds_value kind forced value (held_now now)) (depth_now now ∙ sym (value_depth kind forced value m.texts)) (value_capacity kind forced value text) refl can)

@@ -13,3 +13,6 @@ pub mod TakenOut
 pub mod Lengths
 pub mod Beginnings
 pub mod Holding
+pub mod ScanningBack
+pub mod Loaded
+pub mod CallsBack
