@@ -1,29 +1,29 @@
 -- Going back over a call: the lists before it, and that they hold the texts that its record restores.
-use Rattle.std.proofs.Common.{◌≡◌, ℕ, ◌+◌, ◌-◌, ◌≤◌, Bool, true, false, List, [], ◌∷◌, ◌++◌, length, map, take, drop, reverse, refl, sym, ap, ◌∙◌, subst, arith}
+use Rattle.std.proofs.Common.{◌≡◌, ℕ, ◌+◌, ◌≤◌, Bool, true, false, List, [], ◌∷◌, ◌++◌, length, map, drop, refl, sym, ap, ◌∙◌, subst, arith}
 use Rattle.std.specs.Prelude.{Option, Some, None, IsSome, IsSomeAnd, codes, nat_le, option_map, option_and_then}
 use Rattle.std.specs.Bool.{then_some}
 use Rattle.std.proofs.lemmas.Bool.{leb-true}
 use Rattle.trac_gap.specs.Ends.{Ends, item_count}
 use Rattle.trac_rules.specs.declared.kind.Kind.{Kind}
-use Rattle.trac_rules.specs.Limits.{argument_bytes, marks}
 use Rattle.trac_rules.specs.Records.{Texts, all_before_last, begun_again, end_taken_in, last_of, moved_back_in, put_before, texts_in, value_taken}
 use Rattle.trac_rules.specs.State.{Frame, State}
 use Rattle.trac_rules.proofs.Restored.{frame_of-last}
 use Rattle.trac_text.specs.declared.mark.Mark.{Mark}
 use Rattle.trac_text.specs.Framing.{marked_in}
-use Rattle.trac_text.specs.Holding.{CanHold, ShownTexts, alone, bytes_in, shown_texts, texts_held}
+use Rattle.trac_text.specs.Holding.{CanHold, ShownTexts, alone, texts_held}
 use Rattle.trac_text.specs.Marks.{function_marks}
 use Rattle.trac_text.specs.MovingBack.{HasValue, before_call, with_last_before, without_value}
 use Rattle.trac_text.specs.Neutral.{IsOrdered, Neutral}
 use Rattle.trac_text.specs.Pieces.{Arguments, all_texts, frame_in}
-use Rattle.trac_text.proofs.Holding.{AreNow, Hold, byte_count, held_as, held_now, mark_count, neutral_in}
-use Rattle.trac_text.proofs.NeutralAgain.{Shows, shows_function}
+use Rattle.trac_text.proofs.Holding.{AreNow, Hold, byte_count, depth_now, held_as, mark_count, neutral_in}
+use Rattle.trac_text.proofs.Neutral.{frames_counted}
+use Rattle.trac_text.proofs.NeutralAgain.{shows_function}
 use Rattle.trac_text.proofs.ScanningBack.{is_moved_back, then_is}
 
 -- ---- the value is taken off
 
 -- so many bytes of a value are there, and without them the lists hold these texts
-record IsValueTaken (scanned : Bool) (n : ℕ) (text : Ends ℕ) (ms : Ends Mark) (t : Texts) : Type 0 where
+pub record IsValueTaken (scanned : Bool) (n : ℕ) (text : Ends ℕ) (ms : Ends Mark) (t : Texts) : Type 0 where
   there : HasValue scanned n text
   held : Hold (without_value scanned n text) ms t
 
@@ -74,7 +74,7 @@ is_value_taken false n text ms t ordered h =
 -- ---- the function is begun again
 
 -- texts with this function begun, and its `)` before the active text
-abbrev with_function : Kind → Arguments → Texts → Texts
+abbrev pub with_function : Kind → Arguments → Texts → Texts
 with_function kind a t = record t { active = codes ")" ++ t.active; frames = frame_in (kind, a) ∷ t.frames }
 
 pub begins_again : (kind : Kind) (a : Arguments) (t : Texts) → begun_again kind (all_texts a) t ≡ Some (with_function kind a t)
@@ -86,8 +86,8 @@ abbrev pub texts_again : Kind → Arguments → Bool → ℕ → Texts → Optio
 texts_again kind a scanned n t = option_and_then (begun_again kind (all_texts a)) (value_taken scanned n t)
 
 -- the value is off, and then the function is begun again
-record AreBack (kind : Kind) (a : Arguments) (scanned : Bool) (n : ℕ) (text : Ends ℕ) (ms : Ends Mark) (m : ShownTexts) : Type 0 where
-  without : Texts
+pub record AreBack (kind : Kind) (a : Arguments) (scanned : Bool) (n : ℕ) (text : Ends ℕ) (ms : Ends Mark) (m : ShownTexts) : Type 0 where
+  pub without : Texts
   taken : IsValueTaken scanned n text ms without
   is : texts_again kind a scanned n (texts_held text ms) ≡ Some (with_function kind a without)
   can : CanHold m (with_function kind a without)
@@ -105,12 +105,16 @@ are_back kind a scanned n text ms m ordered h = by_taken (value_taken scanned n 
       can = subst (λ (o : Option Texts). IsSomeAnd o (λ t. CanHold m t)) (begins_again kind a u) h;
     }
 
+value_capacity : (scanned : Bool) (n : ℕ) (e : Ends ℕ) → (without_value scanned n e).capacity ≡ e.capacity
+value_capacity true n e = refl
+value_capacity false n e = refl
+
 module _ {functions : ℕ} {text : Ends ℕ} {ms : Ends Mark} {m : ShownTexts} (now : AreNow functions text ms m) (kind : Kind) (a : Arguments) (scanned : Bool) (n : ℕ)
     (h : IsSomeAnd (texts_again kind a scanned n m.texts) (λ t. CanHold m t)) where
   texts_are : texts_held text ms ≡ m.texts
   texts_are = ap (λ (x : ShownTexts). x.texts) now.view
 
-  back : AreBack kind a scanned n text ms m
+  pub back : AreBack kind a scanned n text ms m
   back = are_back kind a scanned n text ms m now.sound.ordered (subst (λ (t : Texts). IsSomeAnd (texts_again kind a scanned n t) (λ u. CanHold m u)) (sym texts_are) h)
 
   pub has_value : HasValue scanned n text
@@ -128,3 +132,30 @@ module _ {functions : ℕ} {text : Ends ℕ} {ms : Ends Mark} {m : ShownTexts} (
         active = ap (λ (e : Ends ℕ). e.right) text_is ∙ ap (λ (active : List ℕ). codes ")" ++ active) held.active;
         neutral = rw (text_is, marks_are) shows;
       }
+
+  -- lists with room for the texts before the call
+  example : Hold (before_call scanned n (all_texts a) text) (record ms { left = ms.left ++ function_marks (length (without_value scanned n text).left) kind (map length a.finished) }) there
+  example = holds_again refl refl
+
+  pub text_room : item_count (before_call scanned n (all_texts a) text) ≤ text.capacity
+  text_room = omega (arith, byte_count example, back.can.text_room, ap (λ (x : ShownTexts). x.text_room) now.view)
+
+  pub mark_room : length ms.left + 1 + length a.finished ≤ ms.capacity
+  mark_room = omega (arith, mark_count back.taken.held, back.can.mark_room, ap (λ (x : ShownTexts). x.mark_room) now.view)
+
+  pub called_now : {next : Ends ℕ} {ns : Ends Mark} → next ≡ before_call scanned n (all_texts a) text →
+      ns.left ≡ ms.left ++ function_marks (length (without_value scanned n text).left) kind (map length a.finished) → ns.capacity ≡ ms.capacity → AreNow (functions + 1) next ns (record m { texts = there })
+  called_now {next} {ns} text_is marks_are capacity =
+      let same_depth : functions + 1 ≡ length there.frames = omega (arith, counted) in
+      held_as now (holds_again text_is marks_are) same_depth (ap (λ (e : Ends ℕ). e.capacity) text_is ∙ value_capacity scanned n text) capacity back.can
+    where
+      counted : functions ≡ length back.without.frames
+      counted =
+          depth_now now ∙ sym (ap (λ (t : Texts). length t.frames) texts_are) ∙ sym (frames_counted (marked_in text ms)) ∙ frames_counted (marked_in (without_value scanned n text) ms)
+          ∙ ap (λ (x : Neutral). length x.frames) back.taken.held.neutral.same
+
+  pub back_is : (new : ShownTexts) → new ≡ record m { texts = there } → (texts_again kind a scanned n m.texts ≡ Some new.texts) × (new ≡ record m { texts = new.texts })
+  back_is new view = (
+    ap (texts_again kind a scanned n) (sym texts_are) ∙ back.is ∙ ap (λ (x : ShownTexts). Some x.texts) (sym view),
+    subst (λ (x : ShownTexts). x ≡ record m { texts = x.texts }) (sym view) refl,
+  )

@@ -1,19 +1,18 @@
 -- Lists with two ends that hold texts, and what each rule of scanning makes of them.
-use Rattle.std.proofs.Common.{◌≡◌, ℕ, ◌+◌, ◌-◌, ◌<◌, ◌≤◌, ◌^◌, List, [], ◌∷◌, ◌++◌, length, take, drop, reverse, refl, sym, ap, ◌∙◌, subst, arith, Bool, true, false}
+use Rattle.std.proofs.Common.{◌≡◌, ℕ, ◌+◌, ◌-◌, ◌<◌, ◌≤◌, ◌^◌, List, [], ◌∷◌, ◌++◌, length, take, drop, refl, sym, ap, ◌∙◌, subst, arith, Bool, true, false}
 use Rattle.std.specs.Prelude.{Option, Some, None}
 use Rattle.std.proofs.lemmas.List.{length-append, length-drop, length-take}
 use Rattle.std.proofs.lemmas.Option.{none-some}
 use Rattle.trac_gap.specs.Ends.{Ends, item_count}
 use Rattle.trac_rules.specs.declared.kind.Kind.{Kind}
 use Rattle.trac_rules.specs.declared.kind.Kind.TheVariants.{Active, Neutral}
-use Rattle.trac_rules.specs.declared.limit.TheConstants.{MARK_LIMIT, TEXT_LIMIT}
-use Rattle.trac_rules.specs.Bytes.{idle_program}
+use Rattle.trac_rules.specs.declared.limit.TheConstants.{MARK_LIMIT}
 use Rattle.trac_rules.specs.Limits.{argument_bytes, marks}
 use Rattle.trac_rules.specs.Matching.{Protected, protected}
 use Rattle.trac_rules.specs.Performing.{placed}
 use Rattle.trac_rules.specs.PlainRuns.{moved_on}
 use Rattle.trac_rules.specs.Records.{Texts, texts_in}
-use Rattle.trac_rules.specs.Scanning.{begun, comma_in, deleted, gather, gathered_in, protect}
+use Rattle.trac_rules.specs.Scanning.{deleted, gather, gathered_in, protect}
 use Rattle.trac_rules.specs.State.{Frame, State}
 use Rattle.trac_text.specs.declared.mark.Mark.{Mark}
 use Rattle.trac_text.specs.declared.calls.Beginning.{Beginning}

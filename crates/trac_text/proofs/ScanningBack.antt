@@ -14,12 +14,11 @@ use Rattle.trac_rules.specs.State.{Frame, State}
 use Rattle.trac_rules.proofs.Restored.{frame_of-last, moved_back-gather}
 use Rattle.trac_text.specs.declared.mark.Mark.{Mark}
 use Rattle.trac_text.specs.Framing.{marked_in}
-use Rattle.trac_text.specs.Holding.{AreSound, CanHold, CanHoldAgain, ShownTexts, alone, bytes_in, shown_texts, texts_held}
+use Rattle.trac_text.specs.Holding.{CanHold, CanHoldAgain, ShownTexts, alone, texts_held}
 use Rattle.trac_text.specs.MovingBack.{beginning_by, last_begun, with_last_before, without_protected}
-use Rattle.trac_text.specs.Neutral.{AreMarks, IsOrdered, Neutral, marked, neutral, neutral_of}
+use Rattle.trac_text.specs.Neutral.{AreMarks, IsOrdered, Neutral, marked, neutral}
 use Rattle.trac_text.proofs.Holding.{AreNow, Hold, byte_count, depth_now, held_as, held_now, holds_more, held_within, mark_count}
 use Rattle.trac_text.proofs.Neutral.{frames_counted, has_frames}
-use Rattle.trac_text.proofs.NeutralAgain.{Shows}
 
 some_then : {X : Type 0} (b : Bool) (x : X) → IsSome (then_some b x) → b ≡ true
 some_then true x h = refl
@@ -328,7 +327,7 @@ module _ {functions : ℕ} {text : Ends ℕ} {ms : Ends Mark} {m : ShownTexts} (
       let state = ap (λ (t : Texts). restored Begun (alone t)) (sym texts_are) ∙ rest.state in
       let one_less = unbegun_depth (texts_held text ms).frames (alone (texts_held text ms)) _ rest.state in
       let some : 1 ≤ functions = omega (arith, now.sound.depth, one_less) in
-      let back = back_now can state rest.ordered (omega (arith, now.sound.depth, one_less)) refl refl in
+      let back : IsBack (restored Begun (alone m.texts)) (functions - 1) (with_before bytes text) (without_last ms) m = back_now can state rest.ordered (omega (arith, now.sound.depth, one_less)) refl refl in
       record { begins = gone.begins; room = omega (arith, back.now.sound.text_room, length-append bytes text.right); some = some; back = back }
 
   pub undeletes : (b : ℕ) → CanHold m (record m.texts { active = b ∷ m.texts.active }) → {next : Ends ℕ} → next ≡ record text { right = b ∷ text.right } →

@@ -1,8 +1,7 @@
 -- Active text, base text and begun functions, as lists with two ends hold them, and what a contract sees of them.
-use Rattle.std.specs.Prelude.{◌≡◌, ℕ, ◌≤◌, ◌+◌, List, [], ◌∷◌, drop, length, Option, Some, None, IsSomeAnd, refl}
+use Rattle.std.specs.Prelude.{◌≡◌, ℕ, ◌≤◌, ◌+◌, List, [], ◌∷◌, drop, length, Option, IsSomeAnd, refl}
 use Rattle.std.specs.Coded.{Coded, code_by, coded×, coded_list, coded_ℕ}
 use Rattle.trac_gap.specs.Ends.{Ends, item_count}
-use Rattle.trac_rules.specs.declared.kind.Kind.{Kind}
 use Rattle.trac_rules.specs.declared.limit.TheConstants.{MARK_LIMIT, TEXT_LIMIT}
 use Rattle.trac_rules.specs.Codes.{frame_code, text_code}
 use Rattle.trac_rules.specs.Limits.{argument_bytes, marks}

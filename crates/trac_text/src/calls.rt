@@ -28,10 +28,12 @@ impl<E: TwoEnds<u8, A>, M: TwoEnds<Mark, A>, A: Allocator + Copy> Texts<E, M, A>
     pub fn end_function(&mut self, beginning: Beginning)
         requires closing { 0 < length self.old.texts.active }
         requires begins { BeginsInnermost self.old.texts beginning }
-        ensures { self.new ≡ record self.old { texts = record self.old.texts {
-          active = drop 1 self.old.texts.active;
-          frames = drop 1 self.old.texts.frames;
-        } } }
+        ensures { self.new ≡ record self.old {
+          texts = record self.old.texts {
+            active = drop 1 self.old.texts.active;
+            frames = drop 1 self.old.texts.frames;
+          };
+        } }
     {
         cut_function(&mut self.text, &mut self.marks, beginning);
         self.functions -= 1;

@@ -44,8 +44,7 @@ impl<E: TwoEnds<u8, A>, M: TwoEnds<Mark, A>, A: Allocator + Copy> Texts<E, M, A>
         ensures mark_room { IfOk result (λ t. mark_room ≤ t.mark_room) }
         ensures err { IsOkUnless result Refusal.Memory }
     {
-        let (text, marks) =
-            texts_and_marks(alloc, active, base, functions, text_room, mark_room)?;
+        let (text, marks) = texts_and_marks(alloc, active, base, functions, text_room, mark_room)?;
         Ok(Texts {
             text,
             marks,
