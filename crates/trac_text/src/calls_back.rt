@@ -18,8 +18,8 @@ use trac_rules::kind::Kind;
 
 impl<E: TwoEnds<u8, A>, M: TwoEnds<Mark, A>, A: Allocator + Copy> Texts<E, M, A> {
     /// Takes a value of n bytes off again, from the front of the active text if it was to be scanned, or else from the
-    /// end of the current text. Begins the function of this kind with these arguments again, and puts its `)` before the
-    /// active text. There has to be room for these. It takes no memory.
+    /// end of the current text. Begins the function of this kind with these arguments again, and puts its `)` before
+    /// the active text. There has to be room for these. It takes no memory.
     pub fn begin_again(&mut self, kind: Kind, arguments: &PiecesRef<'_>, scanned: bool, n: usize)
         requires { IsSomeAnd (option_and_then (begun_again kind (all_texts arguments.now))
             (value_taken scanned n self.old.texts)) (λ t. CanHold self.old t) }

@@ -22,8 +22,8 @@ use trac_rules::refusal::Refusal;
 
 impl<E: TwoEnds<u8, A>, M: TwoEnds<Mark, A>, A: Allocator + Copy> Texts<E, M, A> {
     /// Empties all texts, of which the active one has to be empty, and loads the idle program, as T-64 does when there
-    /// is nothing to scan. Returns copies of what went: the base text, and the begun functions. Refused with `Memory` if
-    /// the allocator refuses; then nothing changed.
+    /// is nothing to scan. Returns copies of what went: the base text, and the begun functions. Refused with `Memory`
+    /// if the allocator refuses; then nothing changed.
     pub fn reload(&mut self) -> Result<(Vec<u8, A>, Functions<A>), Refusal>
         requires { self.old.texts.active ≡ [] }
         ensures loaded { OnOk result
@@ -41,8 +41,8 @@ impl<E: TwoEnds<u8, A>, M: TwoEnds<Mark, A>, A: Allocator + Copy> Texts<E, M, A>
         Ok(kept)
     }
 
-    /// Puts a base text and begun functions in the place of all texts, the idle program too: the way back over `reload`.
-    /// There has to be room for these. It takes no memory.
+    /// Puts a base text and begun functions in the place of all texts, the idle program too: the way back over
+    /// `reload`. There has to be room for these. It takes no memory.
     pub fn unload(&mut self, base: &[u8], functions: Functions<A>)
         requires { CanHold self.old (record { active = []; base = base.now; frames = frames_in functions.items }) }
         ensures { self.new ≡ record self.old {
