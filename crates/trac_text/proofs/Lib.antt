@@ -11,3 +11,8 @@ pub mod NeutralAgain
 pub mod Framed
 pub mod TakenOut
 pub mod Lengths
+pub mod Beginnings
+pub mod Holding
+pub mod ScanningBack
+pub mod Loaded
+pub mod CallsBack

@@ -27,13 +27,13 @@ shows_base text = record { same = refl; ordered = tt }
 
 -- ---- one step
 
-shows_more : (text more : List ℕ) (ms : List Mark) (n : Neutral) → Shows text ms n → Shows (text ++ more) ms (longer more n)
+pub shows_more : (text more : List ℕ) (ms : List Mark) (n : Neutral) → Shows text ms n → Shows (text ++ more) ms (longer more n)
 shows_more text more ms n shown = record {
   same = neutral-append text more (reverse ms) shown.ordered ∙ ap (longer more) shown.same;
   ordered = AreMarks-longer (length text) (length (text ++ more)) (reverse ms) (omega (arith, length-append text more)) shown.ordered;
 }
 
-shows_mark : (text : List ℕ) (ms : List Mark) (n : Neutral) (place : ℕ) (o : Option Kind) → place ≡ length text → (o ≡ None → 0 < length ms) → Shows text ms n →
+pub shows_mark : (text : List ℕ) (ms : List Mark) (n : Neutral) (place : ℕ) (o : Option Kind) → place ≡ length text → (o ≡ None → 0 < length ms) → Shows text ms n →
     Shows text (ms ++ mark_at place o ∷ []) (marked o [] n)
 shows_mark text ms n place o at above shown = record {
   same = ap (λ (k : ℕ). neutral text (reverse (ms ++ mark_at k o ∷ []))) at ∙ neutral-push text ms o ∙ ap (marked o []) shown.same;

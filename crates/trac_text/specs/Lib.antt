@@ -7,4 +7,5 @@ pub mod Marks
 pub mod Moving
 pub mod MovingBack
 pub mod Framing
+pub mod Holding
 pub mod Pieces

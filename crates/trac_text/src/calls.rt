@@ -1,9 +1,12 @@
-//! What a call makes of the lists: the texts, and the marks.
-ghost use Rattle.std.specs.Prelude.{◌≡◌, ◌+◌, ◌≤◌, length, take, drop};
+//! What a call makes of the texts.
+ghost use Rattle.std.specs.Prelude.{◌≡◌, ◌+◌, ◌<◌, ◌≤◌, length, take, drop};
 ghost use Rattle.trac_gap.specs.Ends.{item_count};
+ghost use Rattle.trac_rules.specs.Performing.{placed};
+ghost use Rattle.trac_text.specs.Holding.{BeginsInnermost, CanHold, texts_by};
 ghost use Rattle.trac_text.specs.Moving.{with_value};
 
 use crate::mark::Mark;
+use crate::texts::Texts;
 use std::alloc::Allocator;
 use trac_gap::TwoEnds;
 use trac_rules::kind::Kind;
@@ -17,6 +20,33 @@ pub struct Beginning {
     pub place: usize,
     /// Its kind.
     pub kind: Kind,
+}
+
+impl<E: TwoEnds<u8, A>, M: TwoEnds<Mark, A>, A: Allocator + Copy> Texts<E, M, A> {
+    /// Deletes a `)`, the first byte of the active text, and the innermost function, which begins here, with its
+    /// arguments. It takes no memory.
+    pub fn end_function(&mut self, beginning: Beginning)
+        requires closing { 0 < length self.old.texts.active }
+        requires begins { BeginsInnermost self.old.texts beginning }
+        ensures { self.new ≡ record self.old {
+          texts = record self.old.texts {
+            active = drop 1 self.old.texts.active;
+            frames = drop 1 self.old.texts.frames;
+          };
+        } }
+    {
+        cut_function(&mut self.text, &mut self.marks, beginning);
+        self.functions -= 1;
+    }
+
+    /// Puts a value where it goes by T-64's rule. The value of a neutral function goes to the current text, if it is
+    /// not forced. Any other goes before the active text. There has to be room for it. It takes no memory.
+    pub fn put_value(&mut self, kind: Kind, forced: bool, value: &[u8])
+        requires { CanHold self.old (texts_by (placed kind forced value.now) self.old.texts) }
+        ensures { self.new ≡ record self.old { texts = texts_by (placed kind forced value.now) self.old.texts } }
+    {
+        put_value(&mut self.text, kind, forced, value);
+    }
 }
 
 /// Cuts off the function that begins here, at the end of the text on the left, with its marks, and its `)`, the first

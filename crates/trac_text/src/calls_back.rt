@@ -1,6 +1,8 @@
-//! The way back over a call, on the lists alone: the texts, and the marks.
-ghost use Rattle.std.specs.Prelude.{◌≡◌, ◌+◌, ◌≤◌, ◌++◌, length, map};
+//! The way back over a call.
+ghost use Rattle.std.specs.Prelude.{◌≡◌, ◌+◌, ◌≤◌, ◌++◌, length, map, option_and_then, IsSomeAnd, Some};
 ghost use Rattle.trac_gap.specs.Ends.{item_count};
+ghost use Rattle.trac_rules.specs.Records.{begun_again, value_taken};
+ghost use Rattle.trac_text.specs.Holding.{CanHold};
 ghost use Rattle.trac_text.specs.Pieces.{all_texts};
 ghost use Rattle.trac_text.specs.Marks.{function_marks};
 ghost use Rattle.trac_text.specs.MovingBack.{HasValue, before_call, without_value};
@@ -8,10 +10,27 @@ ghost use Rattle.trac_text.specs.MovingBack.{HasValue, before_call, without_valu
 use crate::emptying::put_function;
 use crate::mark::Mark;
 use crate::pieces::PiecesRef;
+use crate::texts::Texts;
 use std::alloc::Allocator;
 use trac_gap::TwoEnds;
 use trac_rules::byte::CLOSING;
 use trac_rules::kind::Kind;
+
+impl<E: TwoEnds<u8, A>, M: TwoEnds<Mark, A>, A: Allocator + Copy> Texts<E, M, A> {
+    /// Takes a value of n bytes off again, from the front of the active text if it was to be scanned, or else from the
+    /// end of the current text. Begins the function of this kind with these arguments again, and puts its `)` before
+    /// the active text. There has to be room for these. It takes no memory.
+    pub fn begin_again(&mut self, kind: Kind, arguments: &PiecesRef<'_>, scanned: bool, n: usize)
+        requires { IsSomeAnd (option_and_then (begun_again kind (all_texts arguments.now))
+            (value_taken scanned n self.old.texts)) (λ t. CanHold self.old t) }
+        ensures back { option_and_then (begun_again kind (all_texts arguments.now))
+            (value_taken scanned n self.old.texts) ≡ Some self.new.texts }
+        ensures rooms { self.new ≡ record self.old { texts = self.new.texts } }
+    {
+        put_call(&mut self.text, &mut self.marks, kind, arguments, scanned, n);
+        self.functions += 1;
+    }
+}
 
 /// Takes a value of n bytes off again, from where it went. Puts a `)` before the text on the right. Puts the function
 /// that this `)` ends, with its arguments, at the end of the text on the left. There has to be room for these. It takes

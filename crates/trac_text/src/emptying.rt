@@ -1,8 +1,11 @@
-//! What the idle step empties, taken out of the neutral text beforehand, and put back.
-ghost use Rattle.std.specs.Prelude.{◌≡◌, ◌+◌, ◌<◌, ◌≤◌, ◌^◌, ◌++◌, [], length, map, IfOk, IsOkUnless};
+//! The idle step, and the way back over it: what the step empties is taken out of the neutral text beforehand, and put
+//! back.
+ghost use Rattle.std.specs.Prelude.{◌≡◌, ◌+◌, ◌<◌, ◌≤◌, ◌^◌, ◌++◌, [], length, map, IfOk, IsOkUnless, OnErr, OnOk};
 ghost use Rattle.std.specs.List.{concat};
 ghost use Rattle.trac_gap.specs.Ends.{item_count};
+ghost use Rattle.trac_rules.specs.Bytes.{idle_program};
 ghost use Rattle.trac_rules.specs.Limits.{argument_bytes, marks as mark_count};
+ghost use Rattle.trac_text.specs.Holding.{CanHold};
 ghost use Rattle.trac_text.specs.Marks.{function_marks};
 ghost use Rattle.trac_text.specs.Neutral.{IsOrdered, neutral_of};
 ghost use Rattle.trac_text.specs.Pieces.{all_texts, frames_in};
@@ -11,10 +14,45 @@ use crate::ends::refill;
 use crate::frames::NeutralText;
 use crate::mark::Mark;
 use crate::pieces::{Functions, Pieces, PiecesRef};
+use crate::texts::{Texts, restart};
 use std::alloc::Allocator;
 use trac_gap::TwoEnds;
 use trac_rules::kind::Kind;
 use trac_rules::refusal::Refusal;
+
+impl<E: TwoEnds<u8, A>, M: TwoEnds<Mark, A>, A: Allocator + Copy> Texts<E, M, A> {
+    /// Empties all texts, of which the active one has to be empty, and loads the idle program, as T-64 does when there
+    /// is nothing to scan. Returns copies of what went: the base text, and the begun functions. Refused with `Memory`
+    /// if the allocator refuses; then nothing changed.
+    pub fn reload(&mut self) -> Result<(Vec<u8, A>, Functions<A>), Refusal>
+        requires { self.old.texts.active ≡ [] }
+        ensures loaded { OnOk result
+            (self.new.texts ≡ record { active = idle_program; base = []; frames = [] }) }
+        ensures base { IfOk result (λ kept. kept.0.items ≡ self.old.texts.base) }
+        ensures functions { IfOk result (λ kept. frames_in kept.1.items ≡ self.old.texts.frames) }
+        ensures text_room { self.old.text_room ≤ self.new.text_room }
+        ensures mark_room { self.new.mark_room ≡ self.old.mark_room }
+        ensures unchanged { OnErr result (self.new ≡ self.old) }
+        ensures err { IsOkUnless result Refusal.Memory }
+    {
+        let kept = kept_of(self.alloc, self.neutral())?;
+        restart(&mut self.text, &mut self.marks)?;
+        self.functions = 0;
+        Ok(kept)
+    }
+
+    /// Puts a base text and begun functions in the place of all texts, the idle program too: the way back over
+    /// `reload`. There has to be room for these. It takes no memory.
+    pub fn unload(&mut self, base: &[u8], functions: Functions<A>)
+        requires { CanHold self.old (record { active = []; base = base.now; frames = frames_in functions.items }) }
+        ensures { self.new ≡ record self.old {
+          texts = record { active = []; base = base.now; frames = frames_in functions.items };
+        } }
+    {
+        self.functions = functions.len();
+        put_functions(&mut self.text, &mut self.marks, base, functions);
+    }
+}
 
 /// Copies of the base text and all begun functions of a neutral text, whose arguments have fewer than 2^32 bytes
 /// together. Refused with `Memory` if the allocator refuses.

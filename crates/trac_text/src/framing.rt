@@ -7,11 +7,13 @@ ghost use Rattle.trac_rules.specs.declared.limit.TheConstants.{MARK_LIMIT, TEXT_
 ghost use Rattle.trac_rules.specs.Limits.{total_length};
 ghost use Rattle.trac_text.specs.Framing.{EachGathers, argument_count, frames_of, function_bytes, functions_of};
 ghost use Rattle.trac_text.specs.Framing.{marked_in, texts_of};
+ghost use Rattle.trac_text.specs.Holding.{CanHold};
 ghost use Rattle.trac_text.specs.Marks.{argument_marks};
 ghost use Rattle.trac_text.specs.Neutral.{IsOrdered, neutral_of};
 
 use crate::ends;
 use crate::mark::Mark;
+use crate::texts::Texts;
 use std::alloc::Allocator;
 use trac_gap::TwoEnds;
 use trac_rules::kind::Kind;
@@ -19,6 +21,38 @@ use trac_rules::refusal::Refusal;
 
 /// A begun function: its kind, and its arguments, of which the last is being gathered.
 type Function<A> = (Kind, Vec<Vec<u8, A>, A>);
+
+impl<E: TwoEnds<u8, A>, M: TwoEnds<Mark, A>, A: Allocator + Copy> Texts<E, M, A> {
+    /// This active text, this base text, and these begun functions, from the outermost on, with room for at least so
+    /// many bytes and marks. Each function has to have an argument, the one that is being gathered, and texts and marks
+    /// may not pass the limits. Refused with `Memory` if the allocator refuses.
+    pub fn load(
+        alloc: A,
+        active: &[u8],
+        base: &[u8],
+        functions: &[Function<A>],
+        text_room: usize,
+        mark_room: usize,
+    ) -> Result<Self, Refusal>
+        requires some { EachGathers functions.now }
+        requires text { length active.now + length base.now + function_bytes (functions_of functions.now)
+            ≤ TEXT_LIMIT }
+        requires marks { argument_count (functions_of functions.now) ≤ MARK_LIMIT }
+        ensures loaded { IfOk result (λ t. t.texts
+            ≡ record { active = active.now; base = base.now; frames = frames_of (functions_of functions.now) }) }
+        ensures text_room { IfOk result (λ t. text_room ≤ t.text_room) }
+        ensures mark_room { IfOk result (λ t. mark_room ≤ t.mark_room) }
+        ensures err { IsOkUnless result Refusal.Memory }
+    {
+        let (text, marks) = texts_and_marks(alloc, active, base, functions, text_room, mark_room)?;
+        Ok(Texts {
+            text,
+            marks,
+            functions: functions.len(),
+            alloc,
+        })
+    }
+}
 
 /// How many bytes active text, base text and the arguments of begun functions hold together; `usize::MAX` if there are
 /// more.

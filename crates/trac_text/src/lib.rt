@@ -24,5 +24,6 @@ pub use calls::Beginning;
 pub use frames::{Innermost, NeutralText};
 pub use mark::Mark;
 pub use pieces::{Functions, Pieces, PiecesRef};
+pub use texts::Texts;
 pub use trac_rules::kind::Kind;
 pub use trac_rules::refusal::Refusal;
