@@ -131,7 +131,8 @@ impl<'s, A: Allocator + Copy> Linter<'s, A> {
     // Goes on until the program ends, by so many steps at most, and tells the doubts that it meets.
     fn go(&mut self, steps: u64, report: &mut Report<A>) -> Halt {
         let aim = Aim::Doubtful(self.walker.width());
-        for _ in 0..u64::MAX {
+        // Each turn takes a step at least.
+        for _ in 0..steps {
             let left = steps.saturating_sub(self.walker.step());
             if let Some(refusal) = self.walker.forward_to(aim, left) {
                 return halt_of(refusal, self.walker.step());

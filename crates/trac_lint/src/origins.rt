@@ -1,4 +1,5 @@
 //! The byte of the files that a doubt is about.
+ghost use Rattle.std.specs.Prelude.{◌≡◌, ◌==◌, ◌-◌};
 
 use crate::scout::{Run, Scout};
 use crate::track::{Next, Track};
@@ -64,7 +65,9 @@ impl<'s, A: Allocator + Copy> Origins<'s, A> {
     }
 
     /// Whether so many steps were gone over that no place is found any more.
-    pub(crate) fn is_spent(&self) -> bool {
+    pub(crate) fn is_spent(&self) -> bool
+        ensures { result ≡ (self.now.left == 0) }
+    {
         self.left == 0
     }
 
@@ -109,18 +112,18 @@ impl<'s, A: Allocator + Copy> Origins<'s, A> {
     // The same from where a track goes on, by the scout.
     fn further(&mut self, next: Next, track: &mut Track<A>) -> Result<Option<u64>, Refusal> {
         let mut next = next;
-        for _ in 0..u64::MAX {
-            match next {
-                Next::Found(number) => return Ok(Some(number)),
-                Next::From(step) if !self.is_spent() => {
-                    let (onward, way) = scouted(&mut self.scout, &mut self.ways, step, track)?;
-                    self.spend(way);
-                    next = onward;
-                }
-                _ => break,
-            }
+        while !self.is_spent() {
+            let Next::From(step) = next else {
+                break;
+            };
+            let (onward, way) = scouted(&mut self.scout, &mut self.ways, step, track)?;
+            self.spend(way.max(LEAST_WAY));
+            next = onward;
         }
-        Ok(None)
+        match next {
+            Next::Found(number) => Ok(Some(number)),
+            Next::From(_) | Next::Lost => Ok(None),
+        }
     }
 
     // Keeps of all places on a track that this byte stands there.
@@ -132,7 +135,9 @@ impl<'s, A: Allocator + Copy> Origins<'s, A> {
     }
 
     /// Counts so many steps.
-    pub(crate) fn spend(&mut self, steps: u64) {
+    pub(crate) fn spend(&mut self, steps: u64)
+        ensures { self.new.left ≡ self.old.left - steps }
+    {
         self.left = self.left.saturating_sub(steps);
     }
 }
@@ -150,7 +155,7 @@ fn scouted<A: Allocator + Copy>(
         Some(walker) => {
             let next = track.go_back(walker, &sources, ways, u64::MAX)?;
             let back = step.saturating_sub(walker.step());
-            Ok((next, there.saturating_add(back).max(LEAST_WAY)))
+            Ok((next, there.saturating_add(back)))
         }
         None => Ok((Next::Lost, there)),
     }

@@ -65,7 +65,8 @@ impl<A: Allocator + Copy> Track<A> {
         ways: &mut Ways<A>,
         near: u64,
     ) -> Result<Next, AllocError> {
-        for _ in 0..u64::MAX {
+        // Each turn but the last goes back over a step at least of those that are kept.
+        for _ in 0..=walker.steps_back() {
             let step = walker.step();
             let since = self.since(step, ways)?;
             let post = self.post(since.from);

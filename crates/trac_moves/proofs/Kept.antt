@@ -1,13 +1,14 @@
 -- What a window shows of the output, as it is made, walked and cut.
-use Rattle.std.proofs.Common.{◌≡◌, ℕ, ◌+◌, ◌-◌, ◌^◌, false, List, [], ◌++◌, length, min, sym, ap, subst, ◌∙◌, arith}
+use Rattle.std.proofs.Common.{◌≡◌, ℕ, zero, suc, ◌+◌, ◌-◌, ◌^◌, false, List, [], ◌++◌, length, min, sym, ap, subst, ◌∙◌, arith}
 use Rattle.std.specs.Prelude.{Some}
 use Rattle.std.proofs.lemmas.List.{append-nil, length-append}
+use Rattle.std.proofs.lemmas.Option.{option_and_then_some}
 use Rattle.trac_rules.specs.declared.reply.Reply.TheVariants.{Done}
 use Rattle.trac_rules.specs.declared.width.Width.{Width}
-use Rattle.trac_rules.specs.Session.{PlainSession, Back, Commit, End, Feed, Step, answer, done, first_kept, new_session, repeated}
+use Rattle.trac_rules.specs.Session.{PlainSession, Back, Commit, End, Feed, Step, accepted_by, answer, done, first_kept, new_session, repeated}
 use Rattle.trac_rules.proofs.GoingOn.{after_repeated}
 use Rattle.trac_rules.proofs.Released.{length-committed}
-use Rattle.trac_rules.proofs.Replies.{Commit_done, End_done, Feed_done}
+use Rattle.trac_rules.proofs.Replies.{Commit_done, End_done, Feed_done, Step_done, accepted_done}
 use Rattle.trac_session.specs.Outputs.{HasReleased}
 use Rattle.trac_session.proofs.Released.{answered_released, back_released, commit_released, end_released, last_on_tape, new_released, stepped_released}
 use Rattle.trac_session.proofs.Returned.{back_count}
@@ -20,6 +21,18 @@ over_tape tape limit width p fed = record {
   steps_forgotten = omega arith;
   bytes_forgotten = omega arith;
 }
+
+-- each step adds a state to those before the last one
+pub step_count : (k : ℕ) (p q : PlainSession) → repeated Step k p ≡ Some q → length q.earlier ≡ length p.earlier + k
+step_count zero p q h = let same : p ≡ q = cc in omega (arith, ap (λ (s : PlainSession). length s.earlier) same)
+step_count (suc k) p q h =
+    option_and_then_some (λ (m : PlainSession). accepted_by (answer Step m)) (repeated Step k p) q h
+    (λ m there next.
+    omega (arith, step_count k p m there, ap (λ (s : PlainSession). length s.earlier) (Step_done m q (accepted_done (answer Step m) q next)).2))
+
+-- a commit keeps so many of these at most
+pub count_kept : (keep : ℕ) (p q : PlainSession) → answer (Commit keep) p ≡ done q → length q.earlier ≡ min keep (length p.earlier)
+count_kept keep p q h = ap (λ (r : PlainSession). length r.earlier) (Commit_done keep p q h) ∙ length-committed keep p
 
 -- steps forward and back
 pub forward : (n : ℕ) (input text : List ℕ) (steps forgotten released : ℕ) (p q : PlainSession) → IsWindow input steps text forgotten released p → repeated Step n p ≡ Some q →
@@ -56,7 +69,7 @@ pub kept : (keep forgotten released forgets releases : ℕ) (p q : PlainSession)
     forgets ≡ min (forgotten + (length p.earlier - keep)) (2 ^ 64 - 1) → releases ≡ min (released + length (first_kept keep p).output) (2 ^ 64 - 1) →
     IsWindow input steps (text ++ (first_kept keep p).output) forgets releases q
 kept keep forgotten released forgets releases p q input text steps w h forgot freed =
-    let left : length q.earlier ≡ min keep (length p.earlier) = ap (λ (r : PlainSession). length r.earlier) (Commit_done keep p q h) ∙ length-committed keep p in
+    let left = count_kept keep p q h in
     record {
       has = commit_released keep input text steps p q w.has h;
       steps_forgotten = omega (arith, w.steps_forgotten, w.has.counted, forgot, left);

@@ -1,6 +1,7 @@
 -- Where a window and a walker stand after what is done to them.
 use Rattle.std.proofs.Common.{◌≡◌, ℕ, zero, suc, ◌+◌, ◌-◌, ◌^◌, ◌<◌, ◌≤◌, List, [], ◌∷◌, ◌++◌, length, take, min, refl, sym, ap, subst, ◌∙◌, arith, ⊎_elim}
-use Rattle.std.specs.Prelude.{MatchOption, Option, None, Some, false, true}
+use Rattle.std.specs.Prelude.{◌&&◌, Bool, MatchOption, Option, None, Some, false, nat_lt, true}
+use Rattle.std.proofs.lemmas.Bool.{cases_lt}
 use Rattle.std.proofs.lemmas.Option.{option_and_then_some}
 use Rattle.trac_rules.specs.declared.refusal.Refusal.{Refusal}
 use Rattle.trac_rules.specs.declared.refusal.Refusal.TheVariants.{NotMet}
@@ -15,8 +16,10 @@ use Rattle.trac_rules.proofs.Steps.{step_onward}
 use Rattle.trac_rules.proofs.TakenAgain.{Back_done}
 use Rattle.trac_session.specs.declared.walk.Return as returns
 use Rattle.trac_session.specs.declared.walk.Return.{Return}
+use Rattle.trac_session.specs.Goals.{outcome}
 use Rattle.trac_session.specs.Outputs.{gone_back}
 use Rattle.trac_session.specs.Returns.{IsReturn}
+use Rattle.trac_session.specs.Within.{IsSearchWithin, IsWalkWithin}
 use Rattle.trac_session.proofs.Released.{last_on_tape}
 use Rattle.trac_session.proofs.Returned.{back_count}
 use Rattle.trac_sight.specs.declared.reach.Forgetting.{Forgetting}
@@ -56,6 +59,24 @@ walked_all command n steps why old new walk none = ⊎_elim
     (λ (all : steps ≡ n). all)
     (λ (met : (0 < steps) × (false ≡ true)). absurd (cc (met.1)))
     (subst (λ w. MatchOption w (HasEnded no_goal n steps new) (λ refusal. (steps < n) × (0 < steps → no_goal new.last ≡ false) × Answers command new (Refused refusal) new)) none walk.stopped)
+
+-- a walk that may take a step takes one, if no refusal ends it
+pub takes_some : (most : ℕ) (goal : Goal) (n : ℕ) (old : PlainSession) (steps : ℕ) (why : Option Refusal) (new : PlainSession) → IsWalkWithin most goal n old steps why new → why ≡ None → 0 < n → 0 < steps
+takes_some most goal n old steps why new within none some =
+    let any : 0 < within.allowed = ⊎_elim (λ (l : within.allowed < n). (within.heavy l).0) (λ (all : n ≤ within.allowed). omega (arith, all, some)) (cases_lt within.allowed n) in
+    ⊎_elim
+    (λ (all : steps ≡ within.allowed). omega (arith, all, any))
+    (λ (met : (0 < steps) × (goal new.last ≡ true)). met.0)
+    (subst (λ w. MatchOption w (HasEnded goal within.allowed steps new) (λ refusal. (steps < within.allowed) × (0 < steps → goal new.last ≡ false) × Answers Step new (Refused refusal) new)) none within.walk.stopped)
+
+-- so does one to a goal
+pub finds_some : (most : ℕ) (goal : Goal) (n : ℕ) (old : PlainSession) (steps : ℕ) (why : Option Refusal) (new : PlainSession) → IsSearchWithin most goal n old steps why new → why ≡ None → 0 < n → 0 < steps
+finds_some most goal n old steps why new search none =
+    takes_some most goal n old steps search.0 new search.1 (unended (nat_lt 0 steps && goal new.last) search.0 (sym none ∙ search.2))
+  where
+    unended : (met : Bool) (ended : Option Refusal) → None ≡ outcome met ended → ended ≡ None
+    unended met None is = refl
+    unended met (Some refusal) is = absurd (cc)
 
 module _ {A : Type 0} where
   -- ---- a window

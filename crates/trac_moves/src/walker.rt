@@ -1,5 +1,6 @@
 //! A walker: a session whose way back never stops a walk, and where it stands.
-ghost use Rattle.std.specs.Prelude.{◌≡◌, ◌≤◌, ◌++◌, ℕ, length, not, false, true, IfErr, IfOk, None, OnOk, Some};
+ghost use Rattle.std.specs.Prelude.{◌≡◌, ◌≤◌, ◌<◌, ◌⊎◌, ◌+◌, ◌++◌, ℕ, length, not, false, true, IfErr, IfOk, None, OnOk};
+ghost use Rattle.std.specs.Prelude.{Some};
 ghost use Rattle.trac_rules.specs.Session.{Step, repeated};
 ghost use Rattle.trac_rules.specs.State.{Tape};
 ghost use Rattle.trac_streams.specs.Escapes.{feed};
@@ -268,12 +269,10 @@ impl<A: Allocator + Copy> Walker<A> {
         ensures met { result ≡ None → MeetsAim aim.entry self.new.window.session.last }
     {
         let mut left = most;
-        for _turn in 0..u64::MAX {
-            if left == 0 {
-                break;
-            }
+        while left > 0 {
             self.make_room();
-            let most = self.room().min(left);
+            // There is room for a step now.
+            let most = self.room().max(1).min(left);
             let walk = walk_on(&mut self.window.session, aim, most, self.weight);
             if !self.goes_on(walk, aim.is_some()) {
                 return walk.why;
@@ -281,8 +280,8 @@ impl<A: Allocator + Copy> Walker<A> {
             left = left.saturating_sub(walk.done);
         }
         match aim {
-            None if left == 0 => None,
-            _ => Some(Refusal::NotMet),
+            None => None,
+            Some(_) => Some(Refusal::NotMet),
         }
     }
 
@@ -296,10 +295,14 @@ impl<A: Allocator + Copy> Walker<A> {
     fn goes_on(&mut self, walk: Walk, has_aim: bool) -> bool
         ensures moved { Moves (λ steps after. after ≡ steps) self.old self.new }
         ensures ended { walk.why ≡ None → (result ≡ not has_aim) × (self.new ≡ self.old) }
+
+        // If it goes on after a refusal, the walk took a step, or fewer steps are kept now.
+        ensures less { result ≡ true → (walk.why ≡ None) ⊎ (length self.new.window.session.earlier
+            < length self.old.window.session.earlier + walk.done) }
     {
         match walk.why {
             None => !has_aim,
-            Some(Refusal::NotMet) => has_aim,
+            Some(Refusal::NotMet) => has_aim && walk.done > 0,
             Some(Refusal::JournalFull) => walk.done > 0,
             Some(Refusal::TooLong) => self.make_output_room(),
             _ => false,
@@ -345,7 +348,8 @@ impl<A: Allocator + Copy> Walker<A> {
 
     // Forgets the older half of the steps that are kept, if there are enough.
     fn make_step_room(&mut self)
-        ensures { Moves (λ steps after. after ≡ steps) self.old self.new }
+        ensures moved { Moves (λ steps after. after ≡ steps) self.old self.new }
+        ensures kept { length self.new.window.session.earlier ≤ length self.old.window.session.earlier }
     {
         if self.window.session.len() < self.limit {
             return;
@@ -355,7 +359,8 @@ impl<A: Allocator + Copy> Walker<A> {
 
     // The same, and as often as their records weigh too much.
     fn make_room(&mut self)
-        ensures { Moves (λ steps after. after ≡ steps) self.old self.new }
+        ensures moved { Moves (λ steps after. after ≡ steps) self.old self.new }
+        ensures kept { length self.new.window.session.earlier ≤ length self.old.window.session.earlier }
     {
         self.make_step_room();
         for _turn in 0..usize::BITS {
@@ -369,7 +374,9 @@ impl<A: Allocator + Copy> Walker<A> {
     // Forgets the older half of the journal if that is why the next step is refused: what it prints has no room.
     // Whether it did; it may take several times, until the output of the steps that are left is short enough.
     fn make_output_room(&mut self) -> bool
-        ensures { Moves (λ steps after. after ≡ steps) self.old self.new }
+        ensures moved { Moves (λ steps after. after ≡ steps) self.old self.new }
+        ensures less { result ≡ true →
+            length self.new.window.session.earlier < length self.old.window.session.earlier }
     {
         let len = self.window.session.len();
         if len == 0 || !lacks_output_room(self.window.session.machine()) {
@@ -393,6 +400,7 @@ fn walk_on<A: Allocator + Copy>(
     weight: u64,
 ) -> Walk
     ensures within { result.done ≤ most }
+    ensures some { result.why ≡ None → 0 < most → 0 < result.done }
     ensures walked { repeated Step result.done session.old ≡ Some session.new }
     ensures met { result.why ≡ None → MeetsAim aim.entry session.new.last }
 {

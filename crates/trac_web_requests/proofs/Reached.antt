@@ -1,5 +1,5 @@
 -- A step that is reached, and rows that are put together.
-use Rattle.std.proofs.Common.{◌≡◌, ℕ, ◌+◌, ◌-◌, ◌<◌, ◌≤◌, List, [], ◌∷◌, ◌++◌, false, refl, ap, subst, ◌∙◌, arith, ⊎_elim}
+use Rattle.std.proofs.Common.{◌≡◌, ℕ, ◌+◌, ◌-◌, ◌/◌, ◌<◌, ◌≤◌, List, ◌++◌, false, length, ap, subst, ◌∙◌, arith, ⊎_elim}
 use Rattle.std.specs.Prelude.{Option, None, Some, MatchOption}
 use Rattle.std.proofs.lemmas.List.{append_assoc}
 use Rattle.trac_rules.specs.declared.refusal.Refusal.{Refusal}
@@ -8,7 +8,7 @@ use Rattle.trac_rules.specs.Session.{PlainSession, Answers, Commit, HasEnded, Is
 use Rattle.trac_run.specs.Runs.{TakesSteps}
 use Rattle.trac_run.proofs.Stepped.{steps_both, steps_commit, steps_many}
 use Rattle.trac_moves.specs.Windows.{IsWindow}
-use Rattle.trac_moves.proofs.Kept.{forward}
+use Rattle.trac_moves.proofs.Kept.{count_kept, forward, step_count}
 use Rattle.trac_web_requests.specs.Ways.{WindowGoes}
 
 -- a walk that no refusal ended took all its steps
@@ -35,6 +35,12 @@ module _ (steps left : ℕ) (why : Option Refusal) (start old new : PlainSession
         subst (λ n. TakesSteps n start after) count
             (steps_both ((steps - left) + k) 0 start new after (steps_both (steps - left) k start old new before (steps_many k old new walk.walked)) (steps_commit keep new after kept)),
       )
+
+-- after a walk, and after the older half of the steps are forgotten, fewer are left and kept together
+pub less_is_left : (left len k : ℕ) (why : Option Refusal) (old new after : PlainSession) → IsWalk Step no_goal left old k why new → len ≡ length new.earlier → 0 < len →
+    answer (Commit (len / 2)) new ≡ done after → (left - k) + length after.earlier < left + length old.earlier
+less_is_left left len k why old new after walk count some kept =
+    omega (arith, count_kept (len / 2) new after kept, count, some, step_count k old new walk.walked, walk.within)
 
 -- ---- what the window shows of the output
 

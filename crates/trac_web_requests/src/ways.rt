@@ -109,7 +109,7 @@ fn go<A: Allocator + Copy>(window: &mut Window<A>, steps: u64) -> Result<(), Out
     ensures none { IfErr result IsReason }
 {
     let mut left = steps;
-    for _turn in 0..u64::MAX {
+    loop {
         let walk = window.session.forward(left);
         left -= walk.done;
         let Some(refusal) = walk.why else {
@@ -123,7 +123,6 @@ fn go<A: Allocator + Copy>(window: &mut Window<A>, steps: u64) -> Result<(), Out
             _ => return Err(Outcome::NotReached),
         }
     }
-    Err(Outcome::NotReached)
 }
 
 // The rows of the way of what stands at a place before this step. The error is that memory was refused.
