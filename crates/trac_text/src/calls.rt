@@ -51,9 +51,9 @@ impl<E: TwoEnds<u8, A>, M: TwoEnds<Mark, A>, A: Allocator + Copy> Texts<E, M, A>
     }
 }
 
-/// Cuts off the function that begins here, at the end of the text on the left, with its marks, and its `)`, the first
-/// byte on the right. It takes no memory.
-pub fn cut_function<E: TwoEnds<u8, A>, M: TwoEnds<Mark, A>, A: Allocator + Copy>(
+// Cuts off the function that begins here, at the end of the text on the left, with its marks, and its `)`, the first
+// byte on the right. It takes no memory.
+fn cut_function<E: TwoEnds<u8, A>, M: TwoEnds<Mark, A>, A: Allocator + Copy>(
     text: &mut E,
     marks: &mut M,
     beginning: Beginning,
@@ -73,9 +73,9 @@ pub fn cut_function<E: TwoEnds<u8, A>, M: TwoEnds<Mark, A>, A: Allocator + Copy>
     marks.cut_left(marks.left().len() - beginning.number);
 }
 
-/// Puts a value where it goes by T-64's rule. The value of a neutral function goes at the end of the text on the left,
-/// if it is not forced. Any other goes before the text on the right. There has to be room for it. It takes no memory.
-pub fn put_value<E: TwoEnds<u8, A>, A: Allocator + Copy>(
+// Puts a value where it goes by T-64's rule. The value of a neutral function goes at the end of the text on the left,
+// if it is not forced. Any other goes before the text on the right. There has to be room for it. It takes no memory.
+fn put_value<E: TwoEnds<u8, A>, A: Allocator + Copy>(
     text: &mut E,
     kind: Kind,
     forced: bool,
