@@ -28,7 +28,7 @@ use Rattle.trac_journal.specs.Journaled.{IsLight}
 use Rattle.trac_journal.specs.Told.{FitsEntry, record_with, said_by}
 use Rattle.trac_step.specs.Calling.{IsMove, arguments_in}
 use Rattle.trac_step.specs.Kept.{FitsJournal, IsAdded, IsKept}
-use Rattle.trac_step.proofs.CallsUndone.{then_is}
+use Rattle.trac_text.proofs.ScanningBack.{then_is}
 use Rattle.trac_text.proofs.TakenOut.{sizes_of}
 use Rattle.trac_storage.proofs.Judged.{limits_kept}
 use Rattle.trac_step.proofs.Reading.{read_of_call}

@@ -1,21 +1,19 @@
--- Going back over the idle step: a machine may hold the base text and the functions that come back, and shows them.
-use Rattle.std.proofs.Common.{◌≡◌, ℕ, List, [], length, reverse, refl, sym, ap, ◌∙◌, subst, arith}
+-- Going back over the idle step: a machine may hold the base text and the functions that come back.
+use Rattle.std.proofs.Common.{◌≡◌, ℕ, List, [], refl, sym, ap, ◌∙◌, subst, arith}
 use Rattle.std.specs.Bool.{then_some}
 use Rattle.std.specs.Prelude.{Bool, true, false, IsSomeAnd, Some}
-use Rattle.trac_rules.specs.declared.width.Width.{Width}
-use Rattle.trac_gap.specs.Window.{Window}
-use Rattle.trac_gap.specs.Ends.{Ends}
-use Rattle.trac_forms.specs.Stored.{Stored}
-use Rattle.trac_rules.specs.Limits.{marks, text_bytes}
 use Rattle.trac_rules.specs.Proper.{IsProper}
 use Rattle.trac_rules.specs.Records.{Idle, is_idle, restored}
 use Rattle.trac_rules.specs.State.{Frame, State}
-use Rattle.trac_text.specs.declared.mark.Mark.{Mark}
-use Rattle.trac_text.specs.Neutral.{AreMarks, neutral}
-use Rattle.trac_step.specs.Layout.{IsSound, Parts, Shown, parts_of, shown_by, state_of}
-use Rattle.trac_step.specs.Room.{HasRoom}
-use Rattle.trac_step.proofs.Limited.{sound_if_proper}
-use Rattle.trac_step.proofs.Rules.{marks-parts, text_bytes-parts}
+use Rattle.trac_gap.specs.Window.{Window}
+use Rattle.trac_rules.specs.declared.width.Width.{Width}
+use Rattle.trac_rules.specs.Records.{Texts}
+use Rattle.trac_forms.specs.Stored.{Stored}
+use Rattle.trac_text.specs.Holding.{CanHold, ShownTexts}
+use Rattle.trac_storage.proofs.Judged.{limits_kept}
+use Rattle.trac_step.specs.Layout.{Shown, shown_by}
+use Rattle.trac_step.specs.Room.{HasRoom, IsNoLess}
+use Rattle.trac_step.proofs.Rooms.{no_less_state}
 
 -- a state with no active text, this base text and these frames
 abbrev pub before_idle : List ℕ → List Frame → State → State
@@ -39,20 +37,27 @@ can_leave base frames m h = by_test (is_idle m.state) refl
         record { state = ap (λ (b : Bool). then_some b before) is; room = there.0; proper = there.1 }
     by_test false is = absurd (subst (λ (b : Bool). IsSomeAnd (then_some b before) (λ s. HasRoom m s × IsProper s)) is h)
 
--- the parts with base text and functions put back, where these can be shown: they are sound, and show them
-module _ {width : Width} (old new : Ends ℕ) (ms ns : Ends Mark) (store : Stored) (meta : ℕ) (trace : Bool) (position : ℕ) (output : Window ℕ) (base : List ℕ) (frames : List Frame) (m : Shown) (view : shown_by width (parts_of old ms store meta trace position output) ≡ m) (right : new.right ≡ []) (text_room : new.capacity ≡ old.capacity) (mark_room : ns.capacity ≡ ms.capacity) (same : neutral new.left (reverse ns.left) ≡ record { base = base; frames = frames }) where
-  abbrev q : Parts
-  q = parts_of new ns store meta trace position output
+module _ {texts : ShownTexts} {store : Stored} {meta : ℕ} {trace : Bool} {position : ℕ} {output : Window ℕ} {width : Width} {m : Shown} (view : shown_by texts store meta trace position output width ≡ m)
+    {base : List ℕ} {frames : List Frame} (leave : CanLeave base frames m) where
+  abbrev there : Texts
+  there = record { active = []; base = base; frames = frames }
 
-  pub back_shows : shown_by width q ≡ record m { state = before_idle base frames m.state }
-  back_shows =
-      (λ i. record (shown_by width q) { state = record (state_of q) { active = right i; base = (same i).base; frames = (same i).frames }; text_room = text_room i; mark_room = mark_room i })
-      ∙ ap (λ (n : Shown). record n { state = before_idle base frames n.state }) view
+  pub can_hold_idle : CanHold texts there
+  can_hold_idle =
+      let kept = limits_kept (before_idle base frames m.state) leave.proper.texts in
+      record {
+        text_room = omega (arith, leave.room.text, ap (λ (n : Shown). n.text_room) view);
+        mark_room = omega (arith, leave.room.marks, ap (λ (n : Shown). n.mark_room) view);
+        text_limit = kept.text;
+        mark_limit = kept.marked;
+      }
 
-  pub back_sound : IsSound (parts_of old ms store meta trace position output) → AreMarks (length new.left) (reverse ns.left) → CanLeave base frames m → IsSound q
-  back_sound sound ordered back =
-      let shows : state_of q ≡ before_idle base frames m.state = ap (λ (n : Shown). n.state) back_shows in
-      sound_if_proper q ordered
-      (omega (arith, text_bytes-parts q ordered, ap text_bytes shows, back.room.text, ap (λ (n : Shown). n.text_room) back_shows))
-      (omega (arith, marks-parts q ordered, ap (λ (s : State). marks s.frames) shows, back.room.marks, ap (λ (n : Shown). n.mark_room) back_shows))
-      (subst IsProper (sym shows) back.proper)
+  -- the state before is shown again, in the same room
+  pub goes_back_idle : (new : ShownTexts) → new ≡ record texts { texts = there } →
+      (restored (Idle base frames) m.state ≡ Some (shown_by new store meta trace position output width).state) × IsNoLess m (shown_by new store meta trace position output width)
+  goes_back_idle new is =
+      let shown : shown_by new store meta trace position output width ≡ record m { state = before_idle base frames m.state } =
+      ap (λ (x : ShownTexts). shown_by x store meta trace position output width) is ∙ ap (λ (n : Shown). record n { state = before_idle base frames n.state }) view in (
+        leave.state ∙ ap (λ (n : Shown). Some n.state) (sym shown),
+        subst (λ (n : Shown). IsNoLess m n) (sym shown) (no_less_state m (before_idle base frames m.state)),
+      )

@@ -1,8 +1,7 @@
-pub mod Rules
 pub mod Limited
+pub mod Lifting
 pub mod Rooms
 pub mod Scans
-pub mod Changes
 pub mod Moving
 pub mod Outcomes
 pub mod Calls
@@ -20,7 +19,6 @@ pub mod Fitting
 pub mod Stepped
 pub mod ScanningBack
 pub mod CallsUndone
-pub mod Counted
 pub mod GoneBack
 pub mod IdleBack
 pub mod LoadedMachines

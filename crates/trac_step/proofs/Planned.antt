@@ -1,6 +1,7 @@
 -- What has to be known of a call before it is planned.
-use Rattle.std.proofs.Common.{◌≡◌, ℕ, ◌+◌, ◌-◌, ◌≤◌, List, [], ◌∷◌, length, sym, ap, ◌∙◌, subst, arith}
+use Rattle.std.proofs.Common.{◌≡◌, ℕ, ◌+◌, ◌-◌, ◌≤◌, List, [], ◌∷◌, length, sym, ap, ◌∙◌, subst, arith, Bool}
 use Rattle.std.proofs.lemmas.List.{length-append, length-drop}
+use Rattle.trac_gap.specs.Window.{Window}
 use Rattle.trac_rules.specs.declared.kind.Kind.{Kind}
 use Rattle.trac_rules.specs.declared.limit.TheConstants.{MARK_LIMIT, TEXT_LIMIT}
 use Rattle.trac_rules.specs.declared.width.Width.{Width}
@@ -12,14 +13,11 @@ use Rattle.trac_prims.specs.declared.effect.Now.{Now}
 use Rattle.trac_prims.specs.Plans.{IsGiven}
 use Rattle.trac_text.specs.Frames.{IsInnermost, all_arguments}
 use Rattle.trac_text.specs.Neutral.{MarkedText, Neutral, cut_back, neutral_of}
-use Rattle.trac_step.specs.Layout.{Parts, state_of}
-use Rattle.trac_step.proofs.Beginnings.{bytes_before}
+use Rattle.trac_text.specs.Holding.{ShownTexts}
+use Rattle.trac_text.proofs.Beginnings.{bytes_before}
+use Rattle.trac_step.specs.Layout.{Shown, shown_by}
 use Rattle.trac_step.proofs.Calls.{call_of}
 use Rattle.trac_storage.proofs.Judged.{limits_kept}
-
--- what is passed on of a machine with these parts
-abbrev pub now_of : Width → Parts → ℕ → ℕ → Now
-now_of width p output text = record { meta = p.meta; trace = p.trace; position = p.position; output = output; text = text; width = width }
 
 module _ (s : State) (m : MarkedText) (number place : ℕ) (kind : Kind) (texts : List (List ℕ)) (proper : IsProper s) (same : neutral_of m ≡ record { base = s.base; frames = s.frames })
     (inner : IsInnermost m number place kind texts) where
@@ -67,11 +65,13 @@ module _ (s : State) (m : MarkedText) (number place : ℕ) (kind : Kind) (texts 
     };
   }
 
-  -- from the parts of a machine that shows the state, the length of its output and its active text
-  pub given_here : (width : Width) (p : Parts) (store : Stored) (output : ℕ) (active : List ℕ) → storage_of (state_of p) ≡ storage_in store → state_of p ≡ s → output ≡ length p.output → active ≡ p.active →
-      IsGiven (call_of s inner.frame outer) kind texts store (now_of width p output (length active - 1 + place))
-  given_here width p store output active storage_is state_is output_is active_is =
-      given_call store (now_of width p output (length active - 1 + place))
-      (ap (λ (t : State). storage_of t) (sym state_is) ∙ storage_is) (ap (λ (t : State). t.meta) (sym state_is)) (ap (λ (t : State). t.trace) (sym state_is)) (ap (λ (t : State). t.position) (sym state_is))
-      (ap (λ (t : State). length t.output) (sym state_is) ∙ sym output_is)
-      (ap (λ (t : State). length t.active - 1 + place) (sym state_is) ∙ ap (λ (xs : List ℕ). length xs - 1 + place) (sym active_is))
+  -- from what is seen of a machine, the length of its output and its active text
+  pub given_here : {given : ShownTexts} {store : Stored} {meta : ℕ} {trace : Bool} {position : ℕ} {printed : Window ℕ} {width : Width} {shown : Shown} → shown_by given store meta trace position printed width ≡ shown →
+      shown.state ≡ s → (output : ℕ) (active : List ℕ) → output ≡ length printed.items → active ≡ given.texts.active →
+      IsGiven (call_of s inner.frame outer) kind texts store (record { meta = meta; trace = trace; position = position; output = output; text = length active - 1 + place; width = width })
+  given_here view state_is output active output_is active_is =
+      let there = ap (λ (n : Shown). n.state) view ∙ state_is in
+      given_call _ _
+      (ap (λ (t : State). storage_of t) (sym there)) (ap (λ (t : State). t.meta) (sym there)) (ap (λ (t : State). t.trace) (sym there)) (ap (λ (t : State). t.position) (sym there))
+      (ap (λ (t : State). length t.output) (sym there) ∙ sym output_is)
+      (ap (λ (t : State). length t.active - 1 + place) (sym there) ∙ ap (λ (xs : List ℕ). length xs - 1 + place) (sym active_is))

@@ -1,19 +1,14 @@
 -- The room of a machine, which holds its own state.
-use Rattle.std.proofs.Common.{◌≡◌, ℕ, ◌+◌, ◌≤◌, List, [], ◌∷◌, length, take, drop, refl, sym, ap, ◌∙◌, subst, arith}
+use Rattle.std.proofs.Common.{◌≡◌, ℕ, ◌+◌, ◌≤◌, List, [], ◌∷◌, length, take, drop, refl, sym, ap, ◌∙◌, arith}
 use Rattle.std.proofs.lemmas.List.{length-append, take-append-drop}
 use Rattle.std.proofs.lemmas.Result.{on_ok_weaker}
 use Rattle.std.specs.Prelude.{OnOk, Result}
 use Rattle.trac_rules.specs.declared.refusal.Refusal.{Refusal}
-use Rattle.trac_rules.specs.declared.width.Width.{Width}
-use Rattle.trac_forms.specs.Stored.{KnowsAll}
-use Rattle.trac_rules.specs.Limits.{marks}
 use Rattle.trac_rules.specs.PlainRuns.{moved_on}
 use Rattle.trac_rules.specs.Scanning.{gathered_in}
 use Rattle.trac_rules.specs.State.{Frame, State}
-use Rattle.trac_step.specs.Layout.{Parts, IsSound, Shown, shown_by}
-use Rattle.trac_storage.specs.Changing.{AreAmong}
+use Rattle.trac_step.specs.Layout.{Shown}
 use Rattle.trac_step.specs.Room.{HasRoom, IsNoLess}
-use Rattle.trac_step.proofs.Rules.{text_bytes-parts, marks-parts}
 
 -- ---- no less room
 
@@ -56,19 +51,3 @@ HasRoom-moved_on m s n within room = by_frames s.frames room
     by_frames : (fs : List Frame) → HasRoom m (record s { frames = fs }) → HasRoom m (gathered_in fs (take n s.active) (record s { active = drop n s.active; frames = fs }))
     by_frames [] r = record { text = omega (arith, r.text, kept, length-append s.base (take n s.active)); marks = r.marks; output = r.output; names = r.names }
     by_frames (f ∷ fs) r = record { text = omega (arith, r.text, kept, length-append f.gathered (take n s.active)); marks = r.marks; output = r.output; names = r.names }
-
--- ---- the room of parts
-
--- a machine has room for its own state
-pub HasRoom-parts : {width : Width} (p : Parts) (m : Shown) → IsSound p → shown_by width p ≡ m → length p.output ≤ p.output_room → KnowsAll p.known p.storage.forms → HasRoom m m.state
-HasRoom-parts {width} p m sound view output names = subst (λ (n : Shown). HasRoom n n.state) view (record {
-  text = omega (arith, text_bytes-parts p sound.ordered, sound.text_room);
-  marks = omega (arith, marks-parts p sound.ordered, sound.mark_room);
-  output = output;
-  names = names;
-})
-
--- parts with no less room than those of a machine
-pub IsNoLess-parts : {width : Width} (p q : Parts) (m : Shown) → shown_by width p ≡ m → p.text_room ≤ q.text_room → p.mark_room ≤ q.mark_room → p.output_room ≤ q.output_room → AreAmong p.known q.known → AreAmong p.recent q.recent →
-    IsNoLess m (shown_by width q)
-IsNoLess-parts {width} p q m view text marks output names recent = subst (λ (n : Shown). IsNoLess n (shown_by width q)) view (record { width = refl; text = text; marks = marks; output = output; names = names; recent = recent })

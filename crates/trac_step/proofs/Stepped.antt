@@ -1,5 +1,5 @@
 -- A step whose record is kept, from the rule that is carried out.
-use Rattle.std.proofs.Common.{◌≡◌, ℕ, ◌+◌, ◌<◌, ◌≤◌, List, [], ◌∷◌, get_or, length, ◌⊎◌, inl, inr, refl, sym, ap, ◌∙◌, subst, arith, true, false}
+use Rattle.std.proofs.Common.{◌≡◌, ℕ, ◌<◌, ◌≤◌, List, [], ◌∷◌, get_or, length, ◌⊎◌, inl, inr, refl, sym, ap, ◌∙◌, subst, arith, true, false}
 use Rattle.std.proofs.lemmas.Result.{err_from_is_err_and}
 use Rattle.std.specs.Result.{IsErrAnd}
 use Rattle.std.specs.Prelude.{Result, Ok, Err, Option, None, Some}
@@ -22,9 +22,9 @@ use Rattle.trac_step.specs.Layout.{Shown}
 use Rattle.trac_step.specs.Record.{IsTaken, recorded_by}
 use Rattle.trac_step.specs.declared.record.Record as alone
 use Rattle.trac_step.specs.Room.{IsNoLess, LacksRoomAhead}
-use Rattle.trac_step.proofs.Moving.{of_moves}
+use Rattle.trac_step.proofs.Moving.{of_moves, one_mark_more}
 use Rattle.trac_step.proofs.Outcomes.{move_beyond, move_lacks, move_taken}
-use Rattle.trac_step.proofs.Recorded.{argument_marks, move_recorded, recorded_front}
+use Rattle.trac_step.proofs.Recorded.{move_recorded, recorded_front}
 use Rattle.trac_step.proofs.Rooms.{no_less, no_less_state}
 use Rattle.trac_step.proofs.Scans.{scan_front}
 
@@ -80,11 +80,6 @@ gathered x m n old new places at which front self_is added = elim which [
         (added ∙ ap (λ (r : Record). r ∷ old) (sym (recorded_front m.state f is ∙ records)))
 
 -- ---- marks
-
--- a further mark is one more
-pub one_mark_more : (frame : Option Kind) (n : ℕ) (s : State) → (frame ≡ None → 0 < length s.frames) → marks (with_mark frame (deleted n s)).frames ≡ marks s.frames + 1
-one_mark_more (Some kind) n s inside = omega arith
-one_mark_more None n s inside = argument_marks s.frames (deleted n s) (inside refl)
 
 -- where it is within the limits, there was room for it
 pub room_for_mark : (frame : Option Kind) (n : ℕ) (s : State) → (frame ≡ None → 0 < length s.frames) → scan s ≡ Moves (with_mark frame (deleted n s)) →

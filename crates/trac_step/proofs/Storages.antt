@@ -1,7 +1,6 @@
 -- Machines of which forms and blocks alone are changed, and the call at which they stand.
-use Rattle.std.proofs.Common.{◌≡◌, ℕ, List, [], ◌∷◌, refl, sym, ap, ◌∙◌, subst, Bool}
+use Rattle.std.proofs.Common.{◌≡◌, ℕ, List, [], ◌∷◌, refl, sym, ap, ◌∙◌, subst, arith, Bool}
 use Rattle.std.specs.Prelude.{Option, None, Some, IsSomeAnd, Result, Ok, Err, OnOk, OnErr}
-use Rattle.trac_gap.specs.Ends.{Ends}
 use Rattle.trac_gap.specs.Window.{Window}
 use Rattle.trac_rules.specs.declared.refusal.Refusal.{Refusal}
 use Rattle.trac_rules.specs.declared.scan.Front.TheVariants.{Closing}
@@ -14,43 +13,33 @@ use Rattle.trac_rules.proofs.ProperStates.{storage-placed}
 use Rattle.trac_forms.specs.Stored.{KnowsAll, Names, Stored, storage_in}
 use Rattle.trac_change.specs.declared.change.UnnamedChange.{UnnamedChange}
 use Rattle.trac_prims.specs.declared.effect.Made.{Made}
-use Rattle.trac_text.specs.declared.mark.Mark.{Mark}
 use Rattle.trac_change.specs.Changed.{changed}
 use Rattle.trac_text.specs.declared.calls.Beginning.{Beginning}
 use Rattle.trac_step.specs.declared.calling.Plan.{Plan}
-use Rattle.trac_step.specs.Calling.{BeginsFirst, BeginsInnermost, arguments_in, effect_with, state_after, state_ended, with_storage}
-use Rattle.trac_step.specs.Layout.{Parts, IsSound, Shown, parts_of, shown_by, state_of}
+use Rattle.trac_text.specs.Holding.{BeginsFirst, ShownTexts}
+use Rattle.trac_storage.specs.Changing.{AreAmong}
+use Rattle.trac_step.specs.Calling.{BeginsInnermost, arguments_in, effect_with, state_after, state_ended, with_storage}
+use Rattle.trac_step.specs.Layout.{Shown, shown_by}
+use Rattle.trac_step.specs.Room.{IsNoLess}
 use Rattle.trac_storage.specs.Returning.{KnowsBefore}
 use Rattle.trac_step.proofs.Scans.{scan_front}
 
--- ---- the parts of a machine
+-- ---- what is seen of a machine
 
--- they show the same but for forms and blocks, and what can be put without more memory
-pub changed_shows : {width : Width} (text : Ends ℕ) (ms : Ends Mark) (store after : Stored) (meta : ℕ) (trace : Bool) (position : ℕ) (output : Window ℕ) (m : Shown) →
-    shown_by width (parts_of text ms store meta trace position output) ≡ m →
-    shown_by width (parts_of text ms after meta trace position output) ≡ record m { state = with_storage (storage_in after) m.state; known = after.known; recent = after.recent; spare = after.spare }
-changed_shows text ms store after meta trace position output m view =
-    ap (λ (n : Shown). let other : Shown = record n { state = with_storage (storage_in after) n.state; known = after.known; recent = after.recent; spare = after.spare } in other) view
+module _ {texts : ShownTexts} {store : Stored} {meta : ℕ} {trace : Bool} {position : ℕ} {output : Window ℕ} {width : Width} {m : Shown} (view : shown_by texts store meta trace position output width ≡ m) (after : Stored) where
+  -- the same but for forms and blocks, and what can be put without more memory
+  pub changed_shows : shown_by texts after meta trace position output width ≡ record m { state = with_storage (storage_in after) m.state; known = after.known; recent = after.recent; spare = after.spare }
+  changed_shows = ap (λ (n : Shown). let other : Shown = record n { state = with_storage (storage_in after) n.state; known = after.known; recent = after.recent; spare = after.spare } in other) view
 
--- they show the same but for forms and blocks
-pub stored_shows : {width : Width} (text : Ends ℕ) (ms : Ends Mark) (store after : Stored) (meta : ℕ) (trace : Bool) (position : ℕ) (output : Window ℕ) (m : Shown) (storage : Storage) →
-    shown_by width (parts_of text ms store meta trace position output) ≡ m → storage_in after ≡ storage → after.known ≡ store.known →
-    shown_by width (parts_of text ms after meta trace position output) ≡ record m { state = with_storage storage m.state; recent = after.recent; spare = after.spare }
-stored_shows {width} text ms store after meta trace position output m storage view is known =
-    (λ i. record (shown_by width (parts_of text ms after meta trace position output)) { state = with_storage (is i) (state_of (parts_of text ms store meta trace position output)); known = known i })
-    ∙ ap (λ (n : Shown). let other : Shown = record n { state = with_storage storage n.state; recent = after.recent; spare = after.spare } in other) view
+  -- the same names are known
+  pub stored_shows : after.known ≡ store.known → shown_by texts after meta trace position output width ≡ record m { state = with_storage (storage_in after) m.state; recent = after.recent; spare = after.spare }
+  stored_shows known =
+      (λ i. record (shown_by texts after meta trace position output width) { known = known i })
+      ∙ ap (λ (n : Shown). let other : Shown = record n { state = with_storage (storage_in after) n.state; recent = after.recent; spare = after.spare } in other) view
 
--- and are sound, where these are proper
-pub stored_sound : (p : Parts) (storage : Storage) (known recent : Names) (spare : ℕ) → IsSound p → IsProperStorage storage → IsSound (record p { storage = storage; known = known; recent = recent; spare = spare })
-stored_sound p storage known recent spare sound proper = record {
-  ordered = sound.ordered;
-  text_limit = sound.text_limit;
-  mark_limit = sound.mark_limit;
-  output_limit = sound.output_limit;
-  text_room = sound.text_room;
-  mark_room = sound.mark_room;
-  storage = proper;
-}
+  pub no_less_store : AreAmong store.known after.known → AreAmong store.recent after.recent → IsNoLess m (shown_by texts after meta trace position output width)
+  no_less_store names recent = subst (λ (n : Shown). IsNoLess n (shown_by texts after meta trace position output width)) view
+      (record { width = refl; text = omega arith; marks = omega arith; output = omega arith; names = names; recent = recent })
 
 -- ---- forms and blocks are changed, or are refused to
 

@@ -1,17 +1,15 @@
 -- The parts of a step: where scanning moves on, and what a call whose effect is known leads to.
-use Rattle.std.specs.Prelude.{◌≡◌, ℕ, ◌+◌, ◌≤◌, List, [], ◌∷◌, drop, length, Option, Some, None}
+use Rattle.std.specs.Prelude.{ℕ, ◌+◌, ◌≤◌, List, [], length, Option, Some, None}
 use Rattle.trac_rules.specs.declared.kind.Kind.{Kind}
-use Rattle.trac_rules.specs.State.{Frame, State, Storage, storage_of}
+use Rattle.trac_rules.specs.State.{State, Storage, storage_of}
 use Rattle.trac_rules.specs.Effect.{Effect}
-use Rattle.trac_rules.specs.Limits.{argument_bytes, marks, text_bytes}
+use Rattle.trac_rules.specs.Limits.{text_bytes}
 use Rattle.trac_rules.specs.Performing.{after_call}
 use Rattle.trac_rules.specs.Scanning.{Scanned, Moves, Calls, begun, comma_in}
 use Rattle.trac_change.specs.declared.change.UnnamedChange.{UnnamedChange}
 use Rattle.trac_prims.specs.declared.effect.Made.{Made}
-use Rattle.trac_text.specs.Cuts.{AreCuts, cut}
 use Rattle.trac_change.specs.Changed.{changed}
-use Rattle.trac_text.specs.Frames.{IsInnermost}
-use Rattle.trac_text.specs.Neutral.{MarkedText}
+use Rattle.trac_text.specs.Holding.{BeginsFirst}
 use Rattle.trac_text.specs.declared.calls.Beginning.{Beginning}
 use Rattle.trac_step.specs.declared.calling.Plan.{Plan}
 use Rattle.trac_step.specs.Layout.{Shown}
@@ -71,19 +69,9 @@ abbrev pub state_ended : {A : Type 0} → Plan → Made A → Scanned → State
 state_ended plan made (Moves t) = t
 state_ended plan made (Calls call) = after_call call (effect_with plan made (storage_of call.state))
 
--- the first of the frames, the innermost function, begins here: the base text and the other frames stand before it
-abbrev pub BeginsFirst : List Frame → List ℕ → Beginning → Type 0
-BeginsFirst [] base b = ⊥
-BeginsFirst (f ∷ fs) base b = (b.kind ≡ f.kind) × (b.number ≡ marks fs) × (b.place ≡ length base + argument_bytes fs)
-
 -- the innermost function of a state begins here
 abbrev pub BeginsInnermost : State → Beginning → Type 0
 BeginsInnermost s b = BeginsFirst s.frames s.base b
-
--- a function begins here, the innermost of a text with its marks, and its arguments are cut from there on
-pub record IsBegun (m : MarkedText) (b : Beginning) : Type 0 where
-  pub cuts : AreCuts b.place (drop (b.number + 1) m.marks) (length m.text)
-  pub innermost : IsInnermost m b.number b.place b.kind (cut b.place (drop (b.number + 1) m.marks) m.text)
 
 -- a machine needs no more memory for the texts that a call makes
 pub record HasRoomFor {A : Type 0} (made : Made A) (m : Shown) : Type 0 where

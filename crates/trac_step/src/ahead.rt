@@ -6,7 +6,6 @@ use crate::engine::Core;
 use std::alloc::Allocator;
 use trac_gap::TwoEnds;
 use trac_rules::scan::Front;
-use trac_text::front::front_at;
 use trac_text::{Args, Kind, Mark};
 
 impl<E: TwoEnds<u8, A>, M: TwoEnds<Mark, A>, A: Allocator + Copy> Core<E, M, A> {
@@ -16,10 +15,10 @@ impl<E: TwoEnds<u8, A>, M: TwoEnds<Mark, A>, A: Allocator + Copy> Core<E, M, A> 
         ensures { MatchOption result (next_call self.now.state ≡ None)
             (λ r. IsCall (next_call self.now.state) r.0 r.1) }
     {
-        if front_at(self.active()) != Front::Closing {
+        if self.texts.front() != Front::Closing {
             return None;
         }
-        let function = self.neutral().innermost()?;
+        let function = self.texts.neutral().innermost()?;
         Some((function.kind, function.arguments))
     }
 }

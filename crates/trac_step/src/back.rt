@@ -19,11 +19,11 @@ impl<E: TwoEnds<u8, A>, M: TwoEnds<Mark, A>, A: Allocator + Copy> Core<E, M, A> 
         ensures room { IsNoLess self.old self.new }
     {
         match short {
-            Short::Moved => self.move_back(1),
-            Short::Comma => self.gather_again(),
-            Short::Begun => self.take_beginning_back(),
-            Short::Quoted { inner, closed } => self.unprotect(inner, closed),
-            Short::Deleted(byte) => self.undelete(byte),
+            Short::Moved => self.texts.move_back(1),
+            Short::Comma => self.texts.gather_again(),
+            Short::Begun => self.texts.take_beginning_back(),
+            Short::Quoted { inner, closed } => self.texts.unprotect(inner, closed),
+            Short::Deleted(byte) => self.texts.undelete(byte),
         }
     }
 
@@ -67,7 +67,7 @@ impl<E: TwoEnds<u8, A>, M: TwoEnds<Mark, A>, A: Allocator + Copy> Core<E, M, A> 
         }
         if let Some(emptied) = keeper.pop_idle() {
             let frames = emptied.frames;
-            self.unload(emptied.base.as_slice(), frames);
+            self.texts.unload(emptied.base.as_slice(), frames);
             return true;
         }
         false

@@ -1,17 +1,17 @@
 //! The steps that perform a function.
-ghost use Rattle.std.specs.Prelude.{◌≡◌, ◌<◌, ◌≤◌, ◌+◌, ◌-◌, ◌++◌, ◌∷◌, length, drop, option_map, IfErr};
+ghost use Rattle.std.specs.Prelude.{◌≡◌, ◌<◌, ◌≤◌, ◌+◌, ◌++◌, ◌∷◌, length, option_map, IfErr};
 ghost use Rattle.std.specs.Prelude.{IfOk, IsOkUnless, OnErr, OnOk, Ok};
 ghost use Rattle.trac_rules.specs.Outcomes.{MayRefuse};
 ghost use Rattle.trac_rules.specs.Records as rules;
 ghost use Rattle.trac_rules.specs.Records.{is_scanned};
 ghost use Rattle.trac_rules.specs.Scanning.{front_of, scan};
 ghost use Rattle.trac_rules.specs.Stepping.{step};
-ghost use Rattle.trac_text.specs.Cuts.{cut};
+ghost use Rattle.trac_rules.specs.Proper.{IsProper};
 ghost use Rattle.trac_change.specs.declared.change.UnnamedChange.TheVariants.{Keep};
 ghost use Rattle.trac_prims.specs.Tape.{environment_of};
 ghost use Rattle.trac_journal.specs.Told.{record_with};
 ghost use Rattle.trac_change.specs.Undone.{undone_in};
-ghost use Rattle.trac_step.specs.Calling.{BeginsInnermost, HasRoomFor, IsBegun, arguments_in, state_after, state_ended};
+ghost use Rattle.trac_step.specs.Calling.{BeginsInnermost, HasRoomFor, arguments_in, state_after, state_ended};
 ghost use Rattle.trac_step.specs.Calling.{with_change};
 ghost use Rattle.trac_step.specs.Kept.{CanStep, FitsJournal, HasRoomForCall, IsKeptAs, IsStepped};
 ghost use Rattle.trac_step.specs.Ready.{CanChange, CanEnd, IsFound, IsReady, recorded_after, undone_after};
@@ -24,8 +24,7 @@ use trac_journal::{Called, Keeper, Undone};
 use trac_prims::{Deed, Made, Now, Tape, UnnamedChange, plan_into};
 use trac_rules::scan::Front;
 use trac_storage::change_forms;
-use trac_text::calls::{cut_function, put_value};
-use trac_text::{Args, Beginning, Kind, Mark, Refusal, ends};
+use trac_text::{Beginning, Kind, Mark, Refusal};
 
 // What is known of a call that may be performed, but for the texts that it makes and what becomes of forms and blocks.
 #[derive(Clone, Copy)]
@@ -65,20 +64,6 @@ fn called_by<A: Allocator + Copy>(kind: Kind, now: Now, made: &Made<A>, deed: De
     }
 }
 
-// The arguments of the innermost function, which begins here, in texts with these marks.
-fn arguments_at<'a, E: TwoEnds<u8, A>, M: TwoEnds<Mark, A>, A: Allocator + Copy>(
-    text: &'a E,
-    marks: &'a M,
-    beginning: Beginning,
-) -> Args<'a>
-    requires { IsBegun (record { text = (E.ends text.now).left; marks = (M.ends marks.now).left }) beginning }
-    ensures { result
-        ≡ cut beginning.place (drop (beginning.number + 1) (M.ends marks.now).left) (E.ends text.now).left }
-{
-    let further = marks.left().split_at(beginning.number + 1).1;
-    Args::new(text.left(), further, beginning.place)
-}
-
 // Puts what a call prints at the end of the output, which has to have room for it. Most calls print nothing.
 fn put_printed<A: Allocator>(output: &mut SlidingBuf<u8, A>, printed: &[u8])
     requires { length output.old.items + length printed.now ≤ output.old.capacity }
@@ -100,6 +85,7 @@ impl<E: TwoEnds<u8, A>, M: TwoEnds<Mark, A>, A: Allocator + Copy> Core<E, M, A> 
         change: &mut UnnamedChange<A>,
     ) -> Result<Option<Plan>, Refusal>
         requires keeps { change.old ≡ Keep }
+        requires proper { IsProper self.now.state }
         requires front { front_of self.now.state.active ≡ Front.Closing }
         requires within { self.now.state.position ≤ length tape.bytes.now }
         ensures planned { IfOk result
@@ -107,7 +93,7 @@ impl<E: TwoEnds<u8, A>, M: TwoEnds<Mark, A>, A: Allocator + Copy> Core<E, M, A> 
         ensures refused { IfErr result (MayRefuse (step (environment_of self.now.width tape.entry) self.now.state)) }
         ensures inside { OnErr result (0 < length self.now.state.frames) }
     {
-        let Some(function) = self.neutral().innermost() else {
+        let Some(function) = self.texts.neutral().innermost() else {
             return Ok(None);
         };
         let now = Now {
@@ -115,7 +101,7 @@ impl<E: TwoEnds<u8, A>, M: TwoEnds<Mark, A>, A: Allocator + Copy> Core<E, M, A> 
             trace: self.trace,
             position: self.position,
             output: self.output.len(),
-            text: self.text.right().len() - 1 + function.place,
+            text: self.texts.active().len() - 1 + function.place,
             width: self.width,
         };
         let deed = plan_into(
@@ -149,7 +135,7 @@ impl<E: TwoEnds<u8, A>, M: TwoEnds<Mark, A>, A: Allocator + Copy> Core<E, M, A> 
         ensures room { IsNoLess self.old self.new }
         ensures err { IsOkUnless result Refusal.Memory }
     {
-        ends::reserve(&mut self.text, made.value.len())?;
+        self.texts.reserve(made.value.len())?;
         self.output.reserve(made.print.len())?;
         Ok(())
     }
@@ -171,7 +157,7 @@ impl<E: TwoEnds<u8, A>, M: TwoEnds<Mark, A>, A: Allocator + Copy> Core<E, M, A> 
         ensures err { IsOkUnless result Refusal.Memory }
     {
         let alloc = *self.output.allocator();
-        let arguments = arguments_at(&self.text, &self.marks, beginning);
+        let arguments = self.texts.arguments_at(beginning);
         change_forms(&mut self.store, alloc, &arguments, change)
     }
 
@@ -182,14 +168,9 @@ impl<E: TwoEnds<u8, A>, M: TwoEnds<Mark, A>, A: Allocator + Copy> Core<E, M, A> 
         ensures state { self.new.state ≡ state_ended plan.now made.now (scan self.old.state) }
         ensures room { IsNoLess self.old self.new }
     {
-        cut_function(&mut self.text, &mut self.marks, plan.beginning);
-        self.functions -= 1;
-        put_value(
-            &mut self.text,
-            plan.beginning.kind,
-            plan.forced,
-            made.value.as_slice(),
-        );
+        self.texts.end_function(plan.beginning);
+        self.texts
+            .put_value(plan.beginning.kind, plan.forced, made.value.as_slice());
         put_printed(&mut self.output, made.print.as_slice());
         let meta = plan.meta.unwrap_or(self.meta);
         let trace = plan.trace.unwrap_or(self.trace);
@@ -210,7 +191,7 @@ impl<E: TwoEnds<u8, A>, M: TwoEnds<Mark, A>, A: Allocator + Copy> Core<E, M, A> 
             ≡ rules.Called (record_with plan.now.called (arguments_in (scan self.now.state)) (undone_in undone))
             ∷ K.records keeper.old }
     {
-        let arguments = arguments_at(&self.text, &self.marks, plan.beginning);
+        let arguments = self.texts.arguments_at(plan.beginning);
         keeper.push_call(plan.called, &arguments, &mut undone);
     }
 
@@ -266,6 +247,7 @@ impl<E: TwoEnds<u8, A>, M: TwoEnds<Mark, A>, A: Allocator + Copy> Core<E, M, A> 
         made: &Made<A>,
         change: &mut UnnamedChange<A>,
     ) -> Result<(), Refusal>
+        requires proper { IsProper self.old.state }
         requires ready { IsReady self.old.state made.now plan.now change.old }
         requires not_full { length (K.records keeper.old) < K.most }
         requires fits { FitsJournal plan.now.called (arguments_in (scan self.old.state))
@@ -274,7 +256,7 @@ impl<E: TwoEnds<u8, A>, M: TwoEnds<Mark, A>, A: Allocator + Copy> Core<E, M, A> 
             (state_after plan.now made.now change.old (scan self.old.state)) result self.old self.new
             (K.records keeper.old) (K.records keeper.new) }
     {
-        let arguments = arguments_at(&self.text, &self.marks, plan.beginning);
+        let arguments = self.texts.arguments_at(plan.beginning);
         keeper.reserve_call(&arguments)?;
         self.make_room(made)?;
         self.change_into(keeper, plan, change)?;

@@ -12,25 +12,19 @@ use trac_gap::{GapBuf, SlidingBuf, TwoEnds};
 use trac_rules::byte;
 use trac_rules::refusal::Refusal;
 use trac_rules::width::Width;
-use trac_text::texts::IDLE_PROGRAM;
-use trac_text::{Mark, ends};
+use trac_text::{Mark, Texts};
 
-/// A machine over lists with two ends: its neutral text stands on the left of the one pair of lists, its active text
-/// on the right; its marks stand on the left of the other. It is seen as the state that it shows, which is always a
-/// proper one; how wide its numbers are, which nothing changes; how many bytes of texts, how many marks and how many
-/// bytes of output it has room for without more memory; and the names under which it can put a form, and how many
+/// A machine over lists with two ends, which hold its texts and marks. It is seen as the state that it shows, which is
+/// always a proper one; how wide its numbers are, which nothing changes; how many bytes of texts, how many marks and how
+/// many bytes of output it has room for without more memory; and the names under which it can put a form, and how many
 /// blocks it can add, without more memory; and those of the names that are recent, which `sweep_aged` leaves.
 #[derive(Drop)]
 pub struct Core<E: TwoEnds<u8, A>, M: TwoEnds<Mark, A>, A: Allocator + Copy> {
-    pub(crate) text: E,
-    // on the left, from the first on
-    pub(crate) marks: M,
+    pub(crate) texts: Texts<E, M, A>,
     pub(crate) store: Store<A>,
     pub(crate) meta: u8,
     pub(crate) trace: bool,
     pub(crate) position: usize,
-    // how many of the marks begin functions
-    pub(crate) functions: usize,
     pub(crate) output: SlidingBuf<u8, A>,
     pub(crate) width: Width,
 }
@@ -40,17 +34,16 @@ pub struct Core<E: TwoEnds<u8, A>, M: TwoEnds<Mark, A>, A: Allocator + Copy> {
 pub type Machine<A = Global> = Core<GapBuf<u8, A>, GapBuf<Mark, A>, A>;
 
 impl<E: TwoEnds<u8, A>, M: TwoEnds<Mark, A>, A: Allocator + Copy> Model for Core<E, M, A> {
-    ghost use Rattle.trac_step.specs.Layout.{Shown, shown_by, shown_code, IsMachine, parts_of};
+    ghost use Rattle.trac_forms.specs.Stored.{storage_in};
+    ghost use Rattle.trac_step.specs.Layout.{Shown, shown_by, shown_code, IsMachine};
 
     ghost Value = { Shown };
 
     ghost coded = { shown_code };
 
-    ghost view = { λ m.
-        shown_by m.width (parts_of (E.ends m.text) (M.ends m.marks) m.store m.meta m.trace m.position m.output) };
+    ghost view = { λ m. shown_by m.texts m.store m.meta m.trace m.position m.output m.width };
 
-    ghost invariant = { λ m.
-        IsMachine m.functions (parts_of (E.ends m.text) (M.ends m.marks) m.store m.meta m.trace m.position m.output) };
+    ghost invariant = { λ m. IsMachine (storage_in m.store) m.output.items };
 }
 
 impl<E: TwoEnds<u8, A>, M: TwoEnds<Mark, A>, A: Allocator + Copy> Core<E, M, A> {
@@ -62,17 +55,12 @@ impl<E: TwoEnds<u8, A>, M: TwoEnds<Mark, A>, A: Allocator + Copy> Core<E, M, A> 
         ensures width { IfOk result (λ m. m.width ≡ width) }
         ensures err { IsOkUnless result Refusal.Memory }
     {
-        let mut text = E::new(alloc);
-        ends::reserve(&mut text, IDLE_PROGRAM.len())?;
-        text.put_right(IDLE_PROGRAM);
         Ok(Core {
-            text,
-            marks: M::new(alloc),
+            texts: Texts::new(alloc)?,
             store: Store::new(alloc),
             meta: byte::APOSTROPHE,
             trace: false,
             position: 0,
-            functions: 0,
             output: SlidingBuf::new(alloc),
             width,
         })

@@ -6,7 +6,6 @@ mod ahead;
 mod back;
 mod calling;
 pub mod engine;
-mod idle;
 pub mod loading;
 mod moves;
 mod one;

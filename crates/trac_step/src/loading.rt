@@ -12,8 +12,7 @@ use trac_gap::{SlidingBuf, TwoEnds};
 use trac_rules::width::Width;
 pub use trac_storage::Parts;
 use trac_storage::{lengths_within, stored};
-use trac_text::framing::texts_and_marks;
-use trac_text::{Mark, Refusal};
+use trac_text::{Mark, Refusal, Texts};
 
 // The output of parts, with no less room than is wanted.
 fn output_of<A: Allocator + Copy>(alloc: A, parts: &Parts<A>) -> Result<SlidingBuf<u8, A>, Refusal>
@@ -50,7 +49,7 @@ impl<E: TwoEnds<u8, A>, M: TwoEnds<Mark, A>, A: Allocator + Copy> Core<E, M, A> 
             return Err(Refusal::TooLong);
         }
         let store = stored(alloc, parts)?;
-        let (text, marks) = texts_and_marks(
+        let texts = Texts::load(
             alloc,
             parts.active.as_slice(),
             parts.base.as_slice(),
@@ -59,14 +58,13 @@ impl<E: TwoEnds<u8, A>, M: TwoEnds<Mark, A>, A: Allocator + Copy> Core<E, M, A> 
             parts.mark_room,
         )?;
         let output = output_of(alloc, parts)?;
+        texts.recall_room();
         Ok(Core {
-            text,
-            marks,
+            texts,
             store,
             meta: parts.meta,
             trace: parts.trace,
             position: parts.position,
-            functions: parts.frames.len(),
             output,
             width,
         })

@@ -1,12 +1,12 @@
 //! The steps that perform no function.
-ghost use Rattle.std.specs.Prelude.{◌≡◌, ◌<◌, ◌≤◌, get_or, length, true, None};
-ghost use Rattle.trac_rules.specs.Scanning.{deleted, front_of, scan, Moves};
+ghost use Rattle.std.specs.Prelude.{◌≡◌, ◌<◌, ◌≤◌, get_or, length, true};
+ghost use Rattle.trac_rules.specs.Performing.{beginning_of};
+ghost use Rattle.trac_rules.specs.Scanning.{begun, deleted, front_of, scan, Moves};
 ghost use Rattle.trac_rules.specs.Limits.{texts_fit};
 ghost use Rattle.trac_rules.specs.Proper.{IsProper};
-ghost use Rattle.trac_rules.specs.Records.{Deleted, recorded};
-ghost use Rattle.trac_step.specs.Calling.{IfMoves, IsMove, with_mark};
+ghost use Rattle.trac_rules.specs.Records.{Begun, Deleted, recorded};
+ghost use Rattle.trac_step.specs.Calling.{IfMoves, IsMove};
 ghost use Rattle.trac_step.specs.Kept.{IsCarriedOut};
-ghost use Rattle.trac_journal.specs.Told.{said_by};
 
 use crate::engine::Core;
 use std::alloc::Allocator;
@@ -21,9 +21,10 @@ impl<E: TwoEnds<u8, A>, M: TwoEnds<Mark, A>, A: Allocator + Copy> Core<E, M, A> 
     // Whether the state that scanning moves on to is within the limits: only a further mark can be one too many.
     pub(crate) fn move_fits(&self, front: Front) -> bool
         requires front { front ≡ front_of self.now.state.active }
+        requires proper { IsProper self.now.state }
         ensures { IfMoves (scan self.now.state) (λ t. result ≡ texts_fit t) }
     {
-        let marks = self.marks.left().len();
+        let marks = self.texts.mark_count();
         !makes_mark(front, marks) || marks < MARK_LIMIT
     }
 
@@ -46,45 +47,54 @@ impl<E: TwoEnds<u8, A>, M: TwoEnds<Mark, A>, A: Allocator + Copy> Core<E, M, A> 
             Front::Nothing => self.empty_into(keeper),
             Front::Opening => self.protect_into(keeper),
             Front::Layout | Front::Closing => self.delete_into(keeper),
-            Front::ActiveCall => self.mark_into(keeper, 2, Some(Kind::Active), Short::Begun),
-            Front::NeutralCall => self.mark_into(keeper, 3, Some(Kind::Neutral), Short::Begun),
+            Front::ActiveCall => self.begin_into(keeper, Kind::Active),
+            Front::NeutralCall => self.begin_into(keeper, Kind::Neutral),
             Front::Comma => {
-                if self.neutral().is_outside() {
+                if self.texts.neutral().is_outside() {
                     return self.delete_into(keeper);
                 }
-                self.mark_into(keeper, 1, None, Short::Comma)
+                self.end_argument_into(keeper)
             }
             Front::Sharp | Front::Plain => {
-                self.gather_first();
+                self.texts.gather(1);
                 keeper.push_moved_byte();
                 Ok(())
             }
         }
     }
 
-    // The first n bytes of the active text are deleted, and a function of this kind is begun, or, if none is named, a
-    // further argument of the innermost one. This is kept of it.
+    // The beginning of a function of this kind, with which the active text begins, is deleted, and the function is
+    // begun.
     #[inline(always)]
-    fn mark_into<K: Keeper<A>>(
-        &mut self,
-        keeper: &mut K,
-        n: usize,
-        frame: Option<Kind>,
-        short: Short,
-    ) -> Result<(), Refusal>
-        requires moves { scan self.old.state ≡ Moves (with_mark frame (deleted n self.old.state)) }
+    fn begin_into<K: Keeper<A>>(&mut self, keeper: &mut K, kind: Kind) -> Result<(), Refusal>
+        requires moves { scan self.old.state
+            ≡ Moves (begun kind (deleted (length (beginning_of kind)) self.old.state)) }
         requires fits { IfMoves (scan self.old.state) (λ t. texts_fit t ≡ true) }
-        requires front { n ≤ length self.old.state.active }
-        requires inside { frame ≡ None → 0 < length self.old.state.frames }
-        requires told { said_by short ≡ recorded self.old.state }
-        requires proper { IsProper self.old.state }
+        requires front { length (beginning_of kind) ≤ length self.old.state.active }
+        requires told { Begun ≡ recorded self.old.state }
         requires not_full { length (K.records keeper.old) < K.most }
         ensures { IsCarriedOut result self.old self.new (K.records keeper.old) (K.records keeper.new)
             (K.places keeper.old) }
     {
         keeper.reserve_short()?;
-        self.mark(n, frame)?;
-        keeper.push_short(short);
+        self.texts.begin(kind)?;
+        keeper.push_short(Short::Begun);
+        Ok(())
+    }
+
+    // A `,` is deleted, and a further argument of the innermost function is begun.
+    #[inline(always)]
+    fn end_argument_into<K: Keeper<A>>(&mut self, keeper: &mut K) -> Result<(), Refusal>
+        requires front { front_of self.old.state.active ≡ Front.Comma }
+        requires fits { IfMoves (scan self.old.state) (λ t. texts_fit t ≡ true) }
+        requires inside { 0 < length self.old.state.frames }
+        requires not_full { length (K.records keeper.old) < K.most }
+        ensures { IsCarriedOut result self.old self.new (K.records keeper.old) (K.records keeper.new)
+            (K.places keeper.old) }
+    {
+        keeper.reserve_short()?;
+        self.texts.next_argument()?;
+        keeper.push_short(Short::Comma);
         Ok(())
     }
 
@@ -99,7 +109,7 @@ impl<E: TwoEnds<u8, A>, M: TwoEnds<Mark, A>, A: Allocator + Copy> Core<E, M, A> 
             (K.places keeper.old) }
     {
         keeper.reserve_short()?;
-        let byte = self.delete_first();
+        let byte = self.texts.delete();
         keeper.push_short(Short::Deleted(byte));
         Ok(())
     }
@@ -114,7 +124,7 @@ impl<E: TwoEnds<u8, A>, M: TwoEnds<Mark, A>, A: Allocator + Copy> Core<E, M, A> 
             (K.places keeper.old) }
     {
         keeper.reserve_short()?;
-        let (inner, closed) = self.protect();
+        let (inner, closed) = self.texts.protect();
         keeper.push_short(Short::Quoted { inner, closed });
         Ok(())
     }
@@ -129,7 +139,7 @@ impl<E: TwoEnds<u8, A>, M: TwoEnds<Mark, A>, A: Allocator + Copy> Core<E, M, A> 
             (K.places keeper.old) }
     {
         keeper.reserve_idle()?;
-        let (mut base, mut frames) = self.reload()?;
+        let (mut base, mut frames) = self.texts.reload()?;
         keeper.push_idle(&mut base, &mut frames);
         Ok(())
     }

@@ -2,7 +2,6 @@
 ghost use Rattle.std.specs.Prelude.{◌≡◌, ◌+◌, ◌≤◌, length, reverse, slice_get, None, Some, MatchOption};
 ghost use Rattle.trac_forms.specs.Stored.{KnowsAll};
 ghost use Rattle.trac_text.specs.Frames.{IsFrame};
-ghost use Rattle.trac_text.specs.Neutral.{neutral_of};
 ghost use Rattle.trac_rules.specs.Limits.{argument_bytes};
 ghost use Rattle.trac_rules.specs.Stepping.{call_at};
 ghost use Rattle.trac_step.specs.Room.{HasRoom};
@@ -12,21 +11,14 @@ use std::alloc::Allocator;
 use trac_forms::Store;
 use trac_gap::TwoEnds;
 use trac_rules::width::Width;
-use trac_text::{Args, BegunFunctions, Kind, Mark, NeutralText};
+use trac_text::{Args, BegunFunctions, Kind, Mark};
 
 impl<E: TwoEnds<u8, A>, M: TwoEnds<Mark, A>, A: Allocator + Copy> Core<E, M, A> {
     /// What is not scanned yet: the active string of T-64.
     pub fn active(&self) -> &[u8]
         ensures { result.now ≡ self.now.state.active }
     {
-        self.text.right()
-    }
-
-    // The neutral text with its marks.
-    pub(crate) fn neutral(&self) -> NeutralText<'_>
-        ensures { neutral_of result ≡ record { base = self.now.state.base; frames = self.now.state.frames } }
-    {
-        NeutralText::new(self.text.left(), self.marks.left(), self.functions)
+        self.texts.active()
     }
 
     /// How many bytes base text and the arguments of all begun functions hold together. It takes the
@@ -34,14 +26,14 @@ impl<E: TwoEnds<u8, A>, M: TwoEnds<Mark, A>, A: Allocator + Copy> Core<E, M, A> 
     pub fn neutral_len(&self) -> usize
         ensures { result ≡ length self.now.state.base + argument_bytes self.now.state.frames }
     {
-        self.text.left().len()
+        self.texts.neutral_len()
     }
 
     /// The neutral text outside all begun functions, a front of T-64's neutral string.
     pub fn base(&self) -> &[u8]
         ensures { result.now ≡ self.now.state.base }
     {
-        self.neutral().base()
+        self.texts.neutral().base()
     }
 
     /// How many functions are begun, by T-64's rules of scanning, and not ended. A machine keeps the number, so this
@@ -49,7 +41,7 @@ impl<E: TwoEnds<u8, A>, M: TwoEnds<Mark, A>, A: Allocator + Copy> Core<E, M, A> 
     pub fn depth(&self) -> usize
         ensures { result ≡ length self.now.state.frames }
     {
-        self.neutral().depth()
+        self.texts.neutral().depth()
     }
 
     /// The begun function of this number, the outermost being number 0: its kind, and all its arguments, of which the
@@ -59,7 +51,7 @@ impl<E: TwoEnds<u8, A>, M: TwoEnds<Mark, A>, A: Allocator + Copy> Core<E, M, A> 
         ensures { MatchOption result (length self.now.state.frames ≤ i)
             (λ r. IsFrame (slice_get (reverse self.now.state.frames) i) r.0 r.1) }
     {
-        self.neutral().frame(i)
+        self.texts.neutral().frame(i)
     }
 
     /// The begun functions, one after another from the outermost on. A walk over all of them takes time for all marks
@@ -67,7 +59,7 @@ impl<E: TwoEnds<u8, A>, M: TwoEnds<Mark, A>, A: Allocator + Copy> Core<E, M, A> 
     pub fn begun_functions(&self) -> BegunFunctions<'_>
         ensures { result ≡ reverse self.now.state.frames }
     {
-        self.neutral().begun_functions()
+        self.texts.neutral().begun_functions()
     }
 
     /// The name of the function that the next step would perform; none if it would perform none. It takes no memory.

@@ -23,7 +23,6 @@ use trac_gap::TwoEnds;
 use trac_journal::{Journal, Keeper};
 use trac_prims::{Made, Tape};
 use trac_rules::scan::Front;
-use trac_text::front::front_at;
 use trac_text::{Mark, Refusal};
 
 impl<E: TwoEnds<u8, A>, M: TwoEnds<Mark, A>, A: Allocator + Copy> Core<E, M, A> {
@@ -144,7 +143,7 @@ impl<E: TwoEnds<u8, A>, M: TwoEnds<Mark, A>, A: Allocator + Copy> Core<E, M, A> 
         ensures { IsStepped (environment_of self.old.width tape.entry) result self.old self.new (K.records keeper.old)
             (K.records keeper.new) (K.places keeper.old) }
     {
-        let front = front_at(self.text.right());
+        let front = self.texts.front();
         if front == Front::Closing {
             return self.close(keeper, tape, made);
         }
@@ -154,13 +153,14 @@ impl<E: TwoEnds<u8, A>, M: TwoEnds<Mark, A>, A: Allocator + Copy> Core<E, M, A> 
         self.carry_out(keeper, front)
     }
 
-    // Does nothing when it runs. Its two calls tell the prover what holds of every machine: its state is within all
+    // Does nothing when it runs. Its three calls tell the prover what holds of every machine: its state is within all
     // limits, and the machine has room for this state, of whose forms it has the names as recent ones.
     pub(crate) fn recall_room(&self)
         ensures proper { IsProper self.now.state }
         ensures room { HasRoom self.now self.now.state }
         ensures recent { KnowsAll self.now.recent self.now.state.forms }
     {
+        self.texts.recall_room();
         let _room = self.output.capacity();
         self.store.knows_its_forms();
     }

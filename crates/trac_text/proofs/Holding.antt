@@ -6,7 +6,7 @@ use Rattle.std.proofs.lemmas.Option.{none-some}
 use Rattle.trac_gap.specs.Ends.{Ends, item_count}
 use Rattle.trac_rules.specs.declared.kind.Kind.{Kind}
 use Rattle.trac_rules.specs.declared.kind.Kind.TheVariants.{Active, Neutral}
-use Rattle.trac_rules.specs.declared.limit.TheConstants.{MARK_LIMIT}
+use Rattle.trac_rules.specs.declared.limit.TheConstants.{MARK_LIMIT, TEXT_LIMIT}
 use Rattle.trac_rules.specs.Limits.{argument_bytes, marks}
 use Rattle.trac_rules.specs.Matching.{Protected, protected}
 use Rattle.trac_rules.specs.Performing.{placed}
@@ -301,12 +301,20 @@ value_length Neutral true value e = omega (arith, length-append value e.right)
 value_length Neutral false value e = omega (arith, length-append e.left value)
 
 module _ {functions : ℕ} {text : Ends ℕ} {ms : Ends Mark} {m : ShownTexts} (now : AreNow functions text ms m) (kind : Kind) (forced : Bool) (value : List ℕ)
-    (can : CanHold m (texts_by (placed kind forced value) m.texts)) where
+    (room : bytes_in m.texts + length value ≤ m.text_room) (limit : bytes_in m.texts + length value ≤ TEXT_LIMIT) where
   pub value_fits : item_count text + length value ≤ text.capacity
-  value_fits =
-      omega (arith, can.text_room, byte_count (holds_value kind forced value (held_now now)), value_length kind forced value text, ap (λ (x : ShownTexts). x.text_room) now.view)
+  value_fits = omega (arith, room, byte_count (held_now now), ap (λ (x : ShownTexts). x.text_room) now.view)
 
   pub placed_now : {next : Ends ℕ} → next ≡ with_value kind forced value text → AreNow functions next ms (record m { texts = texts_by (placed kind forced value) m.texts })
   placed_now {next} is =
+      let held = held_now now in
+      let holds : Hold (with_value kind forced value text) ms (texts_by (placed kind forced value) m.texts) = holds_value kind forced value held in
+      let bytes = value_length kind forced value text in
+      let old = can_hold_now now in
       subst (λ (e : Ends ℕ). AreNow functions e ms (record m { texts = texts_by (placed kind forced value) m.texts })) (sym is)
-      (held_as now (holds_value kind forced value (held_now now)) (depth_now now ∙ sym (value_depth kind forced value m.texts)) (value_capacity kind forced value text) refl can)
+      (held_as now holds (depth_now now ∙ sym (value_depth kind forced value m.texts)) (value_capacity kind forced value text) refl (record {
+        text_room = omega (arith, room, byte_count holds, byte_count held, bytes);
+        mark_room = omega (arith, old.mark_room, mark_count holds, mark_count held);
+        text_limit = omega (arith, limit, byte_count holds, byte_count held, bytes);
+        mark_limit = omega (arith, old.mark_limit, mark_count holds, mark_count held);
+      }))

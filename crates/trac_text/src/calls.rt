@@ -1,8 +1,9 @@
 //! What a call makes of the texts.
 ghost use Rattle.std.specs.Prelude.{◌≡◌, ◌+◌, ◌<◌, ◌≤◌, length, take, drop};
 ghost use Rattle.trac_gap.specs.Ends.{item_count};
+ghost use Rattle.trac_rules.specs.declared.limit.TheConstants.{TEXT_LIMIT};
 ghost use Rattle.trac_rules.specs.Performing.{placed};
-ghost use Rattle.trac_text.specs.Holding.{BeginsInnermost, CanHold, texts_by};
+ghost use Rattle.trac_text.specs.Holding.{BeginsInnermost, bytes_in, texts_by};
 ghost use Rattle.trac_text.specs.Moving.{with_value};
 
 use crate::mark::Mark;
@@ -42,16 +43,17 @@ impl<E: TwoEnds<u8, A>, M: TwoEnds<Mark, A>, A: Allocator + Copy> Texts<E, M, A>
     /// Puts a value where it goes by T-64's rule. The value of a neutral function goes to the current text, if it is
     /// not forced. Any other goes before the active text. There has to be room for it. It takes no memory.
     pub fn put_value(&mut self, kind: Kind, forced: bool, value: &[u8])
-        requires { CanHold self.old (texts_by (placed kind forced value.now) self.old.texts) }
+        requires room { bytes_in self.old.texts + length value.now ≤ self.old.text_room }
+        requires limit { bytes_in self.old.texts + length value.now ≤ TEXT_LIMIT }
         ensures { self.new ≡ record self.old { texts = texts_by (placed kind forced value.now) self.old.texts } }
     {
         put_value(&mut self.text, kind, forced, value);
     }
 }
 
-/// Cuts off the function that begins here, at the end of the text on the left, with its marks, and its `)`, the first
-/// byte on the right. It takes no memory.
-pub fn cut_function<E: TwoEnds<u8, A>, M: TwoEnds<Mark, A>, A: Allocator + Copy>(
+// Cuts off the function that begins here, at the end of the text on the left, with its marks, and its `)`, the first
+// byte on the right. It takes no memory.
+fn cut_function<E: TwoEnds<u8, A>, M: TwoEnds<Mark, A>, A: Allocator + Copy>(
     text: &mut E,
     marks: &mut M,
     beginning: Beginning,
@@ -71,9 +73,9 @@ pub fn cut_function<E: TwoEnds<u8, A>, M: TwoEnds<Mark, A>, A: Allocator + Copy>
     marks.cut_left(marks.left().len() - beginning.number);
 }
 
-/// Puts a value where it goes by T-64's rule. The value of a neutral function goes at the end of the text on the left,
-/// if it is not forced. Any other goes before the text on the right. There has to be room for it. It takes no memory.
-pub fn put_value<E: TwoEnds<u8, A>, A: Allocator + Copy>(
+// Puts a value where it goes by T-64's rule. The value of a neutral function goes at the end of the text on the left,
+// if it is not forced. Any other goes before the text on the right. There has to be room for it. It takes no memory.
+fn put_value<E: TwoEnds<u8, A>, A: Allocator + Copy>(
     text: &mut E,
     kind: Kind,
     forced: bool,

@@ -32,10 +32,10 @@ impl<E: TwoEnds<u8, A>, M: TwoEnds<Mark, A>, A: Allocator + Copy> Texts<E, M, A>
     }
 }
 
-/// Takes a value of n bytes off again, from where it went. Puts a `)` before the text on the right. Puts the function
-/// that this `)` ends, with its arguments, at the end of the text on the left. There has to be room for these. It takes
-/// no memory.
-pub fn put_call<E: TwoEnds<u8, A>, M: TwoEnds<Mark, A>, A: Allocator + Copy>(
+// Takes a value of n bytes off again, from where it went. Puts a `)` before the text on the right. Puts the function
+// that this `)` ends, with its arguments, at the end of the text on the left. There has to be room for these. It takes
+// no memory.
+fn put_call<E: TwoEnds<u8, A>, M: TwoEnds<Mark, A>, A: Allocator + Copy>(
     text: &mut E,
     marks: &mut M,
     kind: Kind,

@@ -54,9 +54,9 @@ impl<E: TwoEnds<u8, A>, M: TwoEnds<Mark, A>, A: Allocator + Copy> Texts<E, M, A>
     }
 }
 
-/// Copies of the base text and all begun functions of a neutral text, whose arguments have fewer than 2^32 bytes
-/// together. Refused with `Memory` if the allocator refuses.
-pub fn kept_of<A: Allocator + Copy>(
+// Copies of the base text and all begun functions of a neutral text, whose arguments have fewer than 2^32 bytes
+// together. Refused with `Memory` if the allocator refuses.
+fn kept_of<A: Allocator + Copy>(
     alloc: A,
     text: NeutralText<'_>,
 ) -> Result<(Vec<u8, A>, Functions<A>), Refusal>
@@ -76,9 +76,9 @@ pub fn kept_of<A: Allocator + Copy>(
     Ok((base, functions))
 }
 
-/// Puts a base text and begun functions in the place of all that the lists hold. There has to be room
-/// for these. It takes no memory.
-pub fn put_functions<A: Allocator + Copy, E: TwoEnds<u8, A>, M: TwoEnds<Mark, A>>(
+// Puts a base text and begun functions in the place of all that the lists hold. There has to be room
+// for these. It takes no memory.
+fn put_functions<A: Allocator + Copy, E: TwoEnds<u8, A>, M: TwoEnds<Mark, A>>(
     text: &mut E,
     marks: &mut M,
     base: &[u8],

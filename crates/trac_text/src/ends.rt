@@ -6,10 +6,10 @@ use std::alloc::Allocator;
 use trac_gap::TwoEnds;
 use trac_rules::refusal::Refusal;
 
-/// Makes room for n more items. What the lists hold stays. Refused with `Memory` if the allocator refuses, and then
-/// nothing changed.
+// Makes room for n more items. What the lists hold stays. Refused with `Memory` if the allocator refuses, and then
+// nothing changed.
 #[inline]
-pub fn reserve<T: Copy, A: Allocator + Copy, E: TwoEnds<T, A>>(
+pub(crate) fn reserve<T: Copy, A: Allocator + Copy, E: TwoEnds<T, A>>(
     list: &mut E,
     n: usize,
 ) -> Result<(), Refusal>
@@ -26,8 +26,12 @@ pub fn reserve<T: Copy, A: Allocator + Copy, E: TwoEnds<T, A>>(
     list.reserve(n).map_err(|_| Refusal::Memory)
 }
 
-/// Puts these items in the place of all that the lists hold. There has to be room for them. It takes no memory.
-pub fn refill<T: Copy, A: Allocator + Copy, E: TwoEnds<T, A>>(list: &mut E, left: &[T], right: &[T])
+// Puts these items in the place of all that the lists hold. There has to be room for them. It takes no memory.
+pub(crate) fn refill<T: Copy, A: Allocator + Copy, E: TwoEnds<T, A>>(
+    list: &mut E,
+    left: &[T],
+    right: &[T],
+)
     requires { length left.now + length right.now ≤ (E.ends list.old).capacity }
     ensures { E.ends list.new ≡ record (E.ends list.old) { left = left.now; right = right.now } }
 {

@@ -105,10 +105,10 @@ fn put_function<A: Allocator + Copy, E: TwoEnds<u8, A>, M: TwoEnds<Mark, A>>(
     }
 }
 
-/// Lists that hold these texts and begun functions, from the outermost on: active text, base text and arguments, and
-/// the marks. They have room for at least so many bytes and marks. Each function has to have an argument, the one that
-/// is being gathered, and texts and marks may not pass the limits. Refused with `Memory` if the allocator refuses.
-pub fn texts_and_marks<A: Allocator + Copy, E: TwoEnds<u8, A>, M: TwoEnds<Mark, A>>(
+// Lists that hold these texts and begun functions, from the outermost on: active text, base text and arguments, and
+// the marks. They have room for at least so many bytes and marks. Each function has to have an argument, the one that
+// is being gathered, and texts and marks may not pass the limits. Refused with `Memory` if the allocator refuses.
+fn texts_and_marks<A: Allocator + Copy, E: TwoEnds<u8, A>, M: TwoEnds<Mark, A>>(
     alloc: A,
     active: &[u8],
     base: &[u8],

@@ -1,14 +1,14 @@
-//! Texts and marks, without forms: the neutral text with its marks, read as base text and begun functions, and what
-//! scanning, calls and the ways back make of the two lists that hold it and the active text. Limits, refusals, what
-//! takes memory and what else T-64 does not name are this project's profile.
+//! Texts and marks, without forms: the neutral text with its marks, read as base text and begun functions, and the
+//! texts of a processor, with what scanning, calls and the ways back make of them. Limits, refusals, what takes memory
+//! and what else T-64 does not name are this project's profile.
 #![tactic(auto)]
 
 pub mod args;
 pub mod begun;
 pub mod calls;
-pub mod calls_back;
-pub mod emptying;
-pub mod ends;
+mod calls_back;
+mod emptying;
+mod ends;
 pub mod frames;
 pub mod framing;
 pub mod front;
@@ -16,7 +16,7 @@ pub mod mark;
 pub mod matching;
 pub mod pieces;
 pub mod texts;
-pub mod texts_back;
+mod texts_back;
 
 pub use args::Args;
 pub use begun::BegunFunctions;

@@ -249,9 +249,9 @@ fn gather_some<E: TwoEnds<u8, A>, A: Allocator + Copy>(text: &mut E, count: usiz
     }
 }
 
-/// Takes a `(` away, the first byte on the right: what it protects goes to the left, by T-64's rule. Returns how many
-/// bytes these are, and whether there was a match, which is taken away too. It takes no memory.
-pub fn take_protected<A: Allocator + Copy, E: TwoEnds<u8, A>>(text: &mut E) -> (usize, bool)
+// Takes a `(` away, the first byte on the right: what it protects goes to the left, by T-64's rule. Returns how many
+// bytes these are, and whether there was a match, which is taken away too. It takes no memory.
+fn take_protected<A: Allocator + Copy, E: TwoEnds<u8, A>>(text: &mut E) -> (usize, bool)
     requires { 0 < length (E.ends text.old).right }
     ensures taken { E.ends text.new ≡ with_protected (protected (drop 1 (E.ends text.old).right)) (E.ends text.old) }
     ensures inner { result.0 ≡ length (protected (drop 1 (E.ends text.old).right)).inner }
@@ -268,8 +268,8 @@ pub fn take_protected<A: Allocator + Copy, E: TwoEnds<u8, A>>(text: &mut E) -> (
     (place, true)
 }
 
-/// Takes the first byte on the right away, and returns it. It takes no memory.
-pub fn take_first<A: Allocator + Copy, E: TwoEnds<u8, A>>(text: &mut E) -> u8
+// Takes the first byte on the right away, and returns it. It takes no memory.
+fn take_first<A: Allocator + Copy, E: TwoEnds<u8, A>>(text: &mut E) -> u8
     requires { 0 < length (E.ends text.old).right }
     ensures taken { E.ends text.new ≡ record (E.ends text.old) { right = drop 1 (E.ends text.old).right } }
     ensures byte { result ≡ get_or (E.ends text.old).right 0 0 }
@@ -279,11 +279,11 @@ pub fn take_first<A: Allocator + Copy, E: TwoEnds<u8, A>>(text: &mut E) -> u8
     first
 }
 
-/// Takes the first n bytes on the right away, and puts a mark after all others, at the end of the text on the left. It
-/// is the mark of a function of this kind, or, if none is named, of a further argument. Refused with `Memory` if the
-/// marks have no room and the allocator refuses; then nothing changed but that no mark is left on the right.
+// Takes the first n bytes on the right away, and puts a mark after all others, at the end of the text on the left. It
+// is the mark of a function of this kind, or, if none is named, of a further argument. Refused with `Memory` if the
+// marks have no room and the allocator refuses; then nothing changed but that no mark is left on the right.
 #[inline]
-pub fn push_mark<A: Allocator + Copy, E: TwoEnds<u8, A>, M: TwoEnds<Mark, A>>(
+fn push_mark<A: Allocator + Copy, E: TwoEnds<u8, A>, M: TwoEnds<Mark, A>>(
     text: &mut E,
     marks: &mut M,
     n: usize,
@@ -314,9 +314,9 @@ pub fn push_mark<A: Allocator + Copy, E: TwoEnds<u8, A>, M: TwoEnds<Mark, A>>(
     Ok(())
 }
 
-/// Empties both lists, and puts the idle program on the right, as T-64 does when the active text is empty. Refused with
-/// `Memory` if there is no room for it and the allocator refuses; then nothing changed.
-pub fn restart<A: Allocator + Copy, E: TwoEnds<u8, A>, M: TwoEnds<Mark, A>>(
+// Empties both lists, and puts the idle program on the right, as T-64 does when the active text is empty. Refused with
+// `Memory` if there is no room for it and the allocator refuses; then nothing changed.
+pub(crate) fn restart<A: Allocator + Copy, E: TwoEnds<u8, A>, M: TwoEnds<Mark, A>>(
     text: &mut E,
     marks: &mut M,
 ) -> Result<(), Refusal>

@@ -64,9 +64,9 @@ impl<E: TwoEnds<u8, A>, M: TwoEnds<Mark, A>, A: Allocator + Copy> Texts<E, M, A>
     }
 }
 
-/// Moves a protected text of this length, which is at the end of the left, back to the right. Puts its `(` before it
-/// and, if it was closed, a `)` after it. It takes no memory.
-pub fn give_protected_back<A: Allocator + Copy, E: TwoEnds<u8, A>>(
+// Moves a protected text of this length, which is at the end of the left, back to the right. Puts its `(` before it
+// and, if it was closed, a `)` after it. It takes no memory.
+fn give_protected_back<A: Allocator + Copy, E: TwoEnds<u8, A>>(
     text: &mut E,
     inner: usize,
     closed: bool,
@@ -82,8 +82,8 @@ pub fn give_protected_back<A: Allocator + Copy, E: TwoEnds<u8, A>>(
     text.push_right(OPENING);
 }
 
-/// Takes the last mark away, and puts these bytes before the text on the right. It takes no memory.
-pub fn pop_mark<A: Allocator + Copy, E: TwoEnds<u8, A>, M: TwoEnds<Mark, A>>(
+// Takes the last mark away, and puts these bytes before the text on the right. It takes no memory.
+fn pop_mark<A: Allocator + Copy, E: TwoEnds<u8, A>, M: TwoEnds<Mark, A>>(
     text: &mut E,
     marks: &mut M,
     bytes: &[u8],
@@ -98,9 +98,9 @@ pub fn pop_mark<A: Allocator + Copy, E: TwoEnds<u8, A>, M: TwoEnds<Mark, A>>(
     text.put_right(bytes);
 }
 
-/// Takes the last mark away, which begins a function, and puts that beginning before the text on
-/// the right. It takes no memory.
-pub fn pop_beginning<A: Allocator + Copy, E: TwoEnds<u8, A>, M: TwoEnds<Mark, A>>(
+// Takes the last mark away, which begins a function, and puts that beginning before the text on
+// the right. It takes no memory.
+fn pop_beginning<A: Allocator + Copy, E: TwoEnds<u8, A>, M: TwoEnds<Mark, A>>(
     text: &mut E,
     marks: &mut M,
 )

@@ -9,7 +9,7 @@ use Rattle.trac_prims.specs.Tape.{environment_of}
 use Rattle.trac_step.specs.Calling.{state_after}
 use Rattle.trac_step.specs.Ready.{IsFound, recorded_after, undone_after}
 use Rattle.trac_step.specs.Room.{LacksRoomAhead}
-use Rattle.trac_step.proofs.Beginnings.{some_frame}
+use Rattle.trac_text.proofs.Beginnings.{some_frame}
 use Rattle.trac_step.proofs.Fitting.{added_as, call_fits}
 use Rattle.trac_step.proofs.Moving.{closing_fits, closing_move, closing_outside}
 use Rattle.trac_step.proofs.Outcomes.{if_err_always, refused_for_memory, taken_by, taken_lacks}

@@ -1,6 +1,8 @@
-use Rattle.std.proofs.Common.{◌∷◌, ◌∙◌, sym, ap}
+use Rattle.std.proofs.Common.{◌∷◌, ◌∙◌, get_or, refl, sym, ap}
 use Rattle.trac_rules.specs.Records.{Deleted}
 use Rattle.trac_rules.specs.Scanning.{deleted}
+use Rattle.trac_step.specs.Layout.{Shown}
+use Rattle.trac_step.proofs.Lifting.{rule_shown}
 use Rattle.trac_step.proofs.Stepped.{carried_so, no_place}
 use Rattle.trac_step.proofs.engine.Core.delete_into.Goals as goal
 
@@ -10,5 +12,7 @@ returns-in_err-reserve_short g c =
 
 pub returns : goal.returns
 returns g c =
-    carried_so _ c.args.self.now c.delete_first-byte.new.self (g.K.Keeper.records c.args.keeper.now) (g.K.Keeper.records c.push_short.new.self) (g.K.Keeper.places c.args.keeper.now) (deleted 1 c.args.self.now.state) c.requires.moves c.delete_first-byte.ensures.shown
-    (c.push_short.ensures ∙ (λ i. (ap Deleted c.delete_first-byte.ensures.byte ∙ sym c.requires.told) i ∷ c.reserve_short.ensures.same i))
+    let byte = c.delete-byte.ensures.byte ∙ ap (λ (m : Shown). get_or m.state.active 0 0) c.self.view_is in
+    carried_so _ c.args.self.now _ (g.K.Keeper.records c.args.keeper.now) (g.K.Keeper.records c.push_short.new.self) (g.K.Keeper.places c.args.keeper.now) (deleted 1 c.args.self.now.state) c.requires.moves
+    (rule_shown c.self.view_is (deleted 1) (λ t storage rest. refl) c.delete-byte.new.self c.delete-byte.ensures.deleted)
+    (c.push_short.ensures ∙ (λ i. (ap Deleted byte ∙ sym c.requires.told) i ∷ c.reserve_short.ensures.same i))

@@ -1,11 +1,12 @@
 -- The newest record is of the kind that was found, and is gone back over as the call for its kind says. Where it is not short, what
 -- keeps it is as it was.
-use Rattle.std.proofs.Common.{◌≡◌, ℕ, List, ◌∷◌, sym, ap, ◌∙◌, subst}
+use Rattle.std.proofs.Common.{◌≡◌, ℕ, List, ◌∷◌, sym, ap, ◌∙◌, subst, true, false}
 use Rattle.trac_rules.specs.Records.{Idle, Record}
 use Rattle.trac_text.specs.Pieces.{all_texts, frames_in}
 use Rattle.trac_journal.specs.Told.{HasCallFirst, HasCallOut}
 use Rattle.trac_change.specs.Undone.{undone_in}
 use Rattle.trac_step.proofs.GoneBack.{call_begins, call_gone_back, call_restores, can_show, gone_back}
+use Rattle.trac_step.proofs.IdleBack.{can_hold_idle, can_leave, goes_back_idle}
 use Rattle.trac_step.proofs.engine.Core.go_back.Goals as goal
 
 pub begin_again-requires : goal.begin_again-requires
@@ -41,13 +42,19 @@ unload-requires g c =
     let left = g.K.Keeper.records c.pop_idle.new.self in
     let taken : g.K.Keeper.records c.args.keeper.now ≡ Idle c.as_slice.result.now frames ∷ left =
     ap g.K.Keeper.records (sym c.in_default.ensures.1) ∙ k.ensures ∙ ap (λ (base : List ℕ). Idle base frames ∷ left) (sym c.as_slice.ensures.value) in
-    can_show c.args.self.now (g.K.Keeper.records c.args.keeper.now) left _ taken c.requires
+    can_hold_idle c.self.view_is (can_leave c.as_slice.result.now frames c.args.self.now (can_show c.args.self.now (g.K.Keeper.records c.args.keeper.now) left _ taken c.requires))
 
-pub returns-in-Some-pop_idle-clause-back : goal.returns-in-Some-pop_idle-clause-back
-returns-in-Some-pop_idle-clause-back g c =
+pub returns-in-Some-pop_idle : goal.returns-in-Some-pop_idle
+returns-in-Some-pop_idle g c =
     let k = c.in-Some-pop_idle in
     let frames = frames_in k.emptied.frames.items in
     let left = g.K.Keeper.records c.pop_idle.new.self in
     let taken : g.K.Keeper.records c.args.keeper.now ≡ Idle c.as_slice.result.now frames ∷ left =
     ap g.K.Keeper.records (sym c.in_default.ensures.1) ∙ k.ensures ∙ ap (λ (base : List ℕ). Idle base frames ∷ left) (sym c.as_slice.ensures.value) in
-    λ done. gone_back c.args.self.now (g.K.Keeper.records c.args.keeper.now) left _ taken c.requires c.unload.new.self.state left c.unload.ensures.state taken
+    let leave = can_leave c.as_slice.result.now frames c.args.self.now (can_show c.args.self.now (g.K.Keeper.records c.args.keeper.now) left _ taken c.requires) in
+    let back = goes_back_idle c.self.view_is leave c.unload.new.self c.unload.ensures in
+    record {
+      back = λ done. gone_back c.args.self.now (g.K.Keeper.records c.args.keeper.now) left _ taken c.requires _ left back.0 taken;
+      none = λ none. absurd (let unset : true ≡ false = none in cc);
+      room = back.1;
+    }

@@ -11,15 +11,15 @@ close-requires-clause-can g c = c.requires
 
 pub carry_out-requires-clause-moves : goal.carry_out-requires-clause-moves
 carry_out-requires-clause-moves g c =
-    is_move_unless c.args.self.now.state c.front_at-front.result c.eq.result (c.front_at-front.ensures ∙ ap front_of c.right.ensures.right ∙ ap (λ (m : Shown). front_of m.state.active) c.self.view_is) c.eq.ensures c.if-eq.false
+    is_move_unless c.args.self.now.state c.front-front.result c.eq.result (c.front-front.ensures ∙ ap (λ (m : Shown). front_of m.state.active) c.self.view_is) c.eq.ensures c.if-eq.false
 
 pub returns-then-not-move_fits : goal.returns-then-not-move_fits
 returns-then-not-move_fits g c =
-    let moves = is_move_unless c.args.self.now.state c.front_at-front.result c.eq.result (c.front_at-front.ensures ∙ ap front_of c.right.ensures.right ∙ ap (λ (m : Shown). front_of m.state.active) c.self.view_is) c.eq.ensures c.if-eq.false in
+    let moves = is_move_unless c.args.self.now.state c.front-front.result c.eq.result (c.front-front.ensures ∙ ap (λ (m : Shown). front_of m.state.active) c.self.view_is) c.eq.ensures c.if-eq.false in
     not_stepped (environment_of c.args.self.now.width c.args.tape) c.args.self.now (g.K.Keeper.records c.args.keeper.now) (g.K.Keeper.places c.args.keeper.now) moves c.if-not-move_fits.ensures
 
 pub returns : goal.returns
 returns g c =
-    let moves = is_move_unless c.args.self.now.state c.front_at-front.result c.eq.result (c.front_at-front.ensures ∙ ap front_of c.right.ensures.right ∙ ap (λ (m : Shown). front_of m.state.active) c.self.view_is) c.eq.ensures c.if-eq.false in
+    let moves = is_move_unless c.args.self.now.state c.front-front.result c.eq.result (c.front-front.ensures ∙ ap (λ (m : Shown). front_of m.state.active) c.self.view_is) c.eq.ensures c.if-eq.false in
     stepped (environment_of c.args.self.now.width c.args.tape) c.carry_out.result c.args.self.now c.carry_out.new.self (g.K.Keeper.records c.args.keeper.now) (g.K.Keeper.records c.carry_out.new.keeper)
     (g.K.Keeper.places c.args.keeper.now) moves c.if-not-move_fits.ensures c.carry_out.ensures

@@ -1,34 +1,27 @@
 use Rattle.std.proofs.Common.{ℕ, List, ◌∷◌, length, refl, sym, ap, ◌∙◌, subst, arith}
 use Rattle.std.specs.List.{concat}
-use Rattle.trac_rules.specs.Proper.{IsProper}
 use Rattle.trac_rules.specs.Records.{Record}
 use Rattle.trac_rules.specs.State.{State}
 use Rattle.trac_step.specs.Kept.{HasRoomForCall}
-use Rattle.trac_step.specs.Layout.{Shown, parts_of}
 use Rattle.trac_step.specs.Ready.{recorded_after, undone_after}
-use Rattle.trac_step.proofs.Beginnings.{some_frame}
+use Rattle.trac_text.proofs.Beginnings.{some_frame}
 use Rattle.trac_step.proofs.CallsPerformed.{can_change, can_end, ended_then, not_kept}
-use Rattle.trac_step.proofs.Finishing.{begun_here, given_here}
+use Rattle.trac_step.proofs.Finishing.{begins_here, given_here}
 use Rattle.trac_step.proofs.Fitting.{arguments_within}
-use Rattle.trac_step.proofs.Limited.{proper_of_sound}
 use Rattle.trac_step.proofs.Rooms.{no_less, no_less_then}
 use Rattle.trac_step.proofs.engine.Core.perform.Goals as goal
 
 pub arguments_at-arguments-requires : goal.arguments_at-arguments-requires
 arguments_at-arguments-requires g c =
-    let i = c.self.inside in
-    begun_here (parts_of (g.E.TwoEnds.ends i.text) (g.M.TwoEnds.ends i.marks) i.store i.meta i.trace i.position i.output) c.args.self.now c.args.plan.now.beginning c.self.invariant.sound c.self.view_is c.requires.ready.begins
+    begins_here c.self.view_is c.args.plan.now.beginning c.requires.ready.begins
 
 pub reserve_call-requires : goal.reserve_call-requires
 reserve_call-requires g c =
     let s = c.args.self.now.state in
     let b = c.args.plan.now.beginning in
-    let i = c.self.inside in
-    let p = parts_of (g.E.TwoEnds.ends i.text) (g.M.TwoEnds.ends i.marks) i.store i.meta i.trace i.position i.output in
     let ready = c.requires.ready in
-    let proper = subst IsProper (ap (λ (m : Shown). m.state) c.self.view_is) (proper_of_sound p c.self.invariant.sound) in
-    let within = arguments_within s ready.front (some_frame s.frames s.base b ready.begins) proper in
-    let given = c.arguments_at-arguments.ensures ∙ given_here p c.args.self.now b c.self.invariant.sound c.self.view_is ready.begins ready.front in
+    let within = arguments_within s ready.front (some_frame s.frames s.base b ready.begins) c.requires.proper in
+    let given = c.arguments_at-arguments.ensures ∙ given_here c.self.view_is ready.front in
     omega (arith, within.bytes, ap (λ (texts : List (List ℕ)). length (concat texts)) given)
 
 pub change_into-requires-clause-can : goal.change_into-requires-clause-can
@@ -36,10 +29,8 @@ change_into-requires-clause-can g c = can_change c.args.self.now.state c.make_ro
 
 pub change_into-requires-clause-room : goal.change_into-requires-clause-room
 change_into-requires-clause-room g c =
-    let i = c.self.inside in
-    let p = parts_of (g.E.TwoEnds.ends i.text) (g.M.TwoEnds.ends i.marks) i.store i.meta i.trace i.position i.output in
     let ready = c.requires.ready in
-    let given = c.arguments_at-arguments.ensures ∙ given_here p c.args.self.now c.args.plan.now.beginning c.self.invariant.sound c.self.view_is ready.begins ready.front in
+    let given = c.arguments_at-arguments.ensures ∙ given_here c.self.view_is ready.front in
     let kept = c.reserve_call.new.self in
     subst (λ (t : State). HasRoomForCall t c.args.plan.now.called (undone_after c.args.change.now t) (g.K.Keeper.records kept) g.K.Keeper.most (g.K.Keeper.has_room kept)) (sym c.make_room.ensures.state) (record {
       not_full = omega (arith, c.requires.not_full, ap (λ (records : List Record). length records) c.reserve_call.ensures.same);
