@@ -277,6 +277,6 @@ class Playing(Case):
         words = ["--quit"] if where.startswith("by-quit") else []
         words += ["--line", "x'"] if where.endswith("at-work") else []
         # (what a script begins in the background takes no interrupt, unless env says so)
-        command: list[Word] = ["env", "--default-signal=INT", TESTS / "support" / "interrupted", *words, *PLAY, self.file]
+        front: list[Word] = ["env", "--default-signal=INT", TESTS / "support" / "interrupted"]
         state = {"XDG_STATE_HOME": os.fspath(self.room / "state")}
-        self.ends(where, ran(command, env={**os.environ, **state}))
+        self.ends(where, ran([*front, *words, *PLAY, self.file], env={**os.environ, **state}))

@@ -106,8 +106,7 @@ make_folder() {
 # says what the programs are comes last: a program of which it does not tell is not run.
 keep_folder() {
     local status=$?
-    [ $status != 0 ] || { chmod 755 "$making"/trac{,-walk} && mv -f "$making"/trac{,-walk} "$out" &&
-        mv -f "$making/made.txt" "$out"; } || status=1
+    [ $status != 0 ] || { mv -f "$making"/trac{,-walk} "$out" && mv -f "$making/made.txt" "$out"; } || status=1
     rm -rf "$making"
     trap - INT TERM HUP
     return $status
@@ -126,7 +125,7 @@ take_released() {
         return 1
     }
     {
-        unpack "$making" || status=$?
+        (umask 022 && unpack "$making") || status=$?
         [ $status = 0 ] && is_sum "$making/trac" "$(released_sum trac)" &&
             is_sum "$making/trac-walk" "$(released_sum trac-walk)" &&
             (umask 022 && made "$(released_sums)" 2>/dev/null >"$making/made.txt")
@@ -157,7 +156,7 @@ built() {
 keep_built() {
     make_folder || return
     cp "$(built trac)" "$making/trac" && cp "$(built trac-walk)" "$making/trac-walk" &&
-        (umask 022 && made "$1" >"$making/made.txt")
+        chmod 755 "$making"/trac{,-walk} && (umask 022 && made "$1" >"$making/made.txt")
     keep_folder
 }
 

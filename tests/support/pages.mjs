@@ -100,6 +100,7 @@ class Shown {
         const came = await measure(this.engine, wanted.tape, wanted.isClosed, wanted.budget)
         this.run = this.runs.runOf(wanted, came)
         this.visit(this.run.end)
+        return this.run
     }
 
     visit(step) {
