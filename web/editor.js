@@ -74,7 +74,7 @@ export class Editor {
   typed() {
     clearTimeout(this.later);
     const { name, work, box: { value } } = this;
-    if (isTooMuch(value)) return this.put({ name, bytes: this.encoded(value), work });
+    if (value.length > MOST_EDITED) return this.put({ name, bytes: this.encoded(value), work });
     if (this.fixed) this.free();
     if (!isLong(value)) this.repaint();
     else this.later = setTimeout(() => this.repaint(), 150);
@@ -152,7 +152,8 @@ export class Editor {
     this.box.readOnly = true;
     this.kept = null;
     const [one, last, all] = [fixed.from + 1, fixed.to, fixed.bytes.length].map(grouped);
-    const said = fixed.isWhole ? fixed.why : `bytes ${one} to ${last} of ${all} are shown`;
+    const part = `bytes ${one} to ${last} of ${all} are shown`;
+    const said = fixed.isWhole ? fixed.why : fixed.why === WIDE ? `${part}: ${WIDE}` : part;
     byId("program-name").textContent = `${legible(this.name)} (for reading only: ${said})`;
   }
 

@@ -12,18 +12,21 @@ const NARROW = 1 << 12;
 
 // Signs that are laid out by those around them: they join, stand over others, or turn the direction. In a line of many
 // of them a browser looks at each with each.
-const JOINING = /[\u0300-\u036f\u0483-\u0489\u0590-\u1fff\u200b-\u20ff\ud800-\udfff\ufb1d-\ufeff]/;
+const JOINING = new RegExp(`[${[
+  "\\u0300-\\u036f\\u0483-\\u0489\\u0590-\\u1cff\\u1dc0-\\u1dff\\u200b-\\u200f\\u202a-\\u202e\\u2060-\\u206f",
+  "\\u20d0-\\u20ff\\u302a-\\u302f\\u3099\\u309a\\ua66f-\\ua67d\\ua800-\\uabff\\ud7b0-\\ud7ff\\ud802-\\ud807",
+  "\\ud81a\\ud81b\\ud838-\\ud83a\\udb40\\ufb1d-\\ufdff\\ufe00-\\ufe0f\\ufe20-\\ufe2f\\ufe70-\\ufeff",
+].join("")}]`, "g");
 
 /**
- * Whether a text has a line of more than 4,096 signs, of which some join: it would hold the page for minutes.
+ * Whether a text has a line of more than 4,096 signs that join: it would hold the page for seconds or minutes.
  * @param {string} text
  */
 export function isWide(text) {
-  if (text.length <= NARROW) return false;
   for (let from = 0, to; from < text.length; from = to + 1) {
     to = text.indexOf("\n", from);
     if (to < 0) to = text.length;
-    if (to - from > NARROW && JOINING.test(text.slice(from, to))) return true;
+    if (to - from > NARROW && (text.slice(from, to).match(JOINING)?.length ?? 0) > NARROW) return true;
   }
   return false;
 }

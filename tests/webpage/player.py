@@ -196,7 +196,9 @@ def check_wide(page: Deeds) -> None:
     lines of them, or a long one of letters, can be edited."""
     name, hebrew = "document.getElementById('program-name').textContent", "a\u05d0"
     for text, is_fixed in ((hebrew * 40000, True), ("\u0e01\u0e33" * 40000, True), ("e\u0301" * 40000, True),
-                           ((hebrew * 500 + "\n") * 80, False), ("\u00e9\u0416" * 20000, False)):
+                           ("a\uaa60\uaa7b" * 20000, True), ("\U00010900" * 20000, True),
+                           ((hebrew * 500 + "\n") * 80, False), ("\u00e9\u0416\u2019" * 20000, False),
+                           ("y" * 9000 + "\u05d0\U0001f600", False)):
         with tempfile.TemporaryDirectory(prefix="trac-webpage-test-") as room:
             path = os.path.join(room, "wide.trac")
             with open(path, "w", encoding="utf-8") as out:
@@ -205,9 +207,14 @@ def check_wide(page: Deeds) -> None:
             page.choose_file("#file", path)
             page.until(name + ".startsWith('wide.trac')", "it is opened")
         check(page.script("document.getElementById('source').readOnly") == is_fixed, ascii(text[:9]) + ": reading only")
-    page.script("(() => { const box = document.getElementById('source'); box.value = 'a\\u05d0'.repeat(40000); "
-                "box.dispatchEvent(new InputEvent('input')); })()")
-    check("of 120,000 are shown" in page.script(name), "what is typed is shown in a part: " + page.script(name))
+    # (Firefox gives a script no such paste)
+    held = page.script("(() => { const data = new DataTransfer(); "
+                       "data.setData('text/plain', 'a\\u05d0'.repeat(40000)); "
+                       "const paste = new ClipboardEvent('paste', {clipboardData: data, bubbles: true, "
+                       "cancelable: true}); document.getElementById('source').dispatchEvent(paste); "
+                       "return paste.clipboardData.getData('text/plain').length; })()")
+    want = "bytes 1 to 4,096 of 120,011 are shown: a line is too long for signs that join"
+    check(not held or want in page.script(name), "a paste of them is shown in a part: " + page.script(name))
 
 
 def check_unseen(page: Deeds) -> None:
