@@ -1,6 +1,6 @@
 //! A walker: a session whose way back never stops a walk, and where it stands.
-ghost use Rattle.std.specs.Prelude.{◌≡◌, ◌≤◌, ◌<◌, ◌⊎◌, ◌+◌, ◌++◌, ℕ, length, not, false, true, IfErr, IfOk, None, OnOk};
-ghost use Rattle.std.specs.Prelude.{Some};
+ghost use Rattle.std.specs.Prelude.{◌≡◌, ◌≤◌, ◌<◌, ◌⊎◌, ◌+◌, ◌++◌, ℕ, length, not, false, true, IfErr, IfOk, None};
+ghost use Rattle.std.specs.Prelude.{OnOk, Some};
 ghost use Rattle.trac_rules.specs.Session.{Step, repeated};
 ghost use Rattle.trac_rules.specs.State.{Tape};
 ghost use Rattle.trac_streams.specs.Escapes.{feed};

@@ -15,9 +15,9 @@ use trac_rules::width::Width;
 use trac_text::{Mark, Texts};
 
 /// A machine over lists with two ends, which hold its texts and marks. It is seen as the state that it shows, which is
-/// always a proper one; how wide its numbers are, which nothing changes; how many bytes of texts, how many marks and how
-/// many bytes of output it has room for without more memory; and the names under which it can put a form, and how many
-/// blocks it can add, without more memory; and those of the names that are recent, which `sweep_aged` leaves.
+/// always a proper one; how wide its numbers are, which nothing changes; how many bytes of texts, how many marks and
+/// how many bytes of output it has room for without more memory; and the names under which it can put a form, and how
+/// many blocks it can add, without more memory; and those of the names that are recent, which `sweep_aged` leaves.
 #[derive(Drop)]
 pub struct Core<E: TwoEnds<u8, A>, M: TwoEnds<Mark, A>, A: Allocator + Copy> {
     pub(crate) texts: Texts<E, M, A>,
