@@ -1,6 +1,6 @@
 -- The state before a step that was gone back over, and the state that its record restores.
 use Rattle.std.proofs.Common.{◌≡◌, refl, sym, ap, ◌∙◌, subst}
-use Rattle.std.specs.Prelude.{Option, Some, None, IsSome, IsSomeAnd}
+use Rattle.std.specs.Prelude.{Option, Some, None, IsSomeAnd}
 use Rattle.trac_rules.specs.Proper.{IsProper}
 use Rattle.trac_rules.specs.Records.{Record, restored, state_before}
 use Rattle.trac_rules.specs.State.{State}
@@ -36,8 +36,3 @@ module _ (r known : Record) (is : r ≡ known) (m : Shown) (room : IsSomeAnd (st
 
   pub known_goes_back : (s : State) → restored known m.state ≡ Some s → state_before r m.state ≡ Some s
   known_goes_back s back = before_is_restored r m m.state s room (ap (λ (x : Record). restored x m.state) is ∙ back)
-
--- what can be shown is there
-pub shown_is_some : (m : Shown) (o : Option State) → CanShow m o → IsSome o
-shown_is_some m None h = absurd h
-shown_is_some m (Some s) h = refl
