@@ -213,7 +213,7 @@ def check_wide(page: Deeds) -> None:
                        "const paste = new ClipboardEvent('paste', {clipboardData: data, bubbles: true, "
                        "cancelable: true}); document.getElementById('source').dispatchEvent(paste); "
                        "return paste.clipboardData.getData('text/plain').length; })()")
-    want = "bytes 1 to 4,096 of 120,011 are shown: a line is too long for signs that join"
+    want = "bytes 1 to 4,096 of 129,006 are shown: a line is too long for signs that join"
     check(not held or want in page.script(name), "a paste of them is shown in a part: " + page.script(name))
 
 
