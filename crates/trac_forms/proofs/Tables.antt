@@ -1,6 +1,6 @@
 -- Entries of a table, and the forms and names that they stand for.
 use Rattle.std.proofs.Common.{◌≡◌, ℕ, zero, suc, ◌+◌, ◌-◌, ◌<◌, ◌≤◌, get_or, take, Bool, true, false, cond, ◌||◌, List, [], ◌∷◌, ◌++◌, length, map, position, refl, sym, ap, subst, ◌∙◌, arith, ⊎_elim, is_some, filter, IsSome}
-use Rattle.std.specs.Prelude.{Option, None, Some, IfNone, IfSome, option_map, slice_get}
+use Rattle.std.specs.Prelude.{Option, None, Some, option_map, slice_get}
 use Rattle.std.specs.Cmp.Lexicographic.{slice_cmp, nat_list_cmp_total, nat_list_eq_equiv}
 use Rattle.std.specs.FinMap as finite
 use Rattle.std.specs.FinSet as set
@@ -427,15 +427,6 @@ module _ (es : Entries) (bs : Kept) (s : Stored) (is : stored es bs ≡ s) where
   -- how many forms there are
   pub counted : IsDistinct bytes_eq (keys_of es) → finite.len s.forms ≡ length (filter (λ e. is_some e.1) es)
   counted apart = ap (λ (t : Stored). finite.len t.forms) (sym is) ∙ len-forms_of es apart
-
--- what follows holds where nothing is there, and what holds anyway holds where something is
-pub if_none : {R : Type 0} (P Q : Type 0) (o : Option R) → (P → Q) → IfNone o P → IfNone o Q
-if_none P Q None so h = so h
-if_none P Q (Some r) so h = h
-
-pub if_some : {R : Type 0} (P : Type 0) (o : Option R) → P → IfSome o (λ _. P)
-if_some P None h = tt
-if_some P (Some r) h = h
 
 -- ---- after the calls
 

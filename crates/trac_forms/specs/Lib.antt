@@ -7,4 +7,3 @@ pub mod Listed
 -- How forms and stores are kept.
 pub mod Layout
 pub mod Table
-pub mod Names

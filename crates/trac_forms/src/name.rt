@@ -1,10 +1,9 @@
 //! The names by which a store finds its forms.
-ghost use Rattle.std.specs.Prelude.{◌≡◌, ◌<◌, ◌≤◌, length, IfNone, IfOk, IfSome, IsOkUnless};
+ghost use Rattle.std.specs.Prelude.{◌≡◌, IfOk, IsOkUnless};
 ghost use Rattle.std.proofs.Common.{ap};
 ghost use Rattle.std.specs.Cmp.{partial_equiv_from_equiv};
 ghost use Rattle.std.specs.Cmp.Lexicographic.{bytes_decides, nat_list_eq_equiv};
 ghost use Rattle.std.specs.Hash as fed;
-ghost use Rattle.std.specs.Arc.{arc_slice_items};
 ghost use Rattle.std.specs.Str.{bytes_eq};
 
 use crate::error::FormError;
@@ -12,36 +11,22 @@ use indexmap::Equivalent;
 use std::alloc::Allocator;
 use std::hash::{Hash, Hasher};
 use std::marker::Model;
-use std::sync::ArcSlice;
 
-// The most bytes of a name that a store has for itself.
-const SHORT_NAME: usize = 256;
-
-/// A name that a store knows. One of more than 256 bytes can be owned together with the store: so it is kept while the
-/// store changes, and no memory is taken for a copy. It is seen as its bytes.
+/// A name that a store knows. It is seen as its bytes.
 #[derive(Drop)]
 pub(crate) struct Name<A: Allocator + Copy> {
-    bytes: Bytes<A>,
-}
-
-#[derive(Drop)]
-pub(crate) enum Bytes<A: Allocator + Copy> {
-    Own(Vec<u8, A>),
-    Shared(ArcSlice<u8, A>),
+    bytes: Vec<u8, A>,
 }
 
 impl<A: Allocator + Copy> Model for Name<A> {
     ghost use Rattle.std.specs.Prelude.{ℕ, List};
     ghost use Rattle.trac_rules.specs.Codes.{text_code};
-    ghost use Rattle.trac_forms.specs.Names.{name_bytes, IsOwned};
 
     ghost Value = { List ℕ };
 
     ghost coded = { text_code };
 
-    ghost view = { λ name. name_bytes name.bytes };
-
-    ghost invariant = { λ name. IsOwned name.bytes };
+    ghost view = { λ name. name.bytes.items };
 }
 
 impl<A: Allocator + Copy> Name<A> {
@@ -50,11 +35,7 @@ impl<A: Allocator + Copy> Name<A> {
         ensures name { IfOk result (λ name. name ≡ bytes.now) }
         ensures err { IsOkUnless result FormError.Memory }
     {
-        let bytes = if bytes.len() <= SHORT_NAME {
-            Bytes::Own(Vec::from_slice(alloc, bytes)?)
-        } else {
-            Bytes::Shared(ArcSlice::from_slice(alloc, bytes)?)
-        };
+        let bytes = Vec::from_slice(alloc, bytes)?;
         Ok(Name { bytes })
     }
 
@@ -62,22 +43,7 @@ impl<A: Allocator + Copy> Name<A> {
     pub(crate) fn as_slice(&self) -> &[u8]
         ensures { result.now ≡ self.now }
     {
-        match &self.bytes {
-            Bytes::Own(bytes) => bytes.as_slice(),
-            Bytes::Shared(bytes) => bytes.as_slice(),
-        }
-    }
-
-    /// Its bytes, to be owned together, if it has more than 256.
-    pub(crate) fn shared(&self) -> Option<&ArcSlice<u8, A>>
-        ensures own { IfNone result (length self.now ≤ 256) }
-        ensures bytes { IfSome result (λ bytes. arc_slice_items bytes.now ≡ self.now) }
-        ensures long { IfSome result (λ _. 256 < length self.now) }
-    {
-        match &self.bytes {
-            Bytes::Own(_) => None,
-            Bytes::Shared(bytes) => Some(bytes),
-        }
+        self.bytes.as_slice()
     }
 }
 

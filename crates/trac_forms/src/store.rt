@@ -1,6 +1,6 @@
 //! The forms by their names, and the blocks.
 ghost use Rattle.std.specs.Prelude.{◌≡◌, ◌+◌, ◌-◌, ◌^◌, ◌<◌, ◌≤◌, ◌++◌, ◌∷◌, [], is_some, length, map, nat_lt};
-ghost use Rattle.std.specs.Prelude.{option_map, slice_get, slice_set, take, true, vec_capacity, vec_len, IfNone, IfOk};
+ghost use Rattle.std.specs.Prelude.{option_map, slice_get, slice_set, take, true, vec_capacity, vec_len, IfOk};
 ghost use Rattle.std.specs.Prelude.{IfSome, IsOk, IsOkUnless, IsTrue, MatchOption, None, OnErr, OnOk, Some};
 ghost use Rattle.std.specs.Prelude.{ℕ, max, min};
 ghost use Rattle.std.specs.FinMap as finite;
@@ -8,7 +8,6 @@ ghost use Rattle.std.specs.FinSet as set;
 ghost use Rattle.std.specs.List.{swap};
 ghost use Rattle.std.specs.List.Sorted.{IsPermutation};
 ghost use Rattle.std.specs.Option.{option_copied, option_flatten};
-ghost use Rattle.std.specs.Arc.{arc_slice_items};
 ghost use Rattle.std.specs.Str.{bytes_eq};
 ghost use Rattle.indexmap.specs.IndexMap.{get_by, index_map_len, set_value_at, values, IsUnique};
 ghost use Rattle.trac_rules.specs.Blocks.{block_at};
@@ -31,7 +30,6 @@ use indexmap::IndexMap;
 use std::alloc::{Allocator, Global};
 use std::hash::{BuildHasher, BuildHasherDefault, FoldHasher, Hash};
 use std::marker::Model;
-use std::sync::ArcSlice;
 use trac_items::Texts;
 
 /// The table of a store: a name has an entry from the call of `know` on until it is swept, and a form in it while it
@@ -120,18 +118,6 @@ impl<A: Allocator + Copy> Store<A> {
         // For the clause `sound`: what is true of the items of every form.
         let _ = &form.items;
         Some(form)
-    }
-
-    /// The bytes of this name, if it is known and has more than 256: they can be owned together with the store, and so
-    /// be kept while it changes. It takes no memory.
-    pub fn shared_name(&self, name: &[u8]) -> Option<&ArcSlice<u8, A>>
-        ensures none { IfNone result (IsTrue (set.contains self.now.known name.now) → length name.now ≤ 256) }
-        ensures bytes { IfSome result (λ shared. arc_slice_items shared.now ≡ name.now) }
-        ensures long { IfSome result (λ _. 256 < length name.now) }
-        ensures known { IfSome result (λ _. IsTrue (set.contains self.now.known name.now)) }
-    {
-        let (key, _form) = self.table.get_key_value(name)?;
-        key.shared()
     }
 
     /// The names of the forms, rising by their bytes. Names without a form are not among them. Refused with `Memory` if

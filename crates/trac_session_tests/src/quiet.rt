@@ -43,8 +43,7 @@ fn arguments_lent<E: TwoEnds<u8, A>, M: TwoEnds<Mark, A>, A: Allocator + Copy>(
 fn forms_lent<A: Allocator + Copy>(store: &Store<A>) -> usize {
     let form = store.get(b"A").map_or(0, |form| form.len());
     let block = store.block(0).map_or(0, |block| block.len());
-    let shared = store.shared_name(b"A").is_some();
-    form | block | shared as usize | store.form_count()
+    form | block | store.form_count()
 }
 
 /// How much the machine of a session lends: texts, arguments and forms.
