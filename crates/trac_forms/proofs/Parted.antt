@@ -1,5 +1,5 @@
 -- Tables of which the entries with a value come first.
-use Rattle.std.proofs.Common.{◌≡◌, ℕ, zero, suc, ◌+◌, ◌-◌, ◌<◌, ◌≤◌, Bool, true, false, cond, ltb, eqb, List, [], ◌∷◌, ◌++◌, length, map, get_or, set, swap, take, position, refl, sym, ap, subst, ◌∙◌, arith, is_some, filter, ⊎_elim}
+use Rattle.std.proofs.Common.{◌≡◌, ℕ, zero, suc, ◌+◌, ◌-◌, ◌<◌, ◌≤◌, Bool, true, false, cond, ltb, eqb, List, [], ◌∷◌, ◌++◌, length, map, get_or, set, swap, take, position, refl, sym, ap, ◌∙◌, arith, is_some, filter, ⊎_elim}
 use Rattle.std.specs.Prelude.{Option, None, Some}
 use Rattle.std.specs.Map.{keys_of, values_of, set_value}
 use Rattle.std.specs.List.{position_or_len}

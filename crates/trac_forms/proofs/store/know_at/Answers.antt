@@ -1,13 +1,12 @@
 -- A name is known where it has an entry, and a new one gets the last; it is put among the recent ones then.
-use Rattle.std.proofs.Common.{◌≡◌, ℕ, ◌+◌, ◌-◌, ◌≤◌, ◌∷◌, [], length, length-append, max, min, position, refl, sym, ap, subst, ◌∙◌, true, arith}
+use Rattle.std.proofs.Common.{◌≡◌, ◌-◌, ◌∷◌, [], length, length-append, position, sym, ap, subst, ◌∙◌, arith}
 use Rattle.std.specs.Prelude.{None, Some}
 use Rattle.std.specs.Cmp.Lexicographic.{nat_list_eq_equiv}
 use Rattle.std.specs.FinSet as set
 use Rattle.std.specs.Map.{keys_of}
 use Rattle.std.specs.Str.{bytes_eq}
-use Rattle.std.proofs.lemmas.Bool.{false≢true}
 use Rattle.trac_forms.specs.Stored.{Names, Stored}
-use Rattle.trac_forms.specs.Table.{IsParted, Kept, known_of, stored}
+use Rattle.trac_forms.specs.Table.{IsParted, known_of, stored}
 use Rattle.trac_forms.proofs.Parted.{new_last, parted_push}
 use Rattle.trac_forms.proofs.Recents.{more_inside, more_mark, parted_recent, recent_at, stored_recent}
 use Rattle.trac_forms.proofs.Tables.{added_known, contains-known_of, known_again}

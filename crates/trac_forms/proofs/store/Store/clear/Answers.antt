@@ -1,7 +1,4 @@
-use Rattle.std.proofs.Common.{ap, length, arith}
-use Rattle.std.proofs.lemmas.List.{length-map}
-use Rattle.std.specs.Prelude.{None, Option}
-use Rattle.trac_rules.specs.Form.{Form}
+use Rattle.std.proofs.Common.{arith}
 use Rattle.trac_forms.proofs.Tables.{cleared}
 use Rattle.trac_forms.proofs.store.Store.clear.Goals as goal
 

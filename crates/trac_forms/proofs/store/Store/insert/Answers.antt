@@ -1,5 +1,5 @@
 -- The name has an entry among the recent ones, which is written.
-use Rattle.std.proofs.Common.{ap, sym, ◌∙◌, length, arith}
+use Rattle.std.proofs.Common.{ap, sym, ◌∙◌, arith}
 use Rattle.std.specs.Prelude.{Some}
 use Rattle.indexmap.proofs.MapLemmas.{Found-position}
 use Rattle.std.proofs.lemmas.List.Sorted.{length_permutation}

@@ -1,5 +1,4 @@
 use Rattle.std.proofs.Common.{arith, [], List, ℕ}
-use Rattle.std.specs.Prelude.{Option}
 use Rattle.trac_rules.specs.Form.{Form}
 use Rattle.trac_forms.proofs.Parted.{parted_none}
 use Rattle.trac_forms.proofs.store.Store.new.Goals as goal

@@ -1,5 +1,5 @@
 -- What is taken at the name's entry, if there is one, which may change its place.
-use Rattle.std.proofs.Common.{sym, ◌∙◌, length, arith}
+use Rattle.std.proofs.Common.{sym, ◌∙◌, arith}
 use Rattle.std.specs.Prelude.{None, Some}
 use Rattle.indexmap.specs.Layout.{length-set_value_at}
 use Rattle.std.proofs.lemmas.List.Sorted.{length_permutation}
