@@ -3,7 +3,7 @@ use Rattle.std.proofs.Common.{◌≡◌, ℕ, zero, suc, ◌+◌, ◌-◌, ◌<�
 use Rattle.std.specs.Prelude.{Option, None, Some, option_map, nat_lt}
 use Rattle.std.specs.List.{position, position_or_len}
 use Rattle.std.proofs.lemmas.Bool.{cases_lt, eq-eqb, false_from_ne_true, cond-true, cond-false, eqb-true, lt-ltb, ltb-true}
-use Rattle.std.proofs.lemmas.List.{append_assoc, append-nil, drop_more, take_more, take_all, take-append-drop, take-append-le, drop-append-le, length-append}
+use Rattle.std.proofs.lemmas.List.{append_assoc, append-nil, take_more, take_all, take-append-drop, take-append-le, drop-append-le, length-append}
 use Rattle.std.proofs.lemmas.List.Sums.{position_or_len_is}
 use Rattle.std.proofs.Math.Seq.{take-append_seam, drop-append_seam, take-append-add}
 use Rattle.trac_rules.specs.declared.item.Item.{Item}
@@ -80,16 +80,9 @@ module _ (form : Form) (piece : Measured) where
 pub count_next : (items : List Item) (i : ℕ) (d : Item) → i < length items → count (take (i + 1) items) ≡ count (take i items) + count (get_or items i d ∷ [])
 count_next items i d l = ap count (take_more items i d l) ∙ count-append (take i items) (get_or items i d ∷ [])
 
-pub count_rest : (items : List Item) (i : ℕ) (d : Item) → i < length items → count (drop i items) ≡ count (get_or items i d ∷ []) + count (drop (i + 1) items)
-count_rest items i d l = ap count (drop_more items i d l) ∙ count-append (get_or items i d ∷ []) (drop (i + 1) items)
-
 pub count_gap : (item : Item) → is_gap item ≡ true → count (item ∷ []) ≡ 0
 count_gap (Byte b) e = cc
 count_gap (Gap ordinal width) e = refl
-
-pub count_byte : (item : Item) → is_gap item ≡ false → count (item ∷ []) ≡ 1
-count_byte (Byte b) e = refl
-count_byte (Gap ordinal width) e = cc
 
 -- the first items have no more bytes than more of them
 pub count_grows : (items : List Item) (j k : ℕ) → j ≤ k → count (take j items) ≤ count (take k items)

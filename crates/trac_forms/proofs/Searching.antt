@@ -2,16 +2,19 @@
 use Rattle.std.proofs.Common.{◌≡◌, ℕ, suc, ◌+◌, ◌-◌, ◌<◌, ◌≤◌, true, false, List, [], ◌∷◌, ◌++◌, length, take, drop, get_or, refl, sym, ap, subst, ◌∙◌, arith, ⊎_elim}
 use Rattle.std.specs.Prelude.{IfSome, None, Option, Some, option_map, ◌==◌}
 use Rattle.std.proofs.lemmas.Bool.{and_from, and_parts, cases_lt, eq-eqb, eqb-true, false≢true, false_from_ne_true}
-use Rattle.std.proofs.lemmas.List.{drop-append-le, drop-drop, drop-map, drop_more, length-append, length-drop, length-map, length-take-le, take-append-drop, take-append-le, take-map}
+use Rattle.std.proofs.lemmas.List.{append_assoc, drop-append-le, drop-drop, drop-map, drop_more, length-append, length-drop, length-map, length-take-le, map-append, take-append-drop, take-append-le, take-map, take_rest}
 use Rattle.std.proofs.lemmas.List.Prefix.{at_from_reads}
 use Rattle.std.proofs.Math.Seq.{take-add}
 use Rattle.memchr.specs.Find.{FindsNeedle, OccursAt}
 use Rattle.trac_rules.specs.declared.item.Item.{Item}
 use Rattle.trac_rules.specs.declared.item.Item.TheVariants.{Byte, Gap}
+use Rattle.trac_rules.specs.Cuts.{begins_with_gap}
 use Rattle.trac_rules.specs.Form.{as_items}
-use Rattle.trac_rules.specs.Pieces.{begin_with, is_gap, place_of_text}
+use Rattle.trac_rules.specs.Pieces.{begin_with, bytes_in, is_gap, place_of_text}
+use Rattle.trac_rules.specs.Weights.{gap_count}
 use Rattle.trac_rules.proofs.Balanced.{first_place_none, first_place_some}
 use Rattle.trac_forms.specs.declared.piece.Reached.{Reached}
+use Rattle.trac_items.proofs.ByteRuns.{plain_count, run_items}
 use Rattle.trac_items.proofs.Cuts.{occurs_in}
 use Rattle.trac_forms.proofs.Passing.{count, count-append, count_gap, count_next}
 
@@ -171,3 +174,39 @@ count_over_gap text items start run i within rest other here =
     gap_from_no_byte : (item : Item) → ((b : ℕ) → item ≡ Byte b → ⊥) → is_gap item ≡ true
     gap_from_no_byte (Byte b) other = absurd (other b refl)
     gap_from_no_byte (Gap ordinal width) other = refl
+
+-- ---- more of a run is read
+
+-- so many bytes of what is left after the first items
+pub run_read : (items : List Item) (start passed read : ℕ) (run newer : List ℕ) → passed ≤ length items → read ≤ length (take (length items - passed) (drop passed items)) →
+    gap_count (take read (take (length items - passed) (drop passed items))) ≡ 0 → newer ≡ run ++ bytes_in (take read (take (length items - passed) (drop passed items))) →
+    drop start items ≡ as_items run ++ drop passed items → (passed + read ≤ length items) × (length newer ≡ length run + read) × (drop start items ≡ as_items newer ++ drop (passed + read) items)
+run_read items start passed read run newer inside within plain put so = (
+  omega (arith, inside, within, ap length left, length-drop passed items),
+  omega (arith, ap length put, length-append run bytes, plain_count (take read rest) plain, length-take-le read rest within),
+  so
+      ∙ ap (λ (xs : List Item). as_items run ++ xs)
+      (sym (take-append-drop read (drop passed items)) ∙ ap (λ (xs : List Item). take read (drop passed items) ++ xs) (drop-drop read passed items)
+      ∙ ap (λ (xs : List Item). take read xs ++ drop (passed + read) items) (sym left)
+      ∙ ap (λ (xs : List Item). xs ++ drop (passed + read) items) (sym (run_items (take read rest) plain)))
+      ∙ sym (append_assoc (as_items run) (as_items bytes) (drop (passed + read) items))
+      ∙ ap (λ (xs : List Item). xs ++ drop (passed + read) items) (sym (map-append Byte run bytes))
+      ∙ ap (λ (r : List ℕ). as_items r ++ drop (passed + read) items) (sym put),
+)
+  where
+    rest : List Item
+    rest = take (length items - passed) (drop passed items)
+
+    bytes : List ℕ
+    bytes = bytes_in (take read rest)
+
+    left : rest ≡ drop passed items
+    left = take_rest items passed
+
+-- where a gap comes next no byte does
+pub no_byte_next : (items rest : List Item) (passed : ℕ) → passed < length items → rest ≡ drop passed items → begins_with_gap rest ≡ true → (b : ℕ) → get_or items passed (Byte 0) ≡ Byte b → ⊥
+no_byte_next items rest passed l is gap b byte =
+    false≢true
+    (ap (λ (item : Item). begins_with_gap (item ∷ drop (passed + 1) items)) (sym byte)
+    ∙ ap begins_with_gap (sym (drop_more items passed (Byte 0) l) ∙ sym is)
+    ∙ gap)

@@ -6,7 +6,7 @@ ghost use Rattle.trac_rules.specs.Filling.{all_filled, called, filled, text_numb
 use crate::error::FormError;
 use crate::form::Form;
 use std::alloc::Allocator;
-use trac_items::{PackedItem, Texts, run_into, run_len, text_within};
+use trac_items::{PackedItem, Texts, first_run_into, run_len, text_within};
 use trac_rules::item::Item;
 use trac_rules::limit::TEXT_LIMIT;
 
@@ -83,10 +83,9 @@ fn fill_all_into<T: Texts, B: Allocator>(
 {
     let mut rest = items;
     'runs: loop {
-        let (run, after) = rest.split_at(run_len(rest));
-        out.reserve(run.len())?;
-        run_into(run, out);
-        let Some((item, after)) = after.split_first() else {
+        out.reserve(rest.len())?;
+        let run = first_run_into(rest, out);
+        let Some((item, after)) = rest.split_at(run).1.split_first() else {
             return Ok(());
         };
         fill_into(*item, args, out)?;

@@ -1,12 +1,14 @@
 //! Reading a form at its pointer: what is given, and where the pointer goes. A pointer before a gap and one after it
 //! are two places. Each call is measured before anything is built or moved.
 ghost use Rattle.std.specs.Prelude.{◌≡◌, ◌+◌, ◌-◌, ◌^◌, ◌++◌, ◌∷◌, [], ◌≤◌, ◌<◌, length, take, drop, position};
-ghost use Rattle.std.specs.Prelude.{option_map, IfOk, IfSome, OnOk, OnErr, IsOkUnless};
+ghost use Rattle.std.specs.Prelude.{option_map, true, vec_capacity, vec_len, IfOk, IfSome, OnOk, OnErr, IsOkUnless};
 ghost use Rattle.memchr.specs.Find.{FindsNeedle};
+ghost use Rattle.trac_rules.specs.Cuts.{begins_with_gap};
 ghost use Rattle.trac_rules.specs.Fronts.{IsFrontOf};
 ghost use Rattle.trac_rules.specs.Pieces.{at_most_all, bytes_in, char_read, count_read, is_gap, last_bytes, next_bytes};
 ghost use Rattle.trac_rules.specs.Pieces.{place_before, place_after, place_of_text, segment_items, segment_read};
 ghost use Rattle.trac_rules.specs.Pieces.{until_read};
+ghost use Rattle.trac_rules.specs.Weights.{gap_count};
 ghost use Rattle.trac_forms.specs.Taken.{IsThere, taken};
 
 use crate::error::FormError;
@@ -14,8 +16,7 @@ use crate::form::Form;
 use memchr::memmem::{Finder, find};
 use std::alloc::Allocator;
 use trac_gap::TwoEnds;
-use trac_items::{After, PackedItem, run_len};
-use trac_rules::item::Item;
+use trac_items::{After, PackedItem, first_run_into, last_run_len, run_len};
 
 /// What a call reads of a form, measured: its bytes are the first `len` from the lesser of the form's and the piece's
 /// pointer on, with gaps passed and not given.
@@ -134,6 +135,7 @@ impl<A: Allocator + Copy> Form<A> {
     }
 
     // The next `n` bytes, or as many as there are.
+    #[inline(always)]
     fn read_next(&self, n: usize) -> Option<Piece>
         requires { 0 < n }
         ensures read { option_map (λ p. taken p self.now) result ≡ next_bytes n self.now }
@@ -216,6 +218,7 @@ fn reach(after: &After<'_>, n: usize) -> Reached
 }
 
 // The same among items.
+#[inline(always)]
 fn reach_among(items: &[PackedItem], n: usize) -> Reached
     ensures place { Some result.items ≡ place_after (at_most_all n items.now) items.now }
     ensures bytes { result.bytes ≡ at_most_all n items.now }
@@ -224,17 +227,20 @@ fn reach_among(items: &[PackedItem], n: usize) -> Reached
 {
     let mut reached = Reached { items: 0, bytes: 0 };
     let mut passed = 0;
-    for item in items {
+    'runs: while passed < items.len() {
         if reached.bytes == n {
             return reached;
         }
-        passed += 1;
-        if item.is_gap() {
+        let most = (n - reached.bytes).min(items.len() - passed);
+        let run = run_len(&items[passed..passed + most]);
+        if run == 0 {
+            passed += 1;
             continue;
         }
+        passed += run;
         reached = Reached {
             items: passed,
-            bytes: reached.bytes + 1,
+            bytes: reached.bytes + run,
         };
     }
     reached
@@ -251,17 +257,21 @@ fn reach_back(items: &[PackedItem], n: usize) -> Reached
         items: items.len(),
         bytes: 0,
     };
-    for passed in 0..items.len() {
+    let mut place = items.len();
+    'runs: while 0 < place {
         if reached.bytes == n {
             return reached;
         }
-        let place = items.len() - passed - 1;
-        if items[place].is_gap() {
+        let most = (n - reached.bytes).min(place);
+        let run = last_run_len(&items[place - most..place]);
+        if run == 0 {
+            place -= 1;
             continue;
         }
+        place -= run;
         reached = Reached {
             items: place,
-            bytes: reached.bytes + 1,
+            bytes: reached.bytes + run,
         };
     }
     reached
@@ -310,17 +320,18 @@ fn search<A: Allocator>(
 {
     // where the run begins, and how many bytes stand before it
     let mut start = Reached { items: 0, bytes: 0 };
-    for item in items {
-        if let Item::Byte(b) = item.item() {
-            // Searched each time before its room doubles: so it is read at most about twice as far as the text stands,
-            // and searched about twice in all, however much is left of it.
-            if run.len() == run.capacity() {
-                if let Some(at) = place_in_run(finder, run.as_slice(), start) {
-                    return Ok(Some(at));
-                }
-                run.reserve(run.len().max(FIRST_ROOM))?;
+    let mut passed = 0;
+    'runs: while passed < items.len() {
+        // Searched each time before its room doubles: so it is read at most about twice as far as the text stands, and
+        // searched about twice in all, however much is left of it.
+        if run.len() == run.capacity() {
+            if let Some(at) = place_in_run(finder, run.as_slice(), start) {
+                return Ok(Some(at));
             }
-            run.push_reserved(b);
+        }
+        let read = read_run(&items[passed..], run)?;
+        if read > 0 {
+            passed += read;
             continue;
         }
         if let Some(at) = place_in_run(finder, run.as_slice(), start) {
@@ -332,8 +343,35 @@ fn search<A: Allocator>(
             bytes: start.bytes + run.len(),
         };
         run.clear();
+        passed += 1;
     }
     Ok(place_in_run(finder, run.as_slice(), start))
+}
+
+// Puts the bytes with which these items begin at the end of a run, as many as it has room for, and returns how many. If
+// it has none, it gets room for as many again. None are put only if there are none.
+fn read_run<A: Allocator>(items: &[PackedItem], run: &mut Vec<u8, A>) -> Result<usize, FormError>
+    ensures within { IfOk result (λ read. read ≤ length items.now) }
+    ensures bytes { IfOk result (λ read. gap_count (take read items.now) ≡ 0) }
+    ensures gap { IfOk result (λ read. read ≡ 0 → 0 < length items.now → begins_with_gap items.now ≡ true) }
+    ensures put { IfOk result (λ read. run.new.items ≡ run.old.items ++ bytes_in (take read items.now)) }
+    ensures err { IsOkUnless result FormError.Memory }
+{
+    make_room(run)?;
+    let room = run.capacity() - run.len();
+    Ok(first_run_into(&items[..room.min(items.len())], run))
+}
+
+// Makes room for as many more bytes of a run as it has, if it has room for none.
+fn make_room<A: Allocator>(run: &mut Vec<u8, A>) -> Result<(), FormError>
+    ensures room { OnOk result (vec_len run.new < vec_capacity run.new) }
+    ensures items { OnOk result (run.new.items ≡ run.old.items) }
+    ensures err { IsOkUnless result FormError.Memory }
+{
+    if run.len() < run.capacity() {
+        return Ok(());
+    }
+    Ok(run.reserve(run.len().max(FIRST_ROOM))?)
 }
 
 // The first place of a text in a run of bytes that begins at `start`, if it occurs there.
@@ -352,6 +390,7 @@ fn place_in_run(finder: &Finder<'_>, run: &[u8], start: Reached) -> Option<Reach
 }
 
 // Puts the first `most` bytes of these items, or as many as there are, at the end of `out`, and returns how many.
+#[inline(always)]
 fn first_bytes_into<B: Allocator>(
     items: &[PackedItem],
     most: usize,
@@ -362,16 +401,22 @@ fn first_bytes_into<B: Allocator>(
     ensures left { OnErr result (IsFrontOf out.old.items out.new.items) }
     ensures err { IsOkUnless result FormError.Memory }
 {
-    out.reserve(most.min(items.len()))?;
     let mut put = 0;
-    for item in items {
+    let mut passed = 0;
+    'runs: while passed < items.len() {
         if put == most {
             return Ok(put);
         }
-        if let Item::Byte(b) = item.item() {
-            out.push_reserved(b);
-            put += 1;
+        let more = (most - put).min(items.len() - passed);
+        let part = &items[passed..passed + more];
+        out.reserve(part.len())?;
+        let run = first_run_into(part, out);
+        if run == 0 {
+            passed += 1;
+            continue;
         }
+        passed += run;
+        put += run;
     }
     Ok(put)
 }

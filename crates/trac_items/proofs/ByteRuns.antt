@@ -1,9 +1,10 @@
 -- Runs of bytes among items.
-use Rattle.std.proofs.Common.{◌≡◌, ℕ, zero, suc, ◌+◌, ◌<◌, ◌≤◌, Bool, true, List, [], ◌∷◌, ◌++◌, length, take, drop, get_or, false, refl, sym, ap, ◌∙◌, arith}
+use Rattle.std.proofs.Common.{◌≡◌, ℕ, zero, suc, ◌+◌, ◌<◌, ◌≤◌, Bool, true, List, [], ◌∷◌, ◌++◌, length, take, drop, get_or, false, refl, sym, ap, ◌-◌, ◌∙◌, arith}
 use Rattle.std.specs.Prelude.{◌||◌, Some, slice_get}
 use Rattle.std.proofs.lemmas.Grind.{flat_map-append}
-use Rattle.std.proofs.lemmas.List.{append_assoc, drop_more, length-append, take_more}
+use Rattle.std.proofs.lemmas.List.{append_assoc, drop_more, length-append, length-drop, length-take-le, take_more}
 use Rattle.std.proofs.lemmas.Option.{same_Some}
+use Rattle.std.proofs.Math.Seq.{take-add}
 use Rattle.trac_rules.specs.declared.item.Item.{Item}
 use Rattle.trac_rules.specs.declared.item.Item.TheVariants.{Byte, Gap}
 use Rattle.trac_rules.specs.Cuts.{begins_with_gap}
@@ -54,44 +55,66 @@ module _ (items : List Item) (n m : ℕ) (item : Item) (e : m ≡ n + 1) (l : n 
   gap_met true before h = omega (arith, one_more, before refl)
   gap_met false before h = omega (arith, one_more, one_gap item h)
 
--- a run in two parts
-module _ (run front left : List Item) (seam : run ≡ front ++ left) where
-  pub front_plain : gap_count run ≡ 0 → gap_count front ≡ 0
-  front_plain none = omega (arith, ap gap_count seam, gap_count-append front left, none)
+-- an item more before those after it
+module _ (items : List Item) (n m : ℕ) (item : Item) (e : m ≡ n + 1) (l : n < length items) (is : item ≡ get_or items n item) where
+  one_before : gap_count (drop n items) ≡ gap_count (item ∷ []) + gap_count (drop m items)
+  one_before =
+      ap gap_count (drop_more items n item l) ∙ gap_count-append (get_or items n item ∷ []) (drop (n + 1) items)
+      ∙ ap (λ (x : Item). gap_count (x ∷ []) + gap_count (drop (n + 1) items)) (sym is) ∙ ap (λ k. gap_count (item ∷ []) + gap_count (drop k items)) (sym e)
 
-  pub rest_plain : gap_count run ≡ 0 → gap_count left ≡ 0
-  rest_plain none = omega (arith, ap gap_count seam, gap_count-append front left, none)
+  pub byte_before : gap_count (drop m items) ≡ 0 → is_gap item ≡ false → gap_count (drop n items) ≡ 0
+  byte_before behind h = omega (arith, one_before, behind, no_gap item h)
 
-  -- the bytes of the first part are put
-  pub front_put : (old new : List ℕ) → new ≡ old ++ bytes_in front → new ++ bytes_in left ≡ old ++ bytes_in run
-  front_put old new put =
-      ap (λ (xs : List ℕ). xs ++ bytes_in left) put ∙ append_assoc old (bytes_in front) (bytes_in left)
-      ∙ ap (λ (xs : List ℕ). old ++ xs) (sym (ap bytes_in seam ∙ flat_map-append byte_of front left))
+  pub gap_before : is_gap item ≡ true → 0 < gap_count (drop n items)
+  gap_before h = omega (arith, one_before, one_gap item h)
 
--- what is left of a run comes after the bytes so far, and there is room for it
-pub record IsLeft (run rest : List Item) (old new : List ℕ) (len capacity : ℕ) : Type 0 where
-  pub put : new ++ bytes_in rest ≡ old ++ bytes_in run
-  pub bytes : gap_count rest ≡ 0
-  pub room : len + length rest ≤ capacity
+-- the first items are bytes and are put, and there is room for the others
+pub record IsRead (items : List Item) (run : ℕ) (old new : List ℕ) (len capacity : ℕ) : Type 0 where
+  pub within : run ≤ length items
+  pub bytes : gap_count (take run items) ≡ 0
+  pub put : new ≡ old ++ bytes_in (take run items)
+  pub room : len + (length items - run) ≤ capacity
 
--- some bytes more of it are put
-pub chunk_put : (run rest chunk after : List Item) (old new newer : List ℕ) (len capacity longer room : ℕ) → IsLeft run rest old new len capacity → rest ≡ chunk ++ after → newer ≡ new ++ bytes_in chunk →
-    longer ≡ len + length chunk → capacity ≤ room → IsLeft run after old newer longer room
-chunk_put run rest chunk after old new newer len capacity longer room left seam put counted stays = record {
-  put = front_put rest chunk after seam new newer put ∙ left.put;
-  bytes = rest_plain rest chunk after seam left.bytes;
-  room = omega (arith, left.room, counted, stays, ap length seam, length-append chunk after);
-}
+module _ (items : List Item) (run : ℕ) (old new : List ℕ) (len capacity : ℕ) (read : IsRead items run old new len capacity) where
+  module _ (k : ℕ) where
+    more_gaps : gap_count (take (run + k) items) ≡ gap_count (take run items) + gap_count (take k (drop run items))
+    more_gaps = ap gap_count (take-add run k items) ∙ gap_count-append (take run items) (take k (drop run items))
 
--- one item more of it is a byte, and is put
-module _ (run rest : List Item) (old new : List ℕ) (len capacity i : ℕ) (item : Item) (l : i < length rest) (left : IsLeft run (drop i rest) old new len capacity) where
-  pub left_byte : is_gap (get_or rest i item) ≡ false
-  left_byte = is_byte (get_or rest i item) (front_plain (drop i rest) (get_or rest i item ∷ []) (drop (i + 1) rest) (drop_more rest i item l) left.bytes)
+    -- and are put, if they are bytes
+    pub read_more : (part : List Item) (newer : List ℕ) (longer room : ℕ) → part ≡ take k (drop run items) → run + k ≤ length items → gap_count part ≡ 0 →
+        newer ≡ new ++ bytes_in part → longer + (length items - (run + k)) ≤ room → IsRead items (run + k) old newer longer room
+    read_more part newer longer room is fits plain put left = record {
+      within = fits;
+      bytes = omega (arith, more_gaps, read.bytes, ap gap_count is, plain);
+      put =
+          put ∙ ap (λ (xs : List ℕ). xs ++ bytes_in part) read.put ∙ append_assoc old (bytes_in (take run items)) (bytes_in part)
+          ∙ ap (λ (xs : List Item). old ++ (bytes_in (take run items) ++ bytes_in xs)) is
+          ∙ ap (λ (xs : List ℕ). old ++ xs) (sym (flat_map-append byte_of (take run items) (take k (drop run items))) ∙ ap bytes_in (sym (take-add run k items)));
+      room = left;
+    }
 
-  pub byte_put : (b : ℕ) (newer : List ℕ) (longer room : ℕ) → get_or rest i item ≡ Byte b → newer ≡ new ++ b ∷ [] → longer ≡ len + 1 → capacity ≤ room → IsLeft run (drop (i + 1) rest) old newer longer room
-  byte_put b newer longer room is put counted stays =
-      chunk_put run (drop i rest) (Byte b ∷ []) (drop (i + 1) rest) old new newer len capacity longer room left
-      (drop_more rest i item l ∙ ap (λ (x : Item). x ∷ drop (i + 1) rest) is) put counted stays
+    -- so many without a gap
+    module _ (none : gap_count (take (run + k) items) ≡ 0) where
+      chunk_is : take (run + k - run) (drop run items) ≡ take k (drop run items)
+      chunk_is = ap (λ j. take j (drop run items)) (let same : run + k - run ≡ k = omega arith in same)
+
+      pub chunk_plain : gap_count (take (run + k - run) (drop run items)) ≡ 0
+      chunk_plain = omega (arith, ap gap_count chunk_is, more_gaps, none)
+
+      pub chunk_read : (newer : List ℕ) (longer room : ℕ) → run + k ≤ length items → newer ≡ new ++ bytes_in (take (run + k - run) (drop run items)) →
+          longer ≡ len + length (take (run + k - run) (drop run items)) → capacity ≤ room → IsRead items (run + k) old newer longer room
+      chunk_read newer longer room fits put counted stays =
+          read_more (take (run + k - run) (drop run items)) newer longer room chunk_is fits chunk_plain put
+          (omega (arith, read.room, counted, stays, fits, ap length chunk_is, length-take-le k (drop run items) (omega (arith, fits, length-drop run items))))
+
+  -- one byte more
+  pub byte_read : (item : Item) (b : ℕ) (newer : List ℕ) (longer room : ℕ) → run < length items → item ≡ get_or items run item → item ≡ Byte b → newer ≡ new ++ b ∷ [] → longer ≡ len + 1 → capacity ≤ room →
+      IsRead items (run + 1) old newer longer room
+  byte_read item b newer longer room l is byte put counted stays =
+      read_more 1 (Byte b ∷ []) newer longer room (sym byte_one) (omega (arith, l)) refl put (omega (arith, read.room, counted, stays, l))
+    where
+      byte_one : take 1 (drop run items) ≡ Byte b ∷ []
+      byte_one = ap (take 1) (drop_more items run item l) ∙ ap (λ (x : Item). x ∷ []) (sym is ∙ byte)
 
 -- neither of two
 pub neither : (a b : Bool) → (a || b) ≡ false → (a ≡ false) × (b ≡ false)

@@ -9,7 +9,7 @@ mod run_gaps;
 mod text_lists;
 
 pub use after::{After, text_within};
-pub use byte_runs::{run_into, run_len};
+pub use byte_runs::{first_run_into, last_run_len, run_len};
 pub use packed::PackedItem;
 pub use run_gaps::{RunGap, cut_run};
 pub use text_lists::Texts;

@@ -1,13 +1,14 @@
-use Rattle.std.proofs.Common.{◌≡◌, ◌+◌, ◌++◌, ◌≤◌, length, min, take}
-use Rattle.std.specs.Vec.{vec_capacity, vec_len}
+use Rattle.std.proofs.Common.{◌≡◌, ◌-◌, ◌++◌, ◌≤◌, length, take}
 use Rattle.trac_rules.specs.Pieces.{bytes_in}
 use Rattle.trac_forms.proofs.piece.first_bytes_into.Given as goal
 
-abbrev pub invariant-loop-item : goal.invariant-loop-item
-invariant-loop-item g l = record {
-  put : l.put ≡ length (bytes_in (take l.item-index l.items));
+abbrev pub invariant-runs : goal.invariant-runs
+invariant-runs g l = record {
+  within : l.passed ≤ length l.items;
+  put : l.put ≡ length (bytes_in (take l.passed l.items));
   most : l.put ≤ l.most;
-  passed : l.put ≤ l.item-index;
-  added : l.out.items ≡ l.fn.out.items ++ bytes_in (take l.item-index l.items);
-  room : vec_len l.out + min l.most (length l.items) ≤ vec_capacity l.out + l.put;
+  added : l.out.items ≡ l.fn.out.items ++ bytes_in (take l.passed l.items);
 }
+
+abbrev pub decreases-runs : goal.decreases-runs
+decreases-runs g l = length l.items - l.passed
