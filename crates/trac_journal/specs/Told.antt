@@ -1,10 +1,10 @@
 -- What a record says, and of what kind the newest is.
 use Rattle.std.specs.Prelude.{◌≡◌, ℕ, ◌+◌, ◌<◌, ◌^◌, List, [], ◌∷◌}
-use Rattle.trac_rules.specs.Records.{CallRecord, Record, Moved, Comma, Begun, Quoted, Deleted, Idle, Called}
+use Rattle.trac_rules.specs.Records.{CallRecord, Record, Moved, Idle, Called}
 use Rattle.trac_rules.specs.Undone as rules
 use Rattle.trac_journal.specs.declared.called.Called as code
-use Rattle.trac_journal.specs.declared.called.Short.{Short}
-use Rattle.trac_journal.specs.declared.called.Short.TheVariants as short
+use Rattle.trac_text.specs.declared.scanning.Short.{Short}
+use Rattle.trac_text.specs.declared.scanning.Short.TheVariants as short
 
 -- the record of a call of these arguments, from what it destroyed of forms and blocks, and what is said beside them
 abbrev pub record_with : code.Called → List (List ℕ) → rules.Undone → CallRecord
@@ -20,15 +20,7 @@ record_with called arguments undone = record {
   undone = undone;
 }
 
--- a short record, read as one of the rules
-abbrev pub said_by : Short → Record
-said_by short.Moved = Moved
-said_by short.Comma = Comma
-said_by short.Begun = Begun
-said_by (short.Quoted inner closed) = Quoted inner closed
-said_by (short.Deleted b) = Deleted b
-
--- a number that it names fits 32 bits
+-- a number that a short record names fits 32 bits
 abbrev pub FitsEntry : Short → Type 0
 FitsEntry (short.Quoted inner closed) = inner < 2 ^ 32
 FitsEntry other = Unit {0}

@@ -29,24 +29,3 @@ pub struct LentCall<'a> {
     /// Its arguments, where they are kept.
     pub arguments: PiecesRef<'a>,
 }
-
-/// The record of a step that performs no function and does not empty the texts: small, copied
-/// freely, and it owns no memory.
-#[derive(Clone, Copy)]
-pub enum Short {
-    /// A byte went to the current text.
-    Moved,
-    /// An argument was finished, and an empty one begun.
-    Comma,
-    /// A function was begun.
-    Begun,
-    /// A protected text went to the current text.
-    Quoted {
-        /// How many bytes it has.
-        inner: usize,
-        /// Whether a match of its `(` was deleted.
-        closed: bool,
-    },
-    /// This byte was deleted.
-    Deleted(u8),
-}

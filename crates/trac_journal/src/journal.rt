@@ -8,10 +8,11 @@ ghost use Rattle.trac_rules.specs.Records.{Moved};
 ghost use Rattle.trac_rules.specs.Weights.{meta_weight, undone_weight, weight};
 ghost use Rattle.trac_journal.specs.Journaled.{HasPlaceForCall, HasPlaceForIdle};
 ghost use Rattle.trac_journal.specs.Listed.{newest_in, nothing_listed, IsBrief};
-ghost use Rattle.trac_journal.specs.Told.{said_by, sum_by, IsMovedFirst};
+ghost use Rattle.trac_journal.specs.Told.{sum_by, IsMovedFirst};
 ghost use Rattle.trac_change.specs.Undone.{undone_in};
+ghost use Rattle.trac_text.specs.Ruled.{said_by};
 
-use crate::called::{Called, LentCall, Short};
+use crate::called::{Called, LentCall};
 use crate::emptied::Emptied;
 use crate::entry::{Entry, Kept};
 use crate::keeper::Keeper;
@@ -22,7 +23,7 @@ use std::marker::Model;
 use std::mem;
 use trac_change::Undone;
 use trac_rules::refusal::Refusal;
-use trac_text::{Args, Functions};
+use trac_text::{Args, Functions, Short};
 
 /// What the steps of a machine destroyed, a record for each: seen as the list of the rules' records, the newest first,
 /// and beside it how much room there is for more. Bytes that were moved one after another are kept as their number, and

@@ -3,18 +3,19 @@ ghost use Rattle.std.specs.Prelude.{◌≡◌, ◌<◌, ◌≤◌, ◌^◌, ◌�
 ghost use Rattle.std.specs.List.{concat};
 ghost use Rattle.trac_rules.specs.Records.{Called as CallOf, Idle, Moved, Record};
 ghost use Rattle.trac_text.specs.Pieces.{all_texts, frames_in};
+ghost use Rattle.trac_text.specs.Ruled.{said_by};
 ghost use Rattle.trac_change.specs.Undone.{undone_in};
 ghost use Rattle.trac_journal.specs.Journaled.{IsLight};
 ghost use Rattle.trac_journal.specs.Listed.{AreSmall};
-ghost use Rattle.trac_journal.specs.Told.{record_with, said_by, FitsEntry, HasCallFirst, HasCallOut, IsCallFirst};
+ghost use Rattle.trac_journal.specs.Told.{record_with, FitsEntry, HasCallFirst, HasCallOut, IsCallFirst};
 ghost use Rattle.trac_journal.specs.Told.{IsIdleFirst, IsShortFirst};
 
-use crate::called::{Called, LentCall, Short};
+use crate::called::{Called, LentCall};
 use crate::emptied::Emptied;
 use std::alloc::Allocator;
 use trac_change::Undone;
 use trac_rules::refusal::Refusal;
-use trac_text::{Args, Functions};
+use trac_text::{Args, Functions, Short};
 
 /// Keeps the records of steps, the newest first, up to a number of them.
 ///

@@ -12,7 +12,7 @@ pub mod journal;
 pub mod keeper;
 pub mod lists;
 
-pub use called::{Called, LentCall, Short};
+pub use called::{Called, LentCall};
 pub use dropping::Passed;
 pub use emptied::Emptied;
 pub use emptied_weight::{weigh_functions, weigh_pieces};

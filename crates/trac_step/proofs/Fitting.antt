@@ -22,10 +22,11 @@ use Rattle.trac_rules.proofs.CallsBack.{record_leads_back}
 use Rattle.trac_rules.proofs.CallsWeighed.{record_within}
 use Rattle.trac_text.specs.Frames.{all_arguments}
 use Rattle.trac_journal.specs.declared.called.Called as code
-use Rattle.trac_journal.specs.declared.called.Short.{Short}
-use Rattle.trac_journal.specs.declared.called.Short.TheVariants as short
 use Rattle.trac_journal.specs.Journaled.{IsLight}
-use Rattle.trac_journal.specs.Told.{FitsEntry, record_with, said_by}
+use Rattle.trac_journal.specs.Told.{FitsEntry, record_with}
+use Rattle.trac_text.specs.Ruled.{said_by}
+use Rattle.trac_text.specs.declared.scanning.Short.{Short}
+use Rattle.trac_text.specs.declared.scanning.Short.TheVariants as short
 use Rattle.trac_step.specs.Calling.{IsMove, arguments_in}
 use Rattle.trac_step.specs.Kept.{FitsJournal, IsAdded, IsKept}
 use Rattle.trac_text.proofs.ScanningBack.{then_is}

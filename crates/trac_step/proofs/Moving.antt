@@ -2,28 +2,28 @@
 use Rattle.std.proofs.Common.{◌≡◌, ℕ, suc, ◌+◌, ◌<◌, ◌≤◌, List, [], ◌∷◌, length, take, drop, refl, sym, ap, ◌∙◌, subst, arith, true, false, Bool, inl, inr}
 use Rattle.std.specs.Prelude.{Option, Some, None, nat_lt}
 use Rattle.std.proofs.lemmas.Option.{none-some}
-use Rattle.std.proofs.lemmas.Bool.{ltb-false, leb-true}
 use Rattle.std.proofs.lemmas.Bool.Decides.{leb_tells}
 use Rattle.std.proofs.lemmas.List.{length-append, length-take, length-drop}
 use Rattle.trac_rules.specs.declared.kind.Kind.{Kind}
 use Rattle.trac_rules.specs.declared.kind.Kind.TheVariants.{Active, Neutral}
 use Rattle.trac_rules.specs.declared.limit.TheConstants.{MARK_LIMIT, OUTPUT_LIMIT, TEXT_LIMIT}
-use Rattle.trac_rules.specs.declared.scan.Front.{Front}
-use Rattle.trac_rules.specs.declared.scan.Front.TheVariants.{Nothing, Opening, Layout, Comma, ActiveCall, NeutralCall, Sharp, Closing, Plain}
 use Rattle.trac_rules.specs.State.{Frame, State}
 use Rattle.trac_rules.specs.Matching.{protected}
-use Rattle.trac_rules.specs.Performing.{placed}
-use Rattle.trac_rules.specs.Scanning.{Moves, front_of, scan, scan_at, deleted, comma_in, closing_in, gather, gathered_in}
+use Rattle.trac_rules.specs.Performing.{beginning_of, placed}
+use Rattle.trac_rules.specs.Records.{texts_in}
+use Rattle.trac_rules.specs.Scanning.{Moves, scan, deleted, comma_in, closing_in, gather, gathered_in}
 use Rattle.trac_rules.specs.Limits.{argument_bytes, texts_fit, marks, text_bytes}
 use Rattle.trac_rules.specs.Proper.{IsProper}
 use Rattle.trac_rules.proofs.Bounded.{total_length-append}
-use Rattle.trac_step.specs.Calling.{IfMoves, IsMove, with_mark}
-use Rattle.trac_text.specs.Moving.{adds_mark}
+use Rattle.trac_step.specs.Calling.{IfMoves, with_mark}
+use Rattle.trac_text.specs.Ruled.{makes_mark, rule_of}
+use Rattle.trac_text.specs.declared.scanning.Rule.{Rule}
+use Rattle.trac_text.specs.declared.scanning.Rule.TheVariants.{Restart, Protect, Delete, Begin, NextArgument, Gather, Perform}
 use Rattle.trac_text.proofs.Protected.{protected_length}
+use Rattle.trac_text.proofs.Ruled.{begins_by, scan_rule, scanned_by}
 use Rattle.trac_storage.proofs.Judged.{limits_kept}
 use Rattle.trac_step.proofs.Limited.{beyond_limits_of_marks, fits_deleted, within_limits}
 use Rattle.trac_step.proofs.Recorded.{argument_marks}
-use Rattle.trac_step.proofs.Scans.{is_move, scan_front}
 
 -- ---- sizes
 
@@ -50,6 +50,22 @@ placed_longer Neutral false value s = gathered_longer s.frames value s refl
 pub one_mark_more : (frame : Option Kind) (n : ℕ) (s : State) → (frame ≡ None → 0 < length s.frames) → marks (with_mark frame (deleted n s)).frames ≡ marks s.frames + 1
 one_mark_more (Some kind) n s inside = omega arith
 one_mark_more None n s inside = argument_marks s.frames (deleted n s) (inside refl)
+
+-- what a rule that makes a mark does: so many bytes are deleted, and the mark is of this function or, if none is named, of a further argument
+pub record MakesMark (s : State) : Type 0 where
+  pub frame : Option Kind
+  pub bytes : ℕ
+  pub inside : frame ≡ None → 0 < length s.frames
+  pub moves : scan s ≡ Moves (with_mark frame (deleted bytes s))
+
+pub mark_of : (s : State) (rule : Rule) → rule ≡ rule_of (texts_in s) → makes_mark rule ≡ true → MakesMark s
+mark_of s (Begin kind) next e = record { frame = Some kind; bytes = length (beginning_of kind); inside = (λ h. absurd (none-some _ (sym h))); moves = scan_rule s (Begin kind) next }
+mark_of s NextArgument next e = record { frame = None; bytes = 1; inside = (λ h. (begins_by (texts_in s) NextArgument next).1); moves = scan_rule s NextArgument next }
+mark_of s Restart next e = absurd (let unset : false ≡ true = e in cc)
+mark_of s Protect next e = absurd (let unset : false ≡ true = e in cc)
+mark_of s Delete next e = absurd (let unset : false ≡ true = e in cc)
+mark_of s Gather next e = absurd (let unset : false ≡ true = e in cc)
+mark_of s Perform next e = absurd (let unset : false ≡ true = e in cc)
 
 -- ---- whether the state that scanning moves on to is within the limits
 
@@ -85,63 +101,31 @@ module _ (s : State) (proper : IsProper s) where
           by_frames [] = (limits_kept s proper.texts).output
           by_frames (f ∷ fs) = (limits_kept s proper.texts).output
 
-  limited_without_mark : (front : Front) → adds_mark front (marks s.frames) ≡ false → IfMoves (scan_at front s) (λ t. true ≡ texts_fit t)
-  limited_without_mark Nothing e = let kept = limits_kept s proper.texts in sym (within_limits _ (omega arith) (omega arith) kept.output)
-  limited_without_mark Opening e = gathered_limited (protected (drop 1 s.active)).rest (protected (drop 1 s.active)).inner (omega (arith, protected_length (drop 1 s.active), length-drop 1 s.active))
-  limited_without_mark Layout e = fits_deleted s proper
-  limited_without_mark Comma e = by_frames s.frames refl (ltb-false 0 (marks s.frames) e)
-    where
-      by_frames : (fs : List Frame) → s.frames ≡ fs → marks s.frames ≤ 0 → true ≡ texts_fit (comma_in fs (deleted 1 s))
-      by_frames [] is none = fits_deleted s proper
-      by_frames (f ∷ fs) is none = absurd (omega (arith, none, ap marks is))
-  limited_without_mark ActiveCall e = absurd (let unset : true ≡ false = e in cc)
-  limited_without_mark NeutralCall e = absurd (let unset : true ≡ false = e in cc)
-  limited_without_mark Sharp e = first_limited
-  limited_without_mark Closing e = by_frames s.frames
+  -- where the rule makes no mark, it is
+  limited_by : (rule : Rule) → makes_mark rule ≡ false → IfMoves (scanned_by rule s) (λ t. true ≡ texts_fit t)
+  limited_by Restart e = let kept = limits_kept s proper.texts in sym (within_limits _ (omega arith) (omega arith) kept.output)
+  limited_by Protect e = gathered_limited (protected (drop 1 s.active)).rest (protected (drop 1 s.active)).inner (omega (arith, protected_length (drop 1 s.active), length-drop 1 s.active))
+  limited_by Delete e = fits_deleted s proper
+  limited_by (Begin kind) e = absurd (let unset : true ≡ false = e in cc)
+  limited_by NextArgument e = absurd (let unset : true ≡ false = e in cc)
+  limited_by Gather e = first_limited
+  limited_by Perform e = by_frames s.frames
     where
       by_frames : (fs : List Frame) → IfMoves (closing_in fs (deleted 1 s)) (λ u. true ≡ texts_fit u)
       by_frames [] = fits_deleted s proper
       by_frames (f ∷ fs) = tt
-  limited_without_mark Plain e = first_limited
 
-  limited_with_mark : (front : Front) → adds_mark front (marks s.frames) ≡ true → IfMoves (scan_at front s) (λ t. nat_lt (marks s.frames) MARK_LIMIT ≡ texts_fit t)
-  limited_with_mark Comma e = marked_limited None 1 (λ _. some s.frames (leb-true 1 (marks s.frames) e))
-    where
-      some : (fs : List Frame) → 0 < marks fs → 0 < length fs
-      some [] h = absurd (omega (arith, h))
-      some (f ∷ fs) h = omega arith
-  limited_with_mark ActiveCall e = marked_limited (Some Active) 2 (λ h. absurd (none-some _ (sym h)))
-  limited_with_mark NeutralCall e = marked_limited (Some Neutral) 3 (λ h. absurd (none-some _ (sym h)))
-  limited_with_mark Nothing e = absurd (let unset : false ≡ true = e in cc)
-  limited_with_mark Opening e = absurd (let unset : false ≡ true = e in cc)
-  limited_with_mark Layout e = absurd (let unset : false ≡ true = e in cc)
-  limited_with_mark Sharp e = absurd (let unset : false ≡ true = e in cc)
-  limited_with_mark Closing e = absurd (let unset : false ≡ true = e in cc)
-  limited_with_mark Plain e = absurd (let unset : false ≡ true = e in cc)
+  module _ (rule : Rule) (next : rule ≡ rule_of (texts_in s)) where
+    pub move_without_mark : makes_mark rule ≡ false → IfMoves (scan s) (λ t. true ≡ texts_fit t)
+    move_without_mark e = subst (λ x. IfMoves x (λ t. true ≡ texts_fit t)) (sym (scan_rule s rule next)) (limited_by rule e)
 
-  pub move_without_mark : (front : Front) → front ≡ front_of s.active → adds_mark front (marks s.frames) ≡ false → IfMoves (scan s) (λ t. true ≡ texts_fit t)
-  move_without_mark front at e = subst (λ x. IfMoves x (λ t. true ≡ texts_fit t)) (sym (scan_front s front (sym at))) (limited_without_mark front e)
-
-  pub move_with_mark : (front : Front) → front ≡ front_of s.active → adds_mark front (marks s.frames) ≡ true → IfMoves (scan s) (λ t. nat_lt (marks s.frames) MARK_LIMIT ≡ texts_fit t)
-  move_with_mark front at e = subst (λ x. IfMoves x (λ t. nat_lt (marks s.frames) MARK_LIMIT ≡ texts_fit t)) (sym (scan_front s front (sym at))) (limited_with_mark front e)
+    pub move_with_mark : makes_mark rule ≡ true → IfMoves (scan s) (λ t. nat_lt (marks s.frames) MARK_LIMIT ≡ texts_fit t)
+    move_with_mark e =
+        let mark = mark_of s rule next e in
+        subst (λ x. IfMoves x (λ t. nat_lt (marks s.frames) MARK_LIMIT ≡ texts_fit t)) (sym mark.moves) (marked_limited mark.frame mark.bytes mark.inside)
 
 -- ---- what the outcome says of the state before
 
 -- scanning moves on to this state, so a fact of it holds
 pub of_moves : (s t : State) (P : State → Type 0) → scan s ≡ Moves t → IfMoves (scan s) P → P t
 of_moves s t P e h = subst (λ x. IfMoves x P) e h
-
--- a `)` is deleted where no function is begun, or where scanning is known to move on
-pub closing_outside : (s : State) → front_of s.active ≡ Closing → s.frames ≡ [] → IsMove (scan s)
-closing_outside s is none = is_move s Closing (sym is) (λ _. none)
-
-pub closing_move : (s : State) → front_of s.active ≡ Closing → IsMove (scan s) → scan s ≡ Moves (deleted 1 s)
-closing_move s e moves = scan_front s Closing e ∙ closing_by s.frames (subst IsMove (scan_front s Closing e) moves)
-  where
-    closing_by : (fs : List Frame) → IsMove (closing_in fs (deleted 1 s)) → closing_in fs (deleted 1 s) ≡ Moves (deleted 1 s)
-    closing_by [] h = refl
-    closing_by (f ∷ fs) h = absurd h
-
--- and then the state is within the limits still
-pub closing_fits : (s : State) → IsProper s → front_of s.active ≡ Closing → s.frames ≡ [] → IfMoves (scan s) (λ t. true ≡ texts_fit t)
-closing_fits s proper is none = subst (λ x. IfMoves x (λ t. true ≡ texts_fit t)) (sym (closing_move s is (closing_outside s is none))) (fits_deleted s proper)

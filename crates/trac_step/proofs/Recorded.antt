@@ -1,5 +1,5 @@
 -- What a step of scanning keeps, and when it lacks room.
-use Rattle.std.proofs.Common.{◌≡◌, ◌+◌, ◌<◌, ◌≤◌, List, [], ◌∷◌, length, get_or, refl, sym, ap, subst, ◌∙◌, arith}
+use Rattle.std.proofs.Common.{◌≡◌, ◌+◌, ◌<◌, ◌≤◌, List, [], ◌∷◌, length, refl, sym, ap, subst, ◌∙◌, arith}
 use Rattle.std.proofs.lemmas.List.{length-append}
 use Rattle.std.proofs.lemmas.Result.{on_ok_weaker}
 use Rattle.std.specs.Prelude.{Some, Result, Ok, Err, IfOk, OnOk}
@@ -7,7 +7,7 @@ use Rattle.trac_rules.specs.declared.refusal.Refusal.{Refusal}
 use Rattle.trac_rules.specs.declared.scan.Front.{Front}
 use Rattle.trac_rules.specs.declared.scan.Front.TheVariants as front
 use Rattle.trac_rules.specs.Limits.{marks}
-use Rattle.trac_rules.specs.Records.{CallRecord, Record, Called, Deleted, record_in, record_of, recorded, recorded_at, rest_before, rest_of, state_before, texts_before, texts_in}
+use Rattle.trac_rules.specs.Records.{CallRecord, Record, Called, record_in, record_of, recorded, recorded_at, rest_before, rest_of, state_before, texts_before, texts_in}
 use Rattle.trac_rules.specs.Scanning.{Scanned, Calls, Moves, closing_in, comma_in, deleted, front_of, scan}
 use Rattle.trac_rules.specs.State.{Environment, Frame, State, storage_of}
 use Rattle.trac_rules.specs.Stepping.{step}
@@ -28,10 +28,6 @@ use Rattle.trac_step.proofs.Scans.{scan_front}
 -- the record is that of the front
 pub recorded_front : (s : State) (at : Front) → front_of s.active ≡ at → recorded s ≡ recorded_at at s
 recorded_front s at is = ap (λ (f : Front). recorded_at f s) is
-
--- a `)` outside any function is deleted
-pub closing_kept : (s : State) → front_of s.active ≡ front.Closing → recorded s ≡ Deleted (get_or s.active 0 0)
-closing_kept s is = recorded_front s front.Closing is
 
 -- the record of a rule that moves on is that of the rules
 pub move_recorded : (e : Environment) (s : State) → IsMove (scan s) → record_of e s ≡ Some (recorded s)

@@ -28,11 +28,3 @@ module _ (r : Record) (m : Shown) (t : State) where
   -- and what is restored is the state before
   pub before_is_restored : (s : State) → IsSomeAnd (state_before r t) (λ s. HasRoom m s) → restored r t ≡ Some s → state_before r t ≡ Some s
   before_is_restored s h back = by_before (state_before r t ≡ Some s) (λ u e room. e ∙ sym (restored_of_before r u t e).0 ∙ back) h
-
--- the same of a record that is known to be this one
-module _ (r known : Record) (is : r ≡ known) (m : Shown) (room : IsSomeAnd (state_before r m.state) (λ s. HasRoom m s)) where
-  pub can_show_known : CanShow m (restored known m.state)
-  can_show_known = subst (λ (x : Record). CanShow m (restored x m.state)) is (can_show_before r m m.state room)
-
-  pub known_goes_back : (s : State) → restored known m.state ≡ Some s → state_before r m.state ≡ Some s
-  known_goes_back s back = before_is_restored r m m.state s room (ap (λ (x : Record). restored x m.state) is ∙ back)

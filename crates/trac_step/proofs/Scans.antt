@@ -1,14 +1,16 @@
 -- What scanning says of a state, from what its active text begins with.
-use Rattle.std.proofs.Common.{◌≡◌, ◌<◌, List, [], ◌∷◌, length, refl, sym, ap, ◌∙◌, subst, arith, true, false, not, Bool}
-use denote.Enum.Bare.{sameb}
-use Rattle.std.proofs.lemmas.Bool.{eqb-true}
-use Rattle.std.specs.Prelude.{◌==◌, None}
-use Rattle.trac_rules.specs.contracts.scan.Front.{the_type}
+use Rattle.std.proofs.Common.{◌≡◌, [], refl, sym, ap, subst}
+use Rattle.std.specs.Prelude.{None}
 use Rattle.trac_rules.specs.declared.scan.Front.{Front}
 use Rattle.trac_rules.specs.declared.scan.Front.TheVariants.{Nothing, Opening, Layout, Comma, ActiveCall, NeutralCall, Sharp, Closing, Plain}
 use Rattle.trac_rules.specs.Goals.{call_asked, next_call}
-use Rattle.trac_rules.specs.State.{Frame, State}
+use Rattle.trac_rules.specs.Records.{texts_in}
+use Rattle.trac_rules.specs.State.{State}
 use Rattle.trac_rules.specs.Scanning.{Scanned, Moves, Calls, front_of, scan, scan_at, closing_in, deleted}
+use Rattle.trac_text.specs.Ruled.{IsShort, rule_of}
+use Rattle.trac_text.specs.declared.scanning.Rule.{Rule}
+use Rattle.trac_text.specs.declared.scanning.Rule.TheVariants.{Restart, Protect, Delete, Begin, NextArgument, Gather, Perform}
+use Rattle.trac_text.proofs.Ruled.{scan_rule, scanned_by}
 use Rattle.trac_step.specs.Calling.{IsMove}
 
 pub scan_front : (s : State) (front : _) → front_of s.active ≡ front → scan s ≡ scan_at front s
@@ -33,19 +35,28 @@ is_move s front at none = subst IsMove (sym (scan_front s front (sym at))) (move
     move_at Sharp none = tt
     move_at Plain none = tt
 
--- so where a test for a `)` says no
-pub is_move_unless : (s : State) (front : Front) (b : Bool) → front ≡ front_of s.active → b ≡ sameb the_type front Closing → b ≡ false → IsMove (scan s)
-is_move_unless s front b at is unset = is_move s front at (λ same. absurd (let set : true ≡ false = sym (ap (λ f. sameb the_type f Closing) same) ∙ sym is ∙ unset in cc))
+-- and where the rule that comes next performs no function
+pub is_move_by : (s : State) (rule : Rule) → rule ≡ rule_of (texts_in s) → (rule ≡ Perform → ⊥) → IsMove (scan s)
+is_move_by s rule next other = subst IsMove (sym (scan_rule s rule next)) (move_by rule other)
+  where
+    move_by : (rule : Rule) → (rule ≡ Perform → ⊥) → IsMove (scanned_by rule s)
+    move_by Restart other = tt
+    move_by Protect other = tt
+    move_by Delete other = tt
+    move_by (Begin kind) other = tt
+    move_by NextArgument other = tt
+    move_by Gather other = tt
+    move_by Perform other = absurd (other refl)
 
--- where there are none, no function is begun
-pub no_frames : (fs : List Frame) (b : Bool) → b ≡ (length fs == 0) → b ≡ true → fs ≡ []
-no_frames [] b is h = refl
-no_frames (f ∷ fs) b is h = absurd (let some : 0 < length (f ∷ fs) = omega arith in let none : length (f ∷ fs) ≡ 0 = eqb-true (length (f ∷ fs)) 0 (sym is ∙ h) in omega (arith, some, none))
-
--- and where there are some, one is
-pub some_frames : (fs : List Frame) (b : Bool) → b ≡ (length fs == 0) → not b ≡ true → 0 < length fs
-some_frames [] b is h = absurd (let none : not b ≡ false = ap not is in cc)
-some_frames (f ∷ fs) b is h = omega arith
+-- and what it destroys is short, where it does not empty the texts
+pub short_unless : (rule : Rule) → (rule ≡ Restart → ⊥) → (rule ≡ Perform → ⊥) → IsShort rule
+short_unless Restart first other = first refl
+short_unless Protect first other = tt
+short_unless Delete first other = tt
+short_unless (Begin kind) first other = tt
+short_unless NextArgument first other = tt
+short_unless Gather first other = tt
+short_unless Perform first other = other refl
 
 -- ---- the call that the next step would perform
 

@@ -1,19 +1,17 @@
 -- A step whose record is kept, from the rule that is carried out.
-use Rattle.std.proofs.Common.{◌≡◌, ℕ, ◌<◌, ◌≤◌, List, [], ◌∷◌, get_or, length, ◌⊎◌, inl, inr, refl, sym, ap, ◌∙◌, subst, arith, true, false}
+use Rattle.std.proofs.Common.{◌≡◌, ℕ, ◌<◌, ◌≤◌, List, [], ◌∷◌, length, refl, sym, ap, ◌∙◌, subst, arith, true, false}
 use Rattle.std.proofs.lemmas.Result.{err_from_is_err_and}
 use Rattle.std.specs.Result.{IsErrAnd}
 use Rattle.std.specs.Prelude.{Result, Ok, Err, Option, None, Some}
-use Rattle.trac_rules.specs.declared.kind.Kind.{Kind}
 use Rattle.trac_rules.specs.declared.limit.TheConstants.{MARK_LIMIT}
 use Rattle.trac_rules.specs.declared.refusal.Refusal.{Refusal}
 use Rattle.trac_rules.specs.declared.refusal.Refusal.TheVariants.{Memory, TooLong}
-use Rattle.trac_rules.specs.declared.scan.Front.{Front}
-use Rattle.trac_rules.specs.declared.scan.Front.TheVariants.{Comma, Sharp, Plain}
 use Rattle.trac_rules.specs.Limits.{marks, texts_fit}
-use Rattle.trac_rules.specs.Records as told
-use Rattle.trac_rules.specs.Records.{Deleted, Moved, Record, comma_recorded, record_of, recorded, recorded_at}
-use Rattle.trac_rules.specs.Scanning.{Moves, comma_in, deleted, front_of, gather_first, scan, scan_at}
-use Rattle.trac_rules.specs.State.{Environment, Frame, State}
+use Rattle.trac_rules.specs.Records.{Record, record_of, recorded, texts_in}
+use Rattle.trac_rules.specs.Scanning.{Moves, deleted, scan}
+use Rattle.trac_rules.specs.State.{Environment, State}
+use Rattle.trac_text.specs.Ruled.{makes_mark, rule_of}
+use Rattle.trac_text.specs.declared.scanning.Rule.{Rule}
 use Rattle.trac_storage.proofs.Judged.{limits_kept}
 use Rattle.trac_storage.proofs.Outcomes.{refuses_memory}
 use Rattle.trac_step.specs.Calling.{IfMoves, IsMove, with_mark}
@@ -22,11 +20,10 @@ use Rattle.trac_step.specs.Layout.{Shown}
 use Rattle.trac_step.specs.Record.{IsTaken, recorded_by}
 use Rattle.trac_step.specs.declared.record.Record as alone
 use Rattle.trac_step.specs.Room.{IsNoLess, LacksRoomAhead}
-use Rattle.trac_step.proofs.Moving.{of_moves, one_mark_more}
+use Rattle.trac_step.proofs.Moving.{mark_of, of_moves, one_mark_more}
 use Rattle.trac_step.proofs.Outcomes.{move_beyond, move_lacks, move_taken}
-use Rattle.trac_step.proofs.Recorded.{move_recorded, recorded_front}
+use Rattle.trac_step.proofs.Recorded.{lacks_a_mark, move_recorded}
 use Rattle.trac_step.proofs.Rooms.{no_less, no_less_state}
-use Rattle.trac_step.proofs.Scans.{scan_front}
 
 -- ---- what carries out a rule
 
@@ -66,42 +63,22 @@ pub carried_so : {R : Type 0} (x : R) (m n : Shown) (old new : List Record) (pla
 carried_so x m n old new places t moves shown added =
     carried_out x m n old new places t moves (ap (λ (k : Shown). k.state) shown) added (subst (λ (k : Shown). IsNoLess m k) (sym shown) (no_less_state m t))
 
--- a byte goes to the current text
-pub gathered : {R : Type 0} (x : R) (m n : Shown) (old new : List Record) (places : ℕ) (at : Front) → (at ≡ Sharp) ⊎ (at ≡ Plain) → at ≡ front_of m.state.active →
-    n ≡ record m { state = gather_first m.state } → new ≡ Moved ∷ old → IsCarriedOut (Ok x) m n old new places
-gathered x m n old new places at which front self_is added = elim which [
-  | inl is ↦ by_front Sharp refl refl (sym front ∙ is)
-  | inr is ↦ by_front Plain refl refl (sym front ∙ is)
-]
-  where
-    by_front : (f : Front) → scan_at f m.state ≡ Moves (gather_first m.state) → recorded_at f m.state ≡ Moved → front_of m.state.active ≡ f → IsCarriedOut (Ok x) m n old new places
-    by_front f scans records is =
-        carried_so x m n old new places (gather_first m.state) (scan_front m.state f is ∙ scans) self_is
-        (added ∙ ap (λ (r : Record). r ∷ old) (sym (recorded_front m.state f is ∙ records)))
-
 -- ---- marks
 
--- where it is within the limits, there was room for it
-pub room_for_mark : (frame : Option Kind) (n : ℕ) (s : State) → (frame ≡ None → 0 < length s.frames) → scan s ≡ Moves (with_mark frame (deleted n s)) →
-    IfMoves (scan s) (λ t. texts_fit t ≡ true) → marks s.frames < MARK_LIMIT
-room_for_mark frame n s inside moves fits =
-    let kept = limits_kept (with_mark frame (deleted n s)) (of_moves s (with_mark frame (deleted n s)) (λ t. texts_fit t ≡ true) moves fits) in
-    omega (arith, kept.marked, one_mark_more frame n s inside)
+module _ (m : Shown) (rule : Rule) (next : rule ≡ rule_of (texts_in m.state)) (makes : makes_mark rule ≡ true) where
+  -- where the state after a mark is within the limits, there was room for it
+  pub room_for_mark : IfMoves (scan m.state) (λ t. texts_fit t ≡ true) → marks m.state.frames < MARK_LIMIT
+  room_for_mark fits =
+      let mark = mark_of m.state rule next makes in
+      let after : State = with_mark mark.frame (deleted mark.bytes m.state) in
+      let kept = limits_kept after (of_moves m.state after (λ t. texts_fit t ≡ true) mark.moves fits) in
+      omega (arith, kept.marked, one_mark_more mark.frame mark.bytes m.state mark.inside)
 
--- outside any function a `,` is deleted
-pub comma_deleted : (s : State) → front_of s.active ≡ Comma → s.frames ≡ [] → (scan s ≡ Moves (deleted 1 s)) × (recorded s ≡ Deleted (get_or s.active 0 0))
-comma_deleted s is none = (
-  scan_front s Comma is ∙ ap (λ (fs : List Frame). Moves (comma_in fs (deleted 1 s))) none,
-  recorded_front s Comma is ∙ ap (λ (fs : List Frame). comma_recorded fs s) none,
-)
-
--- and inside one it ends an argument
-pub comma_told : (s : State) → front_of s.active ≡ Comma → 0 < length s.frames → told.Comma ≡ recorded s
-comma_told s is inside = by_frames s.frames inside ∙ sym (recorded_front s Comma is)
-  where
-    by_frames : (fs : List Frame) → 0 < length fs → told.Comma ≡ comma_recorded fs s
-    by_frames [] h = absurd (omega arith)
-    by_frames (f ∷ fs) h = refl
+  -- and where all places are taken, there is none
+  pub lacks_mark : m.mark_room ≤ marks m.state.frames → LacksRoomAhead m
+  lacks_mark full =
+      let mark = mark_of m.state rule next makes in
+      lacks_a_mark m (with_mark mark.frame (deleted mark.bytes m.state)) full (one_mark_more mark.frame mark.bytes m.state mark.inside) mark.moves
 
 -- ---- what that says of the step
 

@@ -1,5 +1,5 @@
 -- A call that is planned, and may be performed.
-use Rattle.std.specs.Prelude.{◌≡◌, ◌+◌, ◌≤◌, [], length, Option, None, Some, Ok}
+use Rattle.std.specs.Prelude.{◌≡◌, ◌+◌, ◌≤◌, length, Some, Ok}
 use Rattle.trac_rules.specs.declared.scan.Front.TheVariants.{Closing}
 use Rattle.trac_rules.specs.Limits.{text_bytes}
 use Rattle.trac_rules.specs.Proper.{IsProper, IsProperStorage}
@@ -40,11 +40,6 @@ pub record IsPlanned {A : Type 0} (environment : Environment) (s : State) (made 
   pub ready : IsReady s made plan change
   pub taken : step environment s ≡ Ok (state_after plan made change (scan s))
   pub recorded : record_of environment s ≡ Some (recorded_after plan change s)
-
--- what may be performed where a `)` stands: nothing if no function is begun
-abbrev pub IsFound : {A : Type 0} → Environment → State → Made A → UnnamedChange A → Option Plan → Type 0
-IsFound environment s made change None = s.frames ≡ []
-IsFound environment s made change (Some plan) = IsPlanned environment s made plan change
 
 -- forms and blocks can be changed so, by the call at which a state stands, whose function begins here
 pub record CanChange {A : Type 0} (s : State) (beginning : Beginning) (change : UnnamedChange A) : Type 0 where

@@ -1,15 +1,15 @@
 //! The way back over the newest record of a journal.
 ghost use Rattle.std.specs.Prelude.{◌≡◌, [], false, IsSomeAnd, IsTrue, Some};
 ghost use Rattle.trac_rules.specs.Records.{state_before};
-ghost use Rattle.trac_journal.specs.Told.{said_by};
+ghost use Rattle.trac_text.specs.Ruled.{said_by};
 ghost use Rattle.trac_step.specs.Kept.{CanGoBack, HasGoneBack};
 ghost use Rattle.trac_step.specs.Room.{HasRoom, IsNoLess};
 
 use crate::engine::Core;
 use std::alloc::Allocator;
 use trac_gap::TwoEnds;
-use trac_journal::{Journal, Keeper, Short};
-use trac_text::Mark;
+use trac_journal::{Journal, Keeper};
+use trac_text::{Mark, Short};
 
 impl<E: TwoEnds<u8, A>, M: TwoEnds<Mark, A>, A: Allocator + Copy> Core<E, M, A> {
     // Goes back over a step that performed no function, and did not empty the texts.
@@ -18,13 +18,7 @@ impl<E: TwoEnds<u8, A>, M: TwoEnds<Mark, A>, A: Allocator + Copy> Core<E, M, A> 
         ensures state { state_before (said_by short) self.old.state ≡ Some self.new.state }
         ensures room { IsNoLess self.old self.new }
     {
-        match short {
-            Short::Moved => self.texts.move_back(1),
-            Short::Comma => self.texts.gather_again(),
-            Short::Begun => self.texts.take_beginning_back(),
-            Short::Quoted { inner, closed } => self.texts.unprotect(inner, closed),
-            Short::Deleted(byte) => self.texts.undelete(byte),
-        }
+        self.texts.take_back(short);
     }
 
     /// Goes back over the newest record of a journal, as `undo` does, and takes it out; returns whether there was

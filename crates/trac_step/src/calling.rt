@@ -1,6 +1,6 @@
 //! The steps that perform a function.
 ghost use Rattle.std.specs.Prelude.{◌≡◌, ◌<◌, ◌≤◌, ◌+◌, ◌++◌, ◌∷◌, length, option_map, IfErr};
-ghost use Rattle.std.specs.Prelude.{IfOk, IsOkUnless, OnErr, OnOk, Ok};
+ghost use Rattle.std.specs.Prelude.{IfOk, IsOkUnless, OnErr, OnOk};
 ghost use Rattle.trac_rules.specs.Outcomes.{MayRefuse};
 ghost use Rattle.trac_rules.specs.Records as rules;
 ghost use Rattle.trac_rules.specs.Records.{is_scanned};
@@ -14,7 +14,7 @@ ghost use Rattle.trac_change.specs.Undone.{undone_in};
 ghost use Rattle.trac_step.specs.Calling.{BeginsInnermost, HasRoomFor, arguments_in, state_after, state_ended};
 ghost use Rattle.trac_step.specs.Calling.{with_change};
 ghost use Rattle.trac_step.specs.Kept.{CanStep, FitsJournal, HasRoomForCall, IsKeptAs, IsStepped};
-ghost use Rattle.trac_step.specs.Ready.{CanChange, CanEnd, IsFound, IsReady, recorded_after, undone_after};
+ghost use Rattle.trac_step.specs.Ready.{CanChange, CanEnd, IsPlanned, IsReady, recorded_after, undone_after};
 ghost use Rattle.trac_step.specs.Room.{IsNoLess};
 
 use crate::engine::Core;
@@ -77,24 +77,24 @@ fn put_printed<A: Allocator>(output: &mut SlidingBuf<u8, A>, printed: &[u8])
 
 impl<E: TwoEnds<u8, A>, M: TwoEnds<Mark, A>, A: Allocator + Copy> Core<E, M, A> {
     // Plans the call of the innermost function: its texts are made, and what becomes of forms and blocks is put in
-    // place of a change that keeps them. Or why it is refused. None if no function is begun.
+    // place of a change that keeps them. Or why it is refused.
     fn planned(
         &self,
         tape: Tape<'_>,
         made: &mut Made<A>,
         change: &mut UnnamedChange<A>,
-    ) -> Result<Option<Plan>, Refusal>
+    ) -> Result<Plan, Refusal>
         requires keeps { change.old ≡ Keep }
         requires proper { IsProper self.now.state }
         requires front { front_of self.now.state.active ≡ Front.Closing }
+        requires inside { 0 < length self.now.state.frames }
         requires within { self.now.state.position ≤ length tape.bytes.now }
         ensures planned { IfOk result
-            (IsFound (environment_of self.now.width tape.entry) self.now.state made.new change.new) }
+            (λ plan. IsPlanned (environment_of self.now.width tape.entry) self.now.state made.new plan change.new) }
         ensures refused { IfErr result (MayRefuse (step (environment_of self.now.width tape.entry) self.now.state)) }
-        ensures inside { OnErr result (0 < length self.now.state.frames) }
     {
         let Some(function) = self.texts.neutral().innermost() else {
-            return Ok(None);
+            unreachable!()
         };
         let now = Now {
             meta: self.meta,
@@ -114,7 +114,7 @@ impl<E: TwoEnds<u8, A>, M: TwoEnds<Mark, A>, A: Allocator + Copy> Core<E, M, A> 
             made,
             change,
         )?;
-        Ok(Some(Plan {
+        Ok(Plan {
             beginning: Beginning {
                 number: function.number,
                 place: function.place,
@@ -125,7 +125,7 @@ impl<E: TwoEnds<u8, A>, M: TwoEnds<Mark, A>, A: Allocator + Copy> Core<E, M, A> 
             position: now.position + deed.read,
             meta: deed.meta,
             trace: deed.trace,
-        }))
+        })
     }
 
     // Makes room for the texts that the call adds, so that ending it needs no memory. The state stays.
@@ -264,8 +264,8 @@ impl<E: TwoEnds<u8, A>, M: TwoEnds<Mark, A>, A: Allocator + Copy> Core<E, M, A> 
         Ok(())
     }
 
-    // A `)`: the innermost function is performed, or the `)` is deleted if none is begun. The texts of the call are
-    // made in these buffers. The loop of a walk calls this, and has the most frequent rules of scanning in itself.
+    // A `)` in a function, which is performed. The texts of the call are made in these buffers. The loop of a walk calls
+    // this, and has the most frequent rules of scanning in itself.
     #[inline(never)]
     pub(crate) fn close<K: Keeper<A>>(
         &mut self,
@@ -274,14 +274,13 @@ impl<E: TwoEnds<u8, A>, M: TwoEnds<Mark, A>, A: Allocator + Copy> Core<E, M, A> 
         made: &mut Made<A>,
     ) -> Result<(), Refusal>
         requires front { front_of self.old.state.active ≡ Front.Closing }
+        requires inside { 0 < length self.old.state.frames }
         requires can { CanStep (environment_of self.old.width tape) self.old (K.records keeper.old) K.most }
         ensures { IsStepped (environment_of self.old.width tape.entry) result self.old self.new (K.records keeper.old)
             (K.records keeper.new) (K.places keeper.old) }
     {
         let mut change = UnnamedChange::Keep;
-        let Some(plan) = self.planned(tape, made, &mut change)? else {
-            return self.delete_into(keeper);
-        };
+        let plan = self.planned(tape, made, &mut change)?;
         self.perform(keeper, &plan, made, &mut change)
     }
 }

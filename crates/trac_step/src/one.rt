@@ -6,8 +6,8 @@ ghost use Rattle.trac_step.specs.Record.{kept_in, recorded_by};
 use crate::record::Record;
 use std::alloc::Allocator;
 use std::mem;
-use trac_journal::{Called, Emptied, Keeper, LentCall, Short, Undone};
-use trac_text::{Args, Functions, Pieces, Refusal};
+use trac_journal::{Called, Emptied, Keeper, LentCall, Undone};
+use trac_text::{Args, Functions, Pieces, Refusal, Short};
 
 // Keeps the record of one step. Only one of a call or of an idle step takes memory.
 #[derive(Drop)]

@@ -3,7 +3,8 @@ ghost use Rattle.std.specs.Prelude.{◌≡◌, ◌<◌, ◌^◌, [], ◌∷◌, 
 ghost use Rattle.trac_rules.specs.Records as rules;
 ghost use Rattle.trac_rules.specs.Weights.{weight};
 ghost use Rattle.trac_text.specs.Pieces.{all_texts};
-ghost use Rattle.trac_journal.specs.Told.{HasCallFirst, IsCallFirst, IsShortFirst, record_with, said_by};
+ghost use Rattle.trac_text.specs.Ruled.{said_by};
+ghost use Rattle.trac_journal.specs.Told.{HasCallFirst, IsCallFirst, IsShortFirst, record_with};
 ghost use Rattle.trac_change.specs.Undone.{undone_in};
 ghost use Rattle.trac_step.specs.Record.{before, recorded_by};
 ghost use Rattle.trac_step.specs.Room.{HasRoom, IsNoLess};
@@ -12,8 +13,8 @@ use crate::engine::Core;
 use crate::one::One;
 use std::alloc::{Allocator, Global};
 use trac_gap::TwoEnds;
-use trac_journal::{Called, LentCall, Short, Undone, weigh_call, weigh_functions, weigh_pieces};
-use trac_text::{Kind, Mark, Pieces};
+use trac_journal::{Called, LentCall, Undone, weigh_call, weigh_functions, weigh_pieces};
+use trac_text::{Kind, Mark, Pieces, Short};
 
 /// What one step of a machine destroyed, by which any machine that shows the state after it can go back. What a
 /// step only moved is not kept: a record says how much it was, counted from the end of the text to which it

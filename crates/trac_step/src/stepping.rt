@@ -22,8 +22,7 @@ use std::alloc::Allocator;
 use trac_gap::TwoEnds;
 use trac_journal::{Journal, Keeper};
 use trac_prims::{Made, Tape};
-use trac_rules::scan::Front;
-use trac_text::{Mark, Refusal};
+use trac_text::{Mark, Refusal, Rule};
 
 impl<E: TwoEnds<u8, A>, M: TwoEnds<Mark, A>, A: Allocator + Copy> Core<E, M, A> {
     /// Takes the next step of T-64's rules over this tape, and answers its record: what the step destroyed. By it
@@ -128,10 +127,9 @@ impl<E: TwoEnds<u8, A>, M: TwoEnds<Mark, A>, A: Allocator + Copy> Core<E, M, A> 
         Ok(one.into_record())
     }
 
-    // The step itself. If the active text begins with a `)`, `close` performs the innermost function, or deletes the
-    // `)` if none is begun. Else, and also if the active text is empty, `carry_out` carries out a rule of scanning.
-    // This can pass one limit alone, that on marks, which `move_fits` judges: each argument of a begun function has a
-    // mark.
+    // The step itself. At a `)` in a function, `close` performs it. Else, and also if the active text is empty,
+    // `carry_out` carries out a rule of scanning. This can pass one limit alone, that on marks, which `move_fits`
+    // judges: each argument of a begun function has a mark.
     #[inline(always)]
     fn next_step<K: Keeper<A>>(
         &mut self,
@@ -143,14 +141,14 @@ impl<E: TwoEnds<u8, A>, M: TwoEnds<Mark, A>, A: Allocator + Copy> Core<E, M, A> 
         ensures { IsStepped (environment_of self.old.width tape.entry) result self.old self.new (K.records keeper.old)
             (K.records keeper.new) (K.places keeper.old) }
     {
-        let front = self.texts.front();
-        if front == Front::Closing {
+        let rule = self.texts.rule();
+        if let Rule::Perform = rule {
             return self.close(keeper, tape, made);
         }
-        if !self.move_fits(front) {
+        if !self.move_fits(rule) {
             return Err(Refusal::TooLong);
         }
-        self.carry_out(keeper, front)
+        self.carry_out(keeper, rule)
     }
 
     // Does nothing when it runs. Its three calls tell the prover what holds of every machine: its state is within all

@@ -53,22 +53,22 @@ end_taken (f ∷ fs) n s texts h =
           ∙ ap (λ (t : Texts). let u : State = record s { active = last_of n f.gathered ++ s.active; base = t.base; frames = t.frames } in Some u) is.1;
     }
 
-is_value_taken : (scanned : Bool) (n : ℕ) (text : Ends ℕ) (ms : Ends Mark) (t : Texts) → IsOrdered (marked_in text ms) → value_taken scanned n (texts_held text ms) ≡ Some t → IsValueTaken scanned n text ms t
-is_value_taken true n text ms t ordered h =
+is_value_taken : (scanned : Bool) (n : ℕ) (text : Ends ℕ) (ms : Ends Mark) (t : Texts) → IsOrdered (marked_in text ms) → ms.right ≡ [] → value_taken scanned n (texts_held text ms) ≡ Some t → IsValueTaken scanned n text ms t
+is_value_taken true n text ms t ordered on_left h =
     let is = then_is (nat_le n (length text.right)) (record (texts_held text ms) { active = drop n text.right }) t h in
     record {
       there = leb-true n (length text.right) is.0;
-      held = record { active = ap (λ (u : Texts). u.active) is.1; neutral = record { same = ap neutral_in is.1; ordered = ordered } };
+      held = record { active = ap (λ (u : Texts). u.active) is.1; neutral = record { same = ap neutral_in is.1; ordered = ordered }; on_left = on_left };
     }
-is_value_taken false n text ms t ordered h =
+is_value_taken false n text ms t ordered on_left h =
     let s = alone (texts_held text ms) in
     let is = end_taken s.frames n s t h in
-    let moved = is_moved_back n text ms ordered (subst IsSome (sym is.moved) refl) in
+    let moved = is_moved_back n text ms ordered on_left (subst IsSome (sym is.moved) refl) in
     let both : Some (alone (texts_held (with_last_before n text) ms)) ≡ Some (record s { active = is.before; base = t.base; frames = t.frames }) = sym moved.state ∙ is.moved in
     let same : alone (texts_held (with_last_before n text) ms) ≡ record s { active = is.before; base = t.base; frames = t.frames } = cc in
     record {
       there = moved.within;
-      held = record { active = sym is.active; neutral = record { same = ap (λ (u : State). neutral_in (texts_in u)) same; ordered = moved.ordered } };
+      held = record { active = sym is.active; neutral = record { same = ap (λ (u : State). neutral_in (texts_in u)) same; ordered = moved.ordered }; on_left = on_left };
     }
 
 -- ---- the function is begun again
@@ -92,15 +92,15 @@ pub record AreBack (kind : Kind) (a : Arguments) (scanned : Bool) (n : ℕ) (tex
   is : texts_again kind a scanned n (texts_held text ms) ≡ Some (with_function kind a without)
   can : CanHold m (with_function kind a without)
 
-are_back : (kind : Kind) (a : Arguments) (scanned : Bool) (n : ℕ) (text : Ends ℕ) (ms : Ends Mark) (m : ShownTexts) → IsOrdered (marked_in text ms) →
+are_back : (kind : Kind) (a : Arguments) (scanned : Bool) (n : ℕ) (text : Ends ℕ) (ms : Ends Mark) (m : ShownTexts) → IsOrdered (marked_in text ms) → ms.right ≡ [] →
     IsSomeAnd (texts_again kind a scanned n (texts_held text ms)) (λ t. CanHold m t) → AreBack kind a scanned n text ms m
-are_back kind a scanned n text ms m ordered h = by_taken (value_taken scanned n (texts_held text ms)) refl h
+are_back kind a scanned n text ms m ordered on_left h = by_taken (value_taken scanned n (texts_held text ms)) refl h
   where
     by_taken : (o : Option Texts) → value_taken scanned n (texts_held text ms) ≡ o → IsSomeAnd (option_and_then (begun_again kind (all_texts a)) o) (λ t. CanHold m t) → AreBack kind a scanned n text ms m
     by_taken None is h = absurd h
     by_taken (Some u) is h = record {
       without = u;
-      taken = is_value_taken scanned n text ms u ordered is;
+      taken = is_value_taken scanned n text ms u ordered on_left is;
       is = ap (option_and_then (begun_again kind (all_texts a))) is ∙ begins_again kind a u;
       can = subst (λ (o : Option Texts). IsSomeAnd o (λ t. CanHold m t)) (begins_again kind a u) h;
     }
@@ -115,7 +115,7 @@ module _ {functions : ℕ} {text : Ends ℕ} {ms : Ends Mark} {m : ShownTexts} (
   texts_are = ap (λ (x : ShownTexts). x.texts) now.view
 
   pub back : AreBack kind a scanned n text ms m
-  back = are_back kind a scanned n text ms m now.sound.ordered (subst (λ (t : Texts). IsSomeAnd (texts_again kind a scanned n t) (λ u. CanHold m u)) (sym texts_are) h)
+  back = are_back kind a scanned n text ms m now.sound.ordered now.sound.on_left (subst (λ (t : Texts). IsSomeAnd (texts_again kind a scanned n t) (λ u. CanHold m u)) (sym texts_are) h)
 
   pub has_value : HasValue scanned n text
   has_value = back.taken.there
@@ -123,31 +123,35 @@ module _ {functions : ℕ} {text : Ends ℕ} {ms : Ends Mark} {m : ShownTexts} (
   abbrev there : Texts
   there = with_function kind a back.without
 
-  holds_again : {next : Ends ℕ} {ns : Ends Mark} → next ≡ before_call scanned n (all_texts a) text →
-      ns.left ≡ ms.left ++ function_marks (length (without_value scanned n text).left) kind (map length a.finished) → Hold next ns there
+  -- the marks with those of the function
+  abbrev marks_again : Ends Mark
+  marks_again = record ms { left = ms.left ++ function_marks (length (without_value scanned n text).left) kind (map length a.finished) }
+
+  holds_again : {next : Ends ℕ} {ns : Ends Mark} → next ≡ before_call scanned n (all_texts a) text → ns ≡ marks_again → Hold next ns there
   holds_again {next} {ns} text_is marks_are =
       let held = back.taken.held in
       let shows = shows_function (without_value scanned n text).left ms.left (neutral_in back.without) kind a held.neutral in
       record {
         active = ap (λ (e : Ends ℕ). e.right) text_is ∙ ap (λ (active : List ℕ). codes ")" ++ active) held.active;
         neutral = rw (text_is, marks_are) shows;
+        on_left = ap (λ (e : Ends Mark). e.right) marks_are ∙ now.sound.on_left;
       }
 
   -- lists with room for the texts before the call
-  example : Hold (before_call scanned n (all_texts a) text) (record ms { left = ms.left ++ function_marks (length (without_value scanned n text).left) kind (map length a.finished) }) there
+  example : Hold (before_call scanned n (all_texts a) text) marks_again there
   example = holds_again refl refl
 
   pub text_room : item_count (before_call scanned n (all_texts a) text) ≤ text.capacity
   text_room = omega (arith, byte_count example, back.can.text_room, ap (λ (x : ShownTexts). x.text_room) now.view)
 
-  pub mark_room : length ms.left + 1 + length a.finished ≤ ms.capacity
-  mark_room = omega (arith, mark_count back.taken.held, back.can.mark_room, ap (λ (x : ShownTexts). x.mark_room) now.view)
+  pub mark_room : item_count ms + 1 + length a.finished ≤ ms.capacity
+  mark_room = omega (arith, ap (λ (xs : List Mark). length xs) now.sound.on_left, mark_count back.taken.held, back.can.mark_room, ap (λ (x : ShownTexts). x.mark_room) now.view)
 
-  pub called_now : {next : Ends ℕ} {ns : Ends Mark} → next ≡ before_call scanned n (all_texts a) text →
-      ns.left ≡ ms.left ++ function_marks (length (without_value scanned n text).left) kind (map length a.finished) → ns.capacity ≡ ms.capacity → AreNow (functions + 1) next ns (record m { texts = there })
-  called_now {next} {ns} text_is marks_are capacity =
+  pub called_now : {next : Ends ℕ} {ns : Ends Mark} → next ≡ before_call scanned n (all_texts a) text → ns ≡ marks_again →
+      AreNow (functions + 1) next ns (record m { texts = there })
+  called_now {next} {ns} text_is marks_are =
       let same_depth : functions + 1 ≡ length there.frames = omega (arith, counted) in
-      held_as now (holds_again text_is marks_are) same_depth (ap (λ (e : Ends ℕ). e.capacity) text_is ∙ value_capacity scanned n text) capacity back.can
+      held_as now (holds_again text_is marks_are) same_depth (ap (λ (e : Ends ℕ). e.capacity) text_is ∙ value_capacity scanned n text) (ap (λ (e : Ends Mark). e.capacity) marks_are) back.can
     where
       counted : functions ≡ length back.without.frames
       counted =

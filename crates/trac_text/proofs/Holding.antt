@@ -37,6 +37,7 @@ neutral_in t = record { base = t.base; frames = t.frames }
 pub record Hold (text : Ends ℕ) (ms : Ends Mark) (t : Texts) : Type 0 where
   pub active : text.right ≡ t.active
   pub neutral : Shows text.left ms.left (neutral_in t)
+  pub on_left : ms.right ≡ []
 
 -- lists are sound, and this is seen of them
 pub record AreNow (functions : ℕ) (text : Ends ℕ) (ms : Ends Mark) (m : ShownTexts) : Type 0 where
@@ -76,6 +77,7 @@ held_in {k} {text} {ms} {t} held depth can =
         mark_limit = omega (arith, count, can.mark_limit);
         text_room = omega (arith, bytes, can.text_room);
         mark_room = omega (arith, count, can.mark_room);
+        on_left = held.on_left;
       };
       view = shown_as held;
     }
@@ -87,6 +89,7 @@ module _ {functions : ℕ} {text : Ends ℕ} {ms : Ends Mark} {m : ShownTexts} (
   held_now = record {
     active = ap (λ (n : ShownTexts). n.texts.active) now.view;
     neutral = record { same = ap (λ (n : ShownTexts). neutral_in n.texts) now.view; ordered = now.sound.ordered };
+    on_left = now.sound.on_left;
   }
 
   pub depth_now : functions ≡ length m.texts.frames
@@ -148,7 +151,7 @@ pub holds_more : {text : Ends ℕ} {ms : Ends Mark} {t : Texts} (active more : L
 holds_more {text} {ms} {t} active more held =
     let is = gathered_texts t.base t.frames more (record (alone t) { active = active }) in
     subst (Hold (record text { left = text.left ++ more; right = active }) ms) (sym is)
-    (record { active = refl; neutral = shows_more text.left more ms.left (neutral_in t) held.neutral })
+    (record { active = refl; neutral = shows_more text.left more ms.left (neutral_in t) held.neutral; on_left = held.on_left })
 
 module _ {functions : ℕ} {text : Ends ℕ} {ms : Ends Mark} {m : ShownTexts} (now : AreNow functions text ms m) where
   gathered_now : (active more : List ℕ) {next : Ends ℕ} → next ≡ record text { left = text.left ++ more; right = active } → length active + length more ≤ length text.right →
@@ -178,7 +181,7 @@ module _ {functions : ℕ} {text : Ends ℕ} {ms : Ends Mark} {m : ShownTexts} (
   pub deleted_now : (n : ℕ) {next : Ends ℕ} → next ≡ record text { right = drop n text.right } → AreNow functions next ms (record m { texts = texts_by (deleted n) m.texts })
   deleted_now n {next} is =
       let held : Hold (record text { right = drop n text.right }) ms (texts_by (deleted n) m.texts) =
-      record { active = ap (λ (active : List ℕ). drop n active) (held_now now).active; neutral = (held_now now).neutral } in
+      record { active = ap (λ (active : List ℕ). drop n active) (held_now now).active; neutral = (held_now now).neutral; on_left = now.sound.on_left } in
       subst (λ (e : Ends ℕ). AreNow functions e ms (record m { texts = texts_by (deleted n) m.texts })) (sym is)
       (held_within now held (depth_now now) refl refl (omega (arith, length-drop n text.right)) (omega arith))
 
@@ -188,6 +191,10 @@ module _ {functions : ℕ} {text : Ends ℕ} {ms : Ends Mark} {m : ShownTexts} (
 depth_within : (fs : List Frame) → length fs ≤ marks fs
 depth_within [] = omega arith
 depth_within (f ∷ fs) = omega (arith, depth_within fs)
+
+-- the marks with one at this place after all others, in this room
+abbrev pub with_mark_at : ℕ → Option Kind → ℕ → Ends Mark → Ends Mark
+with_mark_at place o room ms = record ms { left = ms.left ++ mark_at place o ∷ []; capacity = room }
 
 -- the texts without the first n active bytes, and with a function of this kind begun, or, if none is named, with a further argument of the innermost one
 abbrev marked_texts : ℕ → Option Kind → Texts → Texts
@@ -200,31 +207,30 @@ marked_marks None base (f ∷ fs) inside = omega (arith, length-append f.argumen
 
 module _ {functions : ℕ} {text : Ends ℕ} {ms : Ends Mark} {m : ShownTexts} (now : AreNow functions text ms m) (n : ℕ) {next : Ends ℕ} {ns : Ends Mark} {k : ℕ} (text_is : next ≡ record text { right = drop n text.right })
     (room : length ms.left + 1 ≤ ns.capacity) (limit : marks m.texts.frames < MARK_LIMIT) where
-  marked_now : (o : Option Kind) → ns.left ≡ ms.left ++ mark_at (length text.left) o ∷ [] → (o ≡ None → 0 < length m.texts.frames) → k ≡ length (marked_texts n o m.texts).frames → AreSound k next ns
+  marked_now : (o : Option Kind) → ns ≡ with_mark_at (length text.left) o ns.capacity ms → (o ≡ None → 0 < length m.texts.frames) → k ≡ length (marked_texts n o m.texts).frames → AreSound k next ns
   marked_now o marks_are inside depth =
       let held = held_now now in
       let above : o ≡ None → 0 < length ms.left = λ e. omega (arith, inside e, depth_within m.texts.frames, mark_count held) in
-      let shows : Shows text.left ns.left (marked o [] (neutral_in m.texts)) =
-      subst (λ (xs : List Mark). Shows text.left xs (marked o [] (neutral_in m.texts))) (sym marks_are) (shows_mark text.left ms.left (neutral_in m.texts) (length text.left) o refl above held.neutral) in
-      let holds : Hold (record text { right = drop n text.right }) ns (marked_texts n o m.texts) =
-      record { active = ap (λ (active : List ℕ). drop n active) held.active; neutral = shows } in
+      let shows : Shows text.left (with_mark_at (length text.left) o ns.capacity ms).left (marked o [] (neutral_in m.texts)) = shows_mark text.left ms.left (neutral_in m.texts) (length text.left) o refl above held.neutral in
+      let holds : Hold (record text { right = drop n text.right }) (with_mark_at (length text.left) o ns.capacity ms) (marked_texts n o m.texts) =
+      record { active = ap (λ (active : List ℕ). drop n active) held.active; neutral = shows; on_left = held.on_left } in
       let old = can_hold_now now in
       let fewer : bytes_in (marked_texts n o m.texts) ≤ bytes_in m.texts = omega (arith, byte_count holds, byte_count held, length-drop n text.right) in
       let more = marked_marks o m.texts.base m.texts.frames inside in
-      subst (λ (e : Ends ℕ). AreSound k e ns) (sym text_is)
+      subst (λ (e : Ends ℕ). AreSound k e ns) (sym text_is) (subst (λ (e : Ends Mark). AreSound k (record text { right = drop n text.right }) e) (sym marks_are)
       (held_in holds depth (record {
         text_room = omega (arith, fewer, old.text_room, ap (λ (x : ShownTexts). x.text_room) now.view);
         mark_room = omega (arith, more, room, mark_count held);
         text_limit = omega (arith, fewer, old.text_limit);
         mark_limit = omega (arith, more, limit);
-      })).sound
+      })).sound)
 
   -- that of a function
-  pub begun_now : (kind : Kind) → ns.left ≡ ms.left ++ mark_at (length text.left) (Some kind) ∷ [] → k ≡ functions + 1 → AreSound k next ns
+  pub begun_now : (kind : Kind) → ns ≡ with_mark_at (length text.left) (Some kind) ns.capacity ms → k ≡ functions + 1 → AreSound k next ns
   begun_now kind marks_are count = marked_now (Some kind) marks_are (λ e. absurd (none-some _ (sym e))) (omega (arith, count, depth_now now))
 
   -- that of a further argument
-  pub argument_now : ns.left ≡ ms.left ++ mark_at (length text.left) None ∷ [] → 0 < length m.texts.frames → k ≡ functions → AreSound k next ns
+  pub argument_now : ns ≡ with_mark_at (length text.left) None ns.capacity ms → 0 < length m.texts.frames → k ≡ functions → AreSound k next ns
   argument_now marks_are inside count = marked_now None marks_are (λ _. inside) (count ∙ depth_now now ∙ sym (same_depth m.texts.frames))
     where
       same_depth : (fs : List Frame) → length (marked None [] (record { base = m.texts.base; frames = fs })).frames ≡ length fs
@@ -269,7 +275,7 @@ module _ {functions : ℕ} {text : Ends ℕ} {ms : Ends Mark} {m : ShownTexts} (
       let shows : Shows (take b.place text.left) (take b.number ms.left) (neutral_in rest) =
       record { same = (λ i. record { base = sym base_is i; frames = drop 1 (sym frames_are i) }); ordered = inner.ordered } in
       let holds : Hold (record text { left = take b.place text.left; right = drop 1 text.right }) (record ms { left = take b.number ms.left }) rest =
-      record { active = ap (λ (active : List ℕ). drop 1 active) held.active; neutral = shows } in
+      record { active = ap (λ (active : List ℕ). drop 1 active) held.active; neutral = shows; on_left = held.on_left } in
       let depth : k ≡ length rest.frames = omega (arith, count, depth_now now, ap (λ (fs : List Frame). length fs) frames_are, ap (λ (fs : List Frame). length (drop 1 fs)) frames_are) in
       subst (λ (e : Ends ℕ). AreNow k e ns (record m { texts = rest })) (sym text_is)
       (subst (λ (e : Ends Mark). AreNow k (record text { left = take b.place text.left; right = drop 1 text.right }) e (record m { texts = rest })) (sym marks_are)
@@ -280,8 +286,8 @@ module _ {functions : ℕ} {text : Ends ℕ} {ms : Ends Mark} {m : ShownTexts} (
 
 -- a value goes where it goes
 holds_value : {text : Ends ℕ} {ms : Ends Mark} {t : Texts} (kind : Kind) (forced : Bool) (value : List ℕ) → Hold text ms t → Hold (with_value kind forced value text) ms (texts_by (placed kind forced value) t)
-holds_value Active forced value held = record { active = ap (λ (active : List ℕ). value ++ active) held.active; neutral = held.neutral }
-holds_value Neutral true value held = record { active = ap (λ (active : List ℕ). value ++ active) held.active; neutral = held.neutral }
+holds_value Active forced value held = record { active = ap (λ (active : List ℕ). value ++ active) held.active; neutral = held.neutral; on_left = held.on_left }
+holds_value Neutral true value held = record { active = ap (λ (active : List ℕ). value ++ active) held.active; neutral = held.neutral; on_left = held.on_left }
 holds_value {text} {ms} {t} Neutral false value held =
     subst (λ (active : List ℕ). Hold (record text { left = text.left ++ value }) ms (gathered active value t)) held.active (holds_more text.right value held)
 

@@ -16,3 +16,4 @@ pub mod Holding
 pub mod ScanningBack
 pub mod Loaded
 pub mod CallsBack
+pub mod Ruled

@@ -1,5 +1,5 @@
 -- Lists that were made of texts and begun functions are sound.
-use Rattle.std.proofs.Common.{◌≡◌, ℕ, ◌+◌, ◌≤◌, List, length, sym, ◌∙◌, arith}
+use Rattle.std.proofs.Common.{◌≡◌, ℕ, ◌+◌, ◌≤◌, List, [], length, sym, ◌∙◌, arith}
 use Rattle.std.specs.Prelude.{Vec}
 use Rattle.std.proofs.lemmas.List.{length-map, length-reverse}
 use Rattle.trac_gap.specs.Ends.{Ends, item_count}
@@ -19,10 +19,10 @@ given_count functions = length-reverse _ ∙ length-map (functions_of functions)
 
 pub loaded_now : {A : Type 0} (functions : List (Kind × Vec (Vec ℕ A) A)) (active base : List ℕ) → EachGathers functions → length active + length base + function_bytes (functions_of functions) ≤ TEXT_LIMIT →
     argument_count (functions_of functions) ≤ MARK_LIMIT → {text : Ends ℕ} {ms : Ends Mark} → neutral_of (marked_in text ms) ≡ record { base = base; frames = frames_of (functions_of functions) } →
-    text.right ≡ active → IsOrdered (marked_in text ms) → item_count text ≤ text.capacity → length ms.left ≤ ms.capacity → AreSound (length functions) text ms
-loaded_now functions active base each text_limit mark_limit {text} {ms} same right ordered text_room mark_room =
+    text.right ≡ active → IsOrdered (marked_in text ms) → ms.right ≡ [] → item_count text ≤ text.capacity → length ms.left ≤ ms.capacity → AreSound (length functions) text ms
+loaded_now functions active base each text_limit mark_limit {text} {ms} same right ordered on_left text_room mark_room =
     let t : Texts = record { active = active; base = base; frames = frames_of (functions_of functions) } in
-    let holds : Hold text ms t = record { active = right; neutral = record { same = same; ordered = ordered } } in
+    let holds : Hold text ms t = record { active = right; neutral = record { same = same; ordered = ordered }; on_left = on_left } in
     (held_in holds (sym (given_count functions)) (record {
       text_room = omega (arith, text_room, byte_count holds);
       mark_room = omega (arith, mark_room, mark_count holds);

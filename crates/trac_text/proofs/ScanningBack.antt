@@ -53,7 +53,7 @@ marks_before text (m ∷ ms) n s a h =
     marked_within m.frame (drop m.place text) (neutral (take m.place text) ms) n s (λ e. has_frames (take m.place text) ms m.place a.2 (a.1 e)) h in
     (omega (arith, within, a.0, length-drop m.place text), (omega (arith, within, a.0, length-drop m.place text), a.1, a.2))
 
-gathered_alone : (more : List ℕ) (fs : List Frame) (t : Texts) → alone (texts_in (gathered_in fs more (alone t))) ≡ gathered_in fs more (alone t)
+pub gathered_alone : (more : List ℕ) (fs : List Frame) (t : Texts) → alone (texts_in (gathered_in fs more (alone t))) ≡ gathered_in fs more (alone t)
 gathered_alone more [] t = refl
 gathered_alone more (f ∷ fs) t = refl
 
@@ -63,8 +63,8 @@ pub record IsMovedBack (n : ℕ) (text : Ends ℕ) (ms : Ends Mark) : Type 0 whe
   pub ordered : IsOrdered (marked_in (with_last_before n text) ms)
   pub state : moved_back n (alone (texts_held text ms)) ≡ Some (alone (texts_held (with_last_before n text) ms))
 
-pub is_moved_back : (n : ℕ) (text : Ends ℕ) (ms : Ends Mark) → IsOrdered (marked_in text ms) → IsSome (moved_back n (alone (texts_held text ms))) → IsMovedBack n text ms
-is_moved_back n text ms a h =
+pub is_moved_back : (n : ℕ) (text : Ends ℕ) (ms : Ends Mark) → IsOrdered (marked_in text ms) → ms.right ≡ [] → IsSome (moved_back n (alone (texts_held text ms))) → IsMovedBack n text ms
+is_moved_back n text ms a on_left h =
     let kept : ℕ = length text.left - n in
     let before : (n ≤ length text.left) × AreMarks kept (reverse ms.left) = marks_before text.left (reverse ms.left) n (alone (texts_held text ms)) a h in
     let front : length (take kept text.left) ≡ kept = length-take-le kept text.left (omega arith) in
@@ -72,7 +72,7 @@ is_moved_back n text ms a h =
     let fewer : Ends ℕ = record text { left = take kept text.left } in
     let count : n ≡ length (drop kept text.left) = omega (arith, before.0, length-drop kept text.left) in
     let u : Texts = texts_held fewer ms in
-    let short : Hold fewer ms u = record { active = refl; neutral = record { same = refl; ordered = ordered } } in
+    let short : Hold fewer ms u = record { active = refl; neutral = record { same = refl; ordered = ordered }; on_left = on_left } in
     let there : Hold (record text { left = take kept text.left ++ drop kept text.left }) ms (texts_in (gather (drop kept text.left) (alone u))) = holds_more text.right (drop kept text.left) short in
     let joined : Hold text ms (texts_in (gather (drop kept text.left) (alone u))) =
     subst (λ (xs : List ℕ). Hold (record text { left = xs }) ms (texts_in (gather (drop kept text.left) (alone u)))) (take-append-drop kept text.left) there in
@@ -269,21 +269,21 @@ module _ {functions : ℕ} {text : Ends ℕ} {ms : Ends Mark} {m : ShownTexts} (
 
   -- lists in order that show what is there again, for which there is room
   back_now : {before : Option State} {k : ℕ} {next : Ends ℕ} {ns : Ends Mark} → CanHoldAgain m before → before ≡ Some (alone (texts_held next ns)) → IsOrdered (marked_in next ns) →
-      k ≡ length (texts_held next ns).frames → next.capacity ≡ text.capacity → ns.capacity ≡ ms.capacity → IsBack before k next ns m
-  back_now {before} {k} {next} {ns} can is ordered depth text_room mark_room = record {
+      ns.right ≡ [] → k ≡ length (texts_held next ns).frames → next.capacity ≡ text.capacity → ns.capacity ≡ ms.capacity → IsBack before k next ns m
+  back_now {before} {k} {next} {ns} can is ordered on_left depth text_room mark_room = record {
     state = is;
-    now = held_as now (record { active = refl; neutral = record { same = refl; ordered = ordered } }) depth text_room mark_room (subst (CanHoldAgain m) is can);
+    now = held_as now (record { active = refl; neutral = record { same = refl; ordered = ordered }; on_left = on_left }) depth text_room mark_room (subst (CanHoldAgain m) is can);
   }
 
   pub moves_back : (n : ℕ) → IsSome (moved_back n (alone m.texts)) → (n ≤ length text.left) × IsBack (moved_back n (alone m.texts)) functions (with_last_before n text) ms m
   moves_back n h =
-      let moved : IsMovedBack n text ms = is_moved_back n text ms now.sound.ordered (subst (λ (t : Texts). IsSome (moved_back n (alone t))) (sym texts_are) h) in
+      let moved : IsMovedBack n text ms = is_moved_back n text ms now.sound.ordered now.sound.on_left (subst (λ (t : Texts). IsSome (moved_back n (alone t))) (sym texts_are) h) in
       let depth : functions ≡ length (texts_held (with_last_before n text) ms).frames =
       now.sound.depth ∙ sym (frames_counted (marked_in text ms)) ∙ frames_counted (marked_in (with_last_before n text) ms) in (
         moved.within,
         record {
           state = ap (λ (t : Texts). moved_back n (alone t)) (sym texts_are) ∙ moved.state;
-          now = held_within now (record { active = refl; neutral = record { same = refl; ordered = moved.ordered } }) depth refl refl (omega (arith, moved_length n text moved.within)) (omega arith);
+          now = held_within now (record { active = refl; neutral = record { same = refl; ordered = moved.ordered }; on_left = now.sound.on_left }) depth refl refl (omega (arith, moved_length n text moved.within)) (omega arith);
         },
       )
 
@@ -292,12 +292,12 @@ module _ {functions : ℕ} {text : Ends ℕ} {ms : Ends Mark} {m : ShownTexts} (
       let ended : Ends ℕ = record text { right = ending_of closed ++ text.right } in
       let here : IsSome (restored (Quoted inner closed) (alone (texts_held text ms))) =
       subst (λ (t : Texts). IsSome (restored (Quoted inner closed) (alone t))) (sym texts_are) (is_there m _ can) in
-      let moved : IsMovedBack inner ended ms = is_moved_back inner ended ms now.sound.ordered (some_map (put_before (codes "(")) _ here) in
+      let moved : IsMovedBack inner ended ms = is_moved_back inner ended ms now.sound.ordered now.sound.on_left (some_map (put_before (codes "(")) _ here) in
       let depth : functions ≡ length (texts_held (without_protected inner closed text) ms).frames =
       now.sound.depth ∙ sym (frames_counted (marked_in text ms)) ∙ frames_counted (marked_in (without_protected inner closed text) ms) in
       let state : restored (Quoted inner closed) (alone m.texts) ≡ Some (alone (texts_held (without_protected inner closed text) ms)) =
       ap (λ (t : Texts). restored (Quoted inner closed) (alone t)) (sym texts_are) ∙ ap (option_map (put_before (codes "("))) moved.state in
-      let back : IsBack (restored (Quoted inner closed) (alone m.texts)) functions (without_protected inner closed text) ms m = back_now can state moved.ordered depth refl refl in
+      let back : IsBack (restored (Quoted inner closed) (alone m.texts)) functions (without_protected inner closed text) ms m = back_now can state moved.ordered now.sound.on_left depth refl refl in
       record {
         within = moved.within;
         room = omega (arith, back.now.sound.text_room, moved_length inner ended moved.within, length-append (ending_of closed) text.right);
@@ -309,7 +309,7 @@ module _ {functions : ℕ} {text : Ends ℕ} {ms : Ends Mark} {m : ShownTexts} (
       let here : IsSome (restored Comma (alone (texts_held text ms))) = subst (λ (t : Texts). IsSome (restored Comma (alone t))) (sym texts_are) (is_there m _ can) in
       let rest = is_shorter (codes ",") text ms _ (comma_unmarked text.left (reverse ms.left) (alone (texts_held text ms)) now.sound.ordered here) in
       let state = ap (λ (t : Texts). restored Comma (alone t)) (sym texts_are) ∙ rest.state in
-      back_now can state rest.ordered (now.sound.depth ∙ sym (again_depth (texts_held text ms).frames (alone (texts_held text ms)) _ rest.state)) refl refl
+      back_now can state rest.ordered now.sound.on_left (now.sound.depth ∙ sym (again_depth (texts_held text ms).frames (alone (texts_held text ms)) _ rest.state)) refl refl
 
   pub some_mark : IsSome (restored Comma (alone m.texts)) → 0 < length ms.left
   some_mark h = by_frames m.texts.frames (mark_count (held_now now)) h
@@ -327,14 +327,14 @@ module _ {functions : ℕ} {text : Ends ℕ} {ms : Ends Mark} {m : ShownTexts} (
       let state = ap (λ (t : Texts). restored Begun (alone t)) (sym texts_are) ∙ rest.state in
       let one_less = unbegun_depth (texts_held text ms).frames (alone (texts_held text ms)) _ rest.state in
       let some : 1 ≤ functions = omega (arith, now.sound.depth, one_less) in
-      let back : IsBack (restored Begun (alone m.texts)) (functions - 1) (with_before bytes text) (without_last ms) m = back_now can state rest.ordered (omega (arith, now.sound.depth, one_less)) refl refl in
+      let back : IsBack (restored Begun (alone m.texts)) (functions - 1) (with_before bytes text) (without_last ms) m = back_now can state rest.ordered now.sound.on_left (omega (arith, now.sound.depth, one_less)) refl refl in
       record { begins = gone.begins; room = omega (arith, back.now.sound.text_room, length-append bytes text.right); some = some; back = back }
 
   pub undeletes : (b : ℕ) → CanHold m (record m.texts { active = b ∷ m.texts.active }) → {next : Ends ℕ} → next ≡ record text { right = b ∷ text.right } →
       AreNow functions next ms (record m { texts = record m.texts { active = b ∷ m.texts.active } })
   undeletes b can {next} is =
       let held = held_now now in
-      let holds : Hold (with_before (b ∷ []) text) ms (record m.texts { active = b ∷ m.texts.active }) = record { active = ap (λ (active : List ℕ). b ∷ active) held.active; neutral = held.neutral } in
+      let holds : Hold (with_before (b ∷ []) text) ms (record m.texts { active = b ∷ m.texts.active }) = record { active = ap (λ (active : List ℕ). b ∷ active) held.active; neutral = held.neutral; on_left = held.on_left } in
       subst (λ (e : Ends ℕ). AreNow functions e ms (record m { texts = record m.texts { active = b ∷ m.texts.active } })) (sym is) (held_as now holds (depth_now now) refl refl can)
 
   pub undelete_fits : (b : ℕ) → CanHold m (record m.texts { active = b ∷ m.texts.active }) → item_count text + 1 ≤ text.capacity

@@ -104,3 +104,5 @@ pub record AreSound (functions : ℕ) (text : Ends ℕ) (marks : Ends Mark) : Ty
   pub mark_limit : length marks.left ≤ MARK_LIMIT
   pub text_room : item_count text ≤ text.capacity
   pub mark_room : length marks.left ≤ marks.capacity
+  -- marks stand on the left alone, so all of the room is theirs
+  pub on_left : marks.right ≡ []

@@ -8,4 +8,5 @@ pub mod Moving
 pub mod MovingBack
 pub mod Framing
 pub mod Holding
+pub mod Ruled
 pub mod Pieces

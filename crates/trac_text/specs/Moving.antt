@@ -1,18 +1,9 @@
 -- What a step makes of the texts: the neutral text on the left, and the active text on the right.
-use Rattle.std.specs.Prelude.{ℕ, ◌++◌, Bool, true, false, nat_lt, List}
+use Rattle.std.specs.Prelude.{ℕ, ◌++◌, Bool, true, false, List}
 use Rattle.trac_gap.specs.Ends.{Ends}
 use Rattle.trac_rules.specs.declared.kind.Kind.{Kind}
 use Rattle.trac_rules.specs.declared.kind.Kind.TheVariants.{Active, Neutral}
-use Rattle.trac_rules.specs.declared.scan.Front.{Front}
-use Rattle.trac_rules.specs.declared.scan.Front.TheVariants.{Comma, ActiveCall, NeutralCall}
 use Rattle.trac_rules.specs.Matching.{Protected}
-
--- whether the rule for this front makes a mark, if there are so many marks
-abbrev pub adds_mark : Front → ℕ → Bool
-adds_mark ActiveCall marks = true
-adds_mark NeutralCall marks = true
-adds_mark Comma marks = nat_lt 0 marks
-adds_mark front marks = false
 
 -- the texts with what is protected at the end of the one on the left, and what stands after it on the right
 abbrev pub with_protected : Protected → Ends ℕ → Ends ℕ

@@ -46,12 +46,13 @@ fn put_call<E: TwoEnds<u8, A>, M: TwoEnds<Mark, A>, A: Allocator + Copy>(
     requires value { HasValue scanned n (E.ends text.old) }
     requires text_room { item_count (before_call scanned n (all_texts arguments.now) (E.ends text.old))
         ≤ (E.ends text.old).capacity }
-    requires mark_room { length (M.ends marks.old).left + 1 + length arguments.now.finished
+    requires mark_room { item_count (M.ends marks.old) + 1 + length arguments.now.finished
         ≤ (M.ends marks.old).capacity }
     ensures text { E.ends text.new ≡ before_call scanned n (all_texts arguments.now) (E.ends text.old) }
-    ensures marks { (M.ends marks.new).left ≡ (M.ends marks.old).left ++ function_marks
-        (length (without_value scanned n (E.ends text.old)).left) kind (map length arguments.now.finished) }
-    ensures mark_room { (M.ends marks.new).capacity ≡ (M.ends marks.old).capacity }
+    ensures marks { M.ends marks.new ≡ record (M.ends marks.old) {
+      left = (M.ends marks.old).left ++ function_marks (length (without_value scanned n (E.ends text.old)).left) kind
+          (map length arguments.now.finished);
+    } }
 {
     // A value that was to be scanned went before the text on the right, any other after the one on the left.
     if scanned {
@@ -60,8 +61,5 @@ fn put_call<E: TwoEnds<u8, A>, M: TwoEnds<Mark, A>, A: Allocator + Copy>(
         text.cut_left(n);
     }
     text.push_right(CLOSING);
-
-    // Marks stand on the left alone, so all of the room is theirs.
-    marks.cut_right(marks.right().len());
     put_function(text, marks, kind, arguments);
 }

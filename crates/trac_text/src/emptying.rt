@@ -90,6 +90,7 @@ fn put_functions<A: Allocator + Copy, E: TwoEnds<u8, A>, M: TwoEnds<Mark, A>>(
         ≡ record { base = base.now; frames = frames_in functions.items } }
     ensures ordered { IsOrdered (record { text = (E.ends text.new).left; marks = (M.ends marks.new).left }) }
     ensures right { (E.ends text.new).right ≡ [] }
+    ensures on_left { (M.ends marks.new).right ≡ [] }
     ensures text_room { (E.ends text.new).capacity ≡ (E.ends text.old).capacity }
     ensures mark_room { (M.ends marks.new).capacity ≡ (M.ends marks.old).capacity }
 {

@@ -1,5 +1,5 @@
 //! Texts and marks from active text, base text and begun functions.
-ghost use Rattle.std.specs.Prelude.{◌≡◌, ◌+◌, ◌-◌, ◌≤◌, ◌<◌, ◌^◌, ◌++◌, length, min};
+ghost use Rattle.std.specs.Prelude.{◌≡◌, ◌+◌, ◌-◌, ◌≤◌, ◌<◌, ◌^◌, [], ◌++◌, length, min};
 ghost use Rattle.std.specs.Prelude.{IfOk, IsOkUnless, IsTrue, Some};
 ghost use Rattle.std.specs.List.{concat};
 ghost use Rattle.trac_gap.specs.Ends.{item_count};
@@ -123,6 +123,7 @@ fn texts_and_marks<A: Allocator + Copy, E: TwoEnds<u8, A>, M: TwoEnds<Mark, A>>(
         ≡ record { base = base.now; frames = frames_of (functions_of functions.now) }) }
     ensures active { IfOk result (λ r. (E.ends r.0).right ≡ active.now) }
     ensures ordered { IfOk result (λ r. IsOrdered (marked_in (E.ends r.0) (M.ends r.1))) }
+    ensures on_left { IfOk result (λ r. (M.ends r.1).right ≡ []) }
     ensures holds { IfOk result (λ r. item_count (E.ends r.0) ≤ (E.ends r.0).capacity) }
     ensures mark_holds { IfOk result (λ r. length (M.ends r.1).left ≤ (M.ends r.1).capacity) }
     ensures room { IfOk result (λ r. text_room ≤ (E.ends r.0).capacity) }

@@ -3,7 +3,6 @@ ghost use Rattle.std.specs.Prelude.{◌≡◌, ◌+◌, ◌<◌, ◌≤◌, fals
 ghost use Rattle.trac_rules.specs.PlainRuns.{is_plain as is_plain_byte};
 ghost use Rattle.trac_rules.specs.Performing.{beginning_of};
 ghost use Rattle.trac_rules.specs.Scanning.{front_of};
-ghost use Rattle.trac_text.specs.Moving.{adds_mark};
 
 use trac_rules::byte;
 use trac_rules::kind::Kind;
@@ -108,23 +107,6 @@ fn group_has_low(text: &[u8], at: usize) -> bool
         low |= (b < b'-') & (b != b' ');
     }
     low
-}
-
-/// Whether the rule for this front makes a mark, if there are so many marks: a function is begun, or, inside of one, a
-/// further argument.
-pub fn makes_mark(front: Front, marks: usize) -> bool
-    ensures { result ≡ adds_mark front marks }
-{
-    match front {
-        Front::ActiveCall | Front::NeutralCall => true,
-        Front::Comma => marks > 0,
-        Front::Nothing
-        | Front::Opening
-        | Front::Layout
-        | Front::Sharp
-        | Front::Closing
-        | Front::Plain => false,
-    }
 }
 
 /// How a function of this kind begins, by T-64's rules of scanning.

@@ -15,6 +15,7 @@ pub mod front;
 pub mod mark;
 pub mod matching;
 pub mod pieces;
+pub mod scanning;
 pub mod texts;
 mod texts_back;
 
@@ -24,6 +25,7 @@ pub use calls::Beginning;
 pub use frames::{Innermost, NeutralText};
 pub use mark::Mark;
 pub use pieces::{Functions, Pieces, PiecesRef};
+pub use scanning::{Rule, Short};
 pub use texts::Texts;
 pub use trac_rules::kind::Kind;
 pub use trac_rules::refusal::Refusal;

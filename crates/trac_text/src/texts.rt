@@ -83,6 +83,7 @@ impl<E: TwoEnds<u8, A>, M: TwoEnds<Mark, A>, A: Allocator + Copy> Texts<E, M, A>
     }
 
     /// What the active text begins with, which decides the rule of scanning, as T-64 has it.
+    #[inline(always)]
     pub fn front(&self) -> Front
         ensures { result ≡ front_of self.now.texts.active }
     {
@@ -176,7 +177,7 @@ impl<E: TwoEnds<u8, A>, M: TwoEnds<Mark, A>, A: Allocator + Copy> Texts<E, M, A>
 
     /// Deletes the beginning of a function of this kind, with which the active text has to begin, and begins the
     /// function. Refused with `Memory` if there is no room for a mark and the allocator refuses; then nothing changed.
-    #[inline]
+    #[inline(always)]
     pub fn begin(&mut self, kind: Kind) -> Result<(), Refusal>
         requires front { length (beginning_of kind) ≤ length self.old.texts.active }
         requires limit { mark_count self.old.texts.frames < MARK_LIMIT }
@@ -202,7 +203,7 @@ impl<E: TwoEnds<u8, A>, M: TwoEnds<Mark, A>, A: Allocator + Copy> Texts<E, M, A>
     /// Deletes a `,`, the first byte of the active text, and begins a further argument of the innermost function, which
     /// has to be there. Refused with `Memory` if there is no room for a mark and the allocator refuses; then nothing
     /// changed.
-    #[inline]
+    #[inline(always)]
     pub fn next_argument(&mut self) -> Result<(), Refusal>
         requires front { 0 < length self.old.texts.active }
         requires inside { 0 < length self.old.texts.frames }
@@ -281,30 +282,30 @@ fn take_first<A: Allocator + Copy, E: TwoEnds<u8, A>>(text: &mut E) -> u8
 
 // Takes the first n bytes on the right away, and puts a mark after all others, at the end of the text on the left. It
 // is the mark of a function of this kind, or, if none is named, of a further argument. Refused with `Memory` if the
-// marks have no room and the allocator refuses; then nothing changed but that no mark is left on the right.
-#[inline]
+// marks have no room and the allocator refuses; then nothing changed.
+#[inline(always)]
 fn push_mark<A: Allocator + Copy, E: TwoEnds<u8, A>, M: TwoEnds<Mark, A>>(
     text: &mut E,
     marks: &mut M,
     n: usize,
     frame: Option<Kind>,
 ) -> Result<(), Refusal>
-    requires { n ≤ length (E.ends text.old).right }
+    requires front { n ≤ length (E.ends text.old).right }
+    requires on_left { (M.ends marks.old).right ≡ [] }
     ensures text { OnOk result (E.ends text.new ≡ record (E.ends text.old) { right = drop n (E.ends text.old).right }) }
-    ensures marks { OnOk result
-        ((M.ends marks.new).left ≡ (M.ends marks.old).left ++ mark_at (length (E.ends text.old).left) frame ∷ []) }
+    ensures marks { OnOk result (M.ends marks.new ≡ record (M.ends marks.old) {
+      left = (M.ends marks.old).left ++ mark_at (length (E.ends text.old).left) frame ∷ [];
+      capacity = (M.ends marks.new).capacity;
+    }) }
     ensures holds { OnOk result (length (M.ends marks.old).left + 1 ≤ (M.ends marks.new).capacity) }
     ensures room { (M.ends marks.old).capacity ≤ (M.ends marks.new).capacity }
     ensures unchanged_text { OnErr result (E.ends text.new ≡ E.ends text.old) }
-    ensures unchanged_marks { OnErr result ((M.ends marks.new).left ≡ (M.ends marks.old).left) }
-    ensures unchanged_room { OnErr result ((M.ends marks.new).capacity ≡ (M.ends marks.old).capacity) }
+    ensures unchanged_marks { OnErr result (M.ends marks.new ≡ M.ends marks.old) }
 
     // Memory is refused only if there is no room.
     ensures full { OnErr result ((M.ends marks.old).capacity ≤ length (M.ends marks.old).left) }
     ensures err { IsOkUnless result Refusal.Memory }
 {
-    // Marks stand on the left alone, so all of the room is theirs.
-    marks.cut_right(marks.right().len());
     ends::reserve(marks, 1)?;
     text.cut_right(n);
     marks.push_left(Mark {
@@ -325,8 +326,7 @@ pub(crate) fn restart<A: Allocator + Copy, E: TwoEnds<u8, A>, M: TwoEnds<Mark, A
     ensures right { OnOk result ((E.ends text.new).right ≡ idle_program) }
     ensures holds { OnOk result (11 ≤ (E.ends text.new).capacity) }
     ensures room { (E.ends text.old).capacity ≤ (E.ends text.new).capacity }
-    ensures marks { OnOk result ((M.ends marks.new).left ≡ []) }
-    ensures mark_room { (M.ends marks.new).capacity ≡ (M.ends marks.old).capacity }
+    ensures marks { OnOk result (M.ends marks.new ≡ record (M.ends marks.old) { left = [] }) }
     ensures unchanged_text { OnErr result (E.ends text.new ≡ E.ends text.old) }
     ensures unchanged_marks { OnErr result (M.ends marks.new ≡ M.ends marks.old) }
     ensures err { IsOkUnless result Refusal.Memory }

@@ -4,15 +4,34 @@ ghost use Rattle.trac_gap.specs.Ends.{item_count};
 ghost use Rattle.trac_rules.specs.Records.{Begun, Comma, Quoted, ending_of, moved_back, restored};
 ghost use Rattle.trac_text.specs.Holding.{CanHold, CanHoldAgain, alone};
 ghost use Rattle.trac_text.specs.MovingBack.{beginning_by, last_begun, without_protected};
+ghost use Rattle.trac_text.specs.Ruled.{said_by};
 
 use crate::front::beginning_of;
 use crate::mark::Mark;
+use crate::scanning::Short;
 use crate::texts::Texts;
 use std::alloc::Allocator;
 use trac_gap::TwoEnds;
 use trac_rules::byte::{CLOSING, OPENING};
 
 impl<E: TwoEnds<u8, A>, M: TwoEnds<Mark, A>, A: Allocator + Copy> Texts<E, M, A> {
+    /// Goes back over a rule of scanning that destroyed this. There has to be room for the texts before it. It takes no
+    /// memory.
+    #[inline(always)]
+    pub fn take_back(&mut self, short: Short)
+        requires { CanHoldAgain self.old (restored (said_by short) (alone self.old.texts)) }
+        ensures back { restored (said_by short) (alone self.old.texts) ≡ Some (alone self.new.texts) }
+        ensures rooms { self.new ≡ record self.old { texts = self.new.texts } }
+    {
+        match short {
+            Short::Moved => self.move_back(1),
+            Short::Comma => self.gather_again(),
+            Short::Begun => self.take_beginning_back(),
+            Short::Quoted { inner, closed } => self.unprotect(inner, closed),
+            Short::Deleted(byte) => self.undelete(byte),
+        }
+    }
+
     /// Moves the last n bytes of the current text, which has to hold so many, back before the active text. It takes no
     /// memory.
     pub fn move_back(&mut self, n: usize)

@@ -40,6 +40,7 @@ returns g c =
       neutral = all.0.same;
       active = so_far.begun.right_is;
       ordered = all.0.ordered;
+      on_left = so_far.begun.no_others;
       holds = all.1;
       mark_holds = omega (arith, all.2);
       room = so_far.room;

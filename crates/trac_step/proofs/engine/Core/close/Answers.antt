@@ -7,15 +7,12 @@ use Rattle.trac_rules.specs.Scanning.{scan}
 use Rattle.trac_rules.specs.Stepping.{step}
 use Rattle.trac_prims.specs.Tape.{environment_of}
 use Rattle.trac_step.specs.Calling.{state_after}
-use Rattle.trac_step.specs.Ready.{IsFound, recorded_after, undone_after}
+use Rattle.trac_step.specs.Ready.{recorded_after, undone_after}
 use Rattle.trac_step.specs.Room.{LacksRoomAhead}
-use Rattle.trac_text.proofs.Beginnings.{some_frame}
 use Rattle.trac_step.proofs.Fitting.{added_as, call_fits}
-use Rattle.trac_step.proofs.Moving.{closing_fits, closing_move, closing_outside}
 use Rattle.trac_step.proofs.Outcomes.{if_err_always, refused_for_memory, taken_by, taken_lacks}
-use Rattle.trac_step.proofs.Recorded.{call_lacks_nothing, closing_kept}
+use Rattle.trac_step.proofs.Recorded.{call_lacks_nothing}
 use Rattle.trac_step.proofs.Rooms.{no_less}
-use Rattle.trac_step.proofs.Stepped.{stepped}
 use Rattle.trac_step.proofs.engine.Core.close.Goals as goal
 
 pub returns-in_err-plan : goal.returns-in_err-plan
@@ -26,51 +23,28 @@ returns-in_err-plan g c =
       kept = tt;
       refused = subst (MayRefuse (step (environment_of c.args.self.now.width c.args.tape) c.args.self.now.state)) (sym p.2) c.in_err-plan.ensures.refused;
       unchanged = (refl, refl);
-      lacking = λ is place. call_lacks_nothing c.args.self.now c.requires.front c.in_err-plan.ensures.inside;
+      lacking = λ is place. call_lacks_nothing c.args.self.now c.requires.front c.requires.inside;
       room = no_less c.args.self.now;
     })
 
--- ---- no function is begun
-
-pub delete_into-requires-clause-moves : goal.delete_into-requires-clause-moves
-delete_into-requires-clause-moves g c =
-    let s = c.args.self.now.state in
-    let none = subst (IsFound (environment_of c.args.self.now.width c.args.tape) s c.planned.new.made c.planned.new.change) c.in_default.is c.in_ok-plan.ensures.planned in
-    closing_move s c.requires.front (closing_outside s c.requires.front none)
-
-pub delete_into-requires-clause-told : goal.delete_into-requires-clause-told
-delete_into-requires-clause-told g c = closing_kept c.args.self.now.state c.requires.front
-
-pub returns-in_default : goal.returns-in_default
-returns-in_default g c =
-    let s = c.args.self.now.state in
-    let e = environment_of c.args.self.now.width c.args.tape in
-    let none = subst (IsFound e s c.planned.new.made c.planned.new.change) c.in_default.is c.in_ok-plan.ensures.planned in
-    stepped e c.delete_into.result c.args.self.now c.delete_into.new.self (g.K.Keeper.records c.args.keeper.now) (g.K.Keeper.records c.delete_into.new.keeper) (g.K.Keeper.places c.args.keeper.now) (closing_outside s c.requires.front none)
-    (closing_fits s c.requires.can.proper c.requires.front none) c.delete_into.ensures
-
--- ---- the innermost function is performed
-
 pub perform-requires-clause-ready : goal.perform-requires-clause-ready
-perform-requires-clause-ready g c =
-    (subst (IsFound (environment_of c.args.self.now.width c.args.tape) c.args.self.now.state c.planned.new.made c.planned.new.change) c.in-Some.is c.in_ok-plan.ensures.planned).ready
+perform-requires-clause-ready g c = c.in_ok-plan.ensures.planned.ready
 
 pub perform-requires-clause-fits : goal.perform-requires-clause-fits
 perform-requires-clause-fits g c =
     let s = c.args.self.now.state in
     let e = environment_of c.args.self.now.width c.args.tape in
-    let plan = c.in-Some.plan in
-    let planned = subst (IsFound e s c.planned.new.made c.planned.new.change) c.in-Some.is c.in_ok-plan.ensures.planned in
-    let can = c.requires.can in
-    call_fits e s (state_after plan c.planned.new.made c.planned.new.change (scan s)) plan.called (undone_after c.planned.new.change s) can.proper
-    planned.ready.proper c.requires.front (some_frame s.frames s.base plan.beginning planned.ready.begins) planned.taken planned.recorded
+    let plan = c.in_ok-plan.plan in
+    let planned = c.in_ok-plan.ensures.planned in
+    call_fits e s (state_after plan c.planned.new.made c.planned.new.change (scan s)) plan.called (undone_after c.planned.new.change s) c.requires.can.proper
+    planned.ready.proper c.requires.front c.requires.inside planned.taken planned.recorded
 
 pub returns : goal.returns
 returns g c =
     let s = c.args.self.now.state in
     let e = environment_of c.args.self.now.width c.args.tape in
-    let plan = c.in-Some.plan in
-    let planned = subst (IsFound e s c.planned.new.made c.planned.new.change) c.in-Some.is c.in_ok-plan.ensures.planned in
+    let plan = c.in_ok-plan.plan in
+    let planned = c.in_ok-plan.ensures.planned in
     let t = state_after plan c.planned.new.made c.planned.new.change (scan s) in
     let done = c.perform.ensures in
     record {
@@ -79,6 +53,6 @@ returns g c =
       refused = refused_for_memory c.perform.result (λ refusal. MayRefuse (step e s) refusal) done.unchanged done.err (λ same. taken_lacks (step e s) t planned.taken);
       unchanged = done.unchanged;
       lacking = if_err_always c.perform.result (λ refusal. refusal ≡ Memory → 1 ≤ g.K.Keeper.places c.args.keeper.now → LacksRoomAhead c.args.self.now)
-          (λ refusal is place. call_lacks_nothing c.args.self.now c.requires.front (some_frame s.frames s.base plan.beginning planned.ready.begins));
+          (λ refusal is place. call_lacks_nothing c.args.self.now c.requires.front c.requires.inside);
       room = done.room;
     }

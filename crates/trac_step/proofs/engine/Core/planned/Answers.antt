@@ -38,13 +38,10 @@ plan_into-requires-clause-text g c =
       ap (λ (t : State). length t.active) state_is,
     )
 
-pub returns-in_default-clause-planned : goal.returns-in_default-clause-planned
-returns-in_default-clause-planned g c = ap (λ (n : Neutral). n.frames) (sym (read_there c.self.view_is c.neutral.result c.neutral.ensures)) ∙ c.in_default.ensures
-
-pub returns-in_err-deed-clause-inside : goal.returns-in_err-deed-clause-inside
-returns-in_err-deed-clause-inside g c =
-    let err = err_from_is_err_and c.from_residual.result c.from_residual.ensures.1 in
-    rw err.1 (omega (arith, ap (λ (n : Neutral). length n.frames) (read_there c.self.view_is c.neutral.result c.neutral.ensures), ap (λ (fs : List Frame). length fs) c.in-Some.ensures.frames_are))
+pub unreachable-requires : goal.unreachable-requires
+unreachable-requires g c =
+    let read = read_there c.self.view_is c.neutral.result c.neutral.ensures in
+    absurd (omega (arith, c.requires.inside, ap (λ (n : Neutral). length n.frames) read, ap (λ (fs : List Frame). length fs) c.in_default.ensures))
 
 pub returns-in_err-deed-clause-refused : goal.returns-in_err-deed-clause-refused
 returns-in_err-deed-clause-refused g c =

@@ -15,10 +15,10 @@ pub overflow_add-self : goal.overflow_add-self
 overflow_add-self g c = omega (arith, depth_fits (record { sound = c.self.invariant; view = c.self.view_is }))
 
 pub invariant_of-self : goal.invariant_of-self
-invariant_of-self g c = (called_now (record { sound = c.self.invariant; view = c.self.view_is }) c.args.kind c.args.arguments.now c.args.scanned c.args.n c.requires c.put_call.ensures.text c.put_call.ensures.marks c.put_call.ensures.mark_room).sound
+invariant_of-self g c = (called_now (record { sound = c.self.invariant; view = c.self.view_is }) c.args.kind c.args.arguments.now c.args.scanned c.args.n c.requires c.put_call.ensures.text c.put_call.ensures.marks).sound
 
 pub returns : goal.returns
 returns g c =
     let ns = g.M.TwoEnds.ends c.put_call.new.marks in
-    let both = back_is (record { sound = c.self.invariant; view = c.self.view_is }) c.args.kind c.args.arguments.now c.args.scanned c.args.n c.requires (shown_texts (g.E.TwoEnds.ends c.put_call.new.text) ns) (called_now (record { sound = c.self.invariant; view = c.self.view_is }) c.args.kind c.args.arguments.now c.args.scanned c.args.n c.requires {ns = g.M.TwoEnds.ends c.put_call.new.marks} c.put_call.ensures.text c.put_call.ensures.marks c.put_call.ensures.mark_room).view in
+    let both = back_is (record { sound = c.self.invariant; view = c.self.view_is }) c.args.kind c.args.arguments.now c.args.scanned c.args.n c.requires (shown_texts (g.E.TwoEnds.ends c.put_call.new.text) ns) (called_now (record { sound = c.self.invariant; view = c.self.view_is }) c.args.kind c.args.arguments.now c.args.scanned c.args.n c.requires {ns = g.M.TwoEnds.ends c.put_call.new.marks} c.put_call.ensures.text c.put_call.ensures.marks).view in
     record { back = both.0; rooms = both.1 }
