@@ -11,8 +11,7 @@ use Rattle.trac_rules.proofs.Replies.{Step_done}
 use Rattle.trac_session.specs.declared.walking.Direction.{Direction}
 use Rattle.trac_session.specs.declared.walking.Direction.TheVariants.{Backward, Forward}
 use Rattle.trac_session.specs.Directions.{IsForward, command_towards, weight_of}
-use Rattle.trac_session.specs.Goals.{outcome}
-use Rattle.trac_session.specs.Runs.{IsAsked, IsQuiet}
+use Rattle.trac_session.specs.Runs.{IsQuiet}
 use Rattle.trac_session.specs.Within.{IsHeavy, IsLight, IsWalkUnder}
 use Rattle.trac_session.proofs.Walked.{GoesOn, goes_on_first, goes_on_further, met_walk, refused_same, stopped_walk, whole_walk}
 
@@ -198,9 +197,3 @@ pub unweighed : {command : Command} {goal : Goal} {n steps : ℕ} {why : Option 
 unweighed {command} {goal} {n} {steps} {why} {old} {new} walk =
     let all : walk.allowed ≡ n = ⊎_elim (λ (fewer : walk.allowed < n). absurd (walk.heavy fewer).1) (λ (l : n ≤ walk.allowed). omega (arith, walk.within, l)) (cases_lt walk.allowed n) in
     subst (λ m. IsWalk command goal m old steps why new) all walk.walk
-
--- no search is refused memory where its walk was not
-pub asked_searched : (met : Bool) (ended why : Option Refusal) (s : State) → why ≡ outcome met ended → IsAsked ended s → IsAsked why s
-asked_searched met (Some refusal) why s is asked = subst (λ r. IsAsked r s) (sym is) asked
-asked_searched true None why s is asked = subst (λ r. IsAsked r s) (sym is) tt
-asked_searched false None why s is asked = subst (λ r. IsAsked r s) (sym is) tt
