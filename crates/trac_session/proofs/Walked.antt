@@ -6,7 +6,7 @@ use Rattle.trac_rules.specs.declared.refusal.Refusal.{Refusal}
 use Rattle.trac_rules.specs.declared.refusal.Refusal.TheVariants.{Memory, AtStart}
 use Rattle.trac_rules.specs.declared.reply.Reply.{Reply}
 use Rattle.trac_rules.specs.declared.reply.Reply.TheVariants.{Done, Refused}
-use Rattle.trac_rules.specs.Session.{PlainSession, Command, Step, Back, Goal, done, refused, answer, accepted_by, Answers, MayRunOut, repeated, IsWalk}
+use Rattle.trac_rules.specs.Session.{PlainSession, Command, Step, Back, Goal, done, refused, answer, accepted_by, Answers, MayRunOut, no_goal, repeated, IsWalk}
 use Rattle.trac_rules.proofs.Replies.{Step_refused, Back_refused, answer_Step_full}
 use Rattle.trac_rules.specs.PlainRuns.{BeginsPlain}
 use Rattle.trac_session.specs.declared.walking.Direction.{Direction}
@@ -99,6 +99,13 @@ goes_on_more command goal old p q n on h not_met =
           (λ (l : n + 1 ≤ k). ap (λ (s : PlainSession). goal s.last) (same_after command k (n + 1) old r q (omega arith) there more) ∙ not_met)
           (cases_lt k (n + 1));
     }
+
+-- after so many accepted steps more, without a goal
+pub goes_on_far : (command : Command) (old p q : PlainSession) (n k : ℕ) → GoesOn command no_goal old n p → repeated command k p ≡ Some q → GoesOn command no_goal old (n + k) q
+goes_on_far command old p q n k on more = record {
+  walked = repeated-from command n k old p on.walked ∙ more;
+  unmet = λ j r some few there. refl;
+}
 
 -- a refusal ends it
 pub stopped_walk : (command : Command) (goal : Goal) (n k : ℕ) (old p q : PlainSession) (refusal : Refusal) → GoesOn command goal old k p → k < n → q ≡ p →
