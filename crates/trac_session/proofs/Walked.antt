@@ -11,7 +11,7 @@ use Rattle.trac_rules.proofs.Replies.{Step_refused, Back_refused, answer_Step_fu
 use Rattle.trac_rules.specs.PlainRuns.{BeginsPlain}
 use Rattle.trac_session.specs.declared.walking.Direction.{Direction}
 use Rattle.trac_session.specs.declared.walking.Direction.TheVariants as towards
-use Rattle.trac_session.specs.Directions.{command_towards}
+use Rattle.trac_session.specs.Directions.{IsForward, command_towards}
 use Rattle.trac_session.specs.Goals.{IsSearch, outcome}
 use Rattle.trac_session.specs.Runs.{HasNoPlain, IsAsked}
 
@@ -45,7 +45,7 @@ Back_refused_same p q refusal h = (Back_refused p q refusal h).0
 
 -- whichever way it went
 pub refused_same : (direction : Direction) (p q : PlainSession) (refusal : Refusal) → Answers (command_towards direction) p (Refused refusal) q → q ≡ p
-refused_same towards.Forward p q refusal h = Step_refused_same p q refusal h
+refused_same (towards.Forward weight) p q refusal h = Step_refused_same p q refusal h
 refused_same towards.Backward p q refusal h = Back_refused_same p q refusal h
 
 -- where memory is refused for a step, there is a place for its record
@@ -56,9 +56,9 @@ place_of_memory p q h = ⊎_elim
     (cases_lt (length p.earlier) p.limit)
 
 -- so it moves no plain byte, where these are passed before
-pub asked_for : (direction : Direction) (p q : PlainSession) (refusal : Refusal) → q ≡ p → Answers (command_towards direction) p (Refused refusal) q → (direction ≡ towards.Forward → HasNoPlain p) →
+pub asked_for : (direction : Direction) (p q : PlainSession) (refusal : Refusal) → q ≡ p → Answers (command_towards direction) p (Refused refusal) q → (IsForward direction → HasNoPlain p) →
     IsAsked (Some refusal) q.last
-asked_for towards.Forward p q Memory same h none = subst (λ (r : PlainSession). BeginsPlain 1 r.last → ⊥) (sym same) (none refl (place_of_memory p q h))
+asked_for (towards.Forward weight) p q Memory same h none = subst (λ (r : PlainSession). BeginsPlain 1 r.last → ⊥) (sym same) (none tt (place_of_memory p q h))
 asked_for towards.Backward p q Memory same h none = absurd h.0
 asked_for direction p q other same h none = tt
 

@@ -3,7 +3,7 @@ use Rattle.std.specs.Prelude.{◌≡◌, ℕ, nat_lt, ◌&&◌, List, map, Bool,
 use Rattle.std.specs.Str.{bytes_eq}
 use Rattle.trac_rules.specs.declared.refusal.Refusal.{Refusal}
 use Rattle.trac_rules.specs.declared.refusal.Refusal.TheVariants.{NotMet}
-use Rattle.trac_rules.specs.Session.{PlainSession, Command, Goal, IsWalk}
+use Rattle.trac_rules.specs.Session.{PlainSession, Command, Goal, IsWalk, no_goal}
 use Rattle.trac_rules.specs.Stepping.{call_at}
 use Rattle.trac_rules.specs.Doubts.{is_doubtful}
 use Rattle.trac_rules.specs.Goals.{has_other_form, is_call_with, is_end_of, is_own_call, is_shallower, is_unprinted}
@@ -42,3 +42,8 @@ goal_of (code.TheVariants.Rest most) = leaves_at_most most
 goal_of (code.TheVariants.OtherForm name form) = has_other_form name.now form.now
 goal_of (code.TheVariants.Unprinted count) = is_unprinted count
 goal_of (code.TheVariants.Doubtful width) = is_doubtful width
+
+-- the goal of a walk that may have none
+abbrev pub goal_at : {A : Type 0} → Option (code.Goal A) → Goal
+goal_at None = no_goal
+goal_at (Some goal) = goal_of goal

@@ -1,15 +1,14 @@
 //! Walks over several steps.
-ghost use Rattle.std.specs.Prelude.{◌≡◌, ◌<◌, ◌≤◌, ◌&&◌, IfErr, IfOk, None, Some, drop, length, max, nat_lt, ℕ};
-ghost use Rattle.trac_rules.specs.declared.reply.Reply.TheVariants.{Refused};
+ghost use Rattle.std.specs.Prelude.{◌≡◌, ◌<◌, ◌≤◌, ◌&&◌, Some, false, length, max, nat_lt, true, ℕ};
 ghost use Rattle.trac_rules.specs.Session.{PlainSession, Step, Back, Answers, IsWalk, no_goal, repeated};
+ghost use Rattle.trac_rules.specs.State.{State};
 ghost use Rattle.trac_rules.specs.Weights.{weights_from};
-ghost use Rattle.trac_session.specs.declared.walking.Direction.TheVariants.{Forward};
-ghost use Rattle.trac_session.specs.Directions.{command_towards};
-ghost use Rattle.trac_session.specs.Goals.{IsSearch, goal_of, is_call_of, outcome};
+ghost use Rattle.trac_session.specs.Directions.{IsForward, command_towards, weight_of};
+ghost use Rattle.trac_session.specs.Goals.{IsSearch, goal_at, goal_of, is_call_of, outcome};
 ghost use Rattle.trac_session.specs.Replies.{reply_of};
 ghost use Rattle.trac_session.specs.Returns.{IsReturn};
 ghost use Rattle.trac_session.specs.Runs.{HasNoPlain, IsAsked, IsQuiet};
-ghost use Rattle.trac_session.specs.Within.{IsSearchWithin, IsWalkWithin};
+ghost use Rattle.trac_session.specs.Within.{IsHeavy, IsLight, IsSearchWithin, IsWalkUnder, IsWalkWithin};
 
 use crate::goal::{Goal, is_met};
 use crate::session::Session;
@@ -20,8 +19,23 @@ use trac_rules::refusal::Refusal;
 // Which way a walk goes.
 #[derive(Clone, Copy)]
 enum Direction {
-    Forward,
+    // until the records weigh more than this, if a weight is given
+    Forward(Option<u64>),
     Backward,
+}
+
+// How many of so many steps may be passed at once: all of them if no state before a step that moves a byte meets the
+// goal, or if there is none. Else one.
+#[inline(always)]
+fn at_once<A: Allocator + Copy>(goal: Option<Goal<'_, A>>, left: u64) -> u64
+    ensures most { result ≤ left }
+    ensures some { 0 < left → 0 < result }
+    ensures quiet { 1 < result → (s : State) → IsQuiet s → goal_at goal.entry s ≡ false }
+{
+    match goal {
+        Some(goal) if !goal.is_never_met_quietly() => left.min(1),
+        _ => left,
+    }
 }
 
 impl<A: Allocator + Copy> Session<A> {
@@ -32,127 +46,111 @@ impl<A: Allocator + Copy> Session<A> {
         ensures { Answers (command_towards direction) self.old (reply_of result) self.new }
     {
         match direction {
-            Direction::Forward => self.step(),
+            Direction::Forward(_) => self.step(),
             Direction::Backward => self.step_back(),
         }
     }
 
-    // Whether the session shows a state that meets the goal.
-    fn has_met(&self, goal: &Goal<'_, A>) -> bool
-        ensures { result ≡ goal_of goal.now self.now.last }
-    {
-        is_met(self.machine(), goal)
-    }
-
     // Goes this way over bytes that a step each moves, at most so many, all at once. Returns how many steps these are.
+    #[inline(always)]
     fn pass(&mut self, direction: Direction, most: u64) -> u64
         ensures passed { repeated (command_towards direction) result self.old ≡ Some self.new }
         ensures most { result ≤ most }
         ensures quiet { (k : ℕ) → (p : PlainSession) → 0 < k → k < result →
             repeated (command_towards direction) k self.old ≡ Some p → IsQuiet p.last }
-        ensures end { direction ≡ Forward → result < most → HasNoPlain self.new }
-        ensures weight { direction ≡ Forward → weights_from self.new.earlier ≡ weights_from self.old.earlier }
+        ensures end { IsForward direction → result < most → HasNoPlain self.new }
+        ensures weight { IsForward direction → weights_from self.new.earlier ≡ weights_from self.old.earlier }
     {
         // For what it says: the states are steps of one another, so that a step that moved a byte does nothing else.
         let _machine = self.machine();
         match direction {
-            Direction::Forward => self.pass_plain(most),
+            Direction::Forward(_) => self.pass_plain(most),
             Direction::Backward => self.pass_back(most),
         }
     }
 
-    // Goes this way by up to so many steps. If no state before a step that moves a byte meets the goal, it goes over
-    // bytes that a step each moves. Else, or without such bytes, it goes by one. Returns how many steps these are.
+    // Whether the session shows a state that meets the goal, if there is one, after so many steps: no goal is met by
+    // standing still.
     #[inline(always)]
-    fn go_on(&mut self, direction: Direction, goal: &Goal<'_, A>, most: u64) -> Result<u64, Refusal>
-        requires { 0 < most }
-        ensures refused { IfErr result
-            (λ refusal. Answers (command_towards direction) self.old (Refused refusal) self.new) }
-        ensures some { IfOk result (λ steps. 0 < steps) }
-        ensures most { IfOk result (λ steps. steps ≤ most) }
-        ensures walk { IfOk result
-            (λ steps. IsWalk (command_towards direction) (goal_of goal.now) steps self.old steps None self.new) }
-        ensures light { direction ≡ Forward →
-            IfOk result (λ steps. weights_from (drop 1 self.new.earlier) ≤ weights_from self.old.earlier) }
+    fn has_met(&self, goal: Option<Goal<'_, A>>, steps: u64) -> bool
+        ensures { result ≡ (nat_lt 0 steps && goal_at goal.entry self.now.last) }
     {
-        if goal.is_never_met_quietly() {
-            let passed = self.pass(direction, most);
-            if passed > 0 {
-                return Ok(passed);
+        steps > 0
+            && match goal {
+                Some(goal) => self.meets(&goal),
+                None => false,
             }
-        }
-        self.go(direction)?;
-        Ok(1)
     }
 
-    // Goes this way by up to `n` steps, until one is refused, which the walk returns, or the goal is met.
-    fn walk(&mut self, direction: Direction, goal: &Goal<'_, A>, n: u64) -> Walk
-        ensures { IsWalk (command_towards direction) (goal_of goal.now) n self.old result.done result.why self.new }
+    // Whether the records weigh too much to go further this way.
+    #[inline(always)]
+    fn is_heavy(&self, direction: Direction) -> bool
+        ensures heavy { result ≡ true → IsHeavy (weight_of direction) self.now.earlier }
+        ensures light { result ≡ false → IsLight (weight_of direction) self.now.earlier }
     {
-        let mut done = 0;
-        while done < n {
-            let steps = match self.go_on(direction, goal, n - done) {
-                Ok(steps) => steps,
-                Err(refusal) => return Walk::refused(done, refusal),
-            };
-            done += steps;
-            if self.has_met(goal) {
-                return Walk { done, why: None };
-            }
+        match direction {
+            Direction::Forward(Some(most)) => self.weight() > most,
+            _ => false,
         }
-        Walk { done, why: None }
     }
 
-    // Goes this way by up to `n` steps, until one is refused, which the walk returns. It has no goal, so bytes that a
-    // step each moves are passed at once: for no plain byte memory is refused.
-    fn go_far(&mut self, direction: Direction, n: u64) -> Walk
-        ensures walk { IsWalk (command_towards direction) no_goal n self.old result.done result.why self.new }
+    // How many of `n` steps may be taken: one alone if the records weigh too much already.
+    #[inline(always)]
+    fn steps_within(&self, direction: Direction, n: u64) -> u64
+        ensures most { result ≤ n }
+        ensures heavy { result < n → (0 < result) × IsHeavy (weight_of direction) self.now.earlier }
+        ensures light { 1 < result → IsLight (weight_of direction) self.now.earlier }
+    {
+        if self.is_heavy(direction) {
+            n.min(1)
+        } else {
+            n
+        }
+    }
+
+    // Goes this way by up to `n` steps, until one is refused, which the walk returns, or the goal is met, if there is
+    // one, or the records weigh too much. Plain bytes are passed at once, so for none of them memory is refused.
+    //
+    // This is the loop of every walk but that of a run, inlined into each: so none tests for what it has not got.
+    #[inline(always)]
+    fn walk<'s>(&'s mut self, direction: Direction, goal: Option<Goal<'s, A>>, n: u64) -> Walk
+        ensures walk { IsWalkUnder (weight_of direction) (command_towards direction) (goal_at goal.entry) n self.old
+            result.done result.why self.new }
         ensures asked { IsAsked result.why self.new.last }
     {
+        let most = self.steps_within(direction, n);
         let mut done = 0;
-        while done < n {
-            done += self.pass(direction, n - done);
-            if done < n {
-                if let Err(refusal) = self.go(direction) {
-                    return Walk::refused(done, refusal);
-                }
-                done += 1;
+        loop {
+            let left = at_once(goal, most - done);
+            let passed = self.pass(direction, left);
+            done += passed;
+            if self.has_met(goal, passed) {
+                return Walk { done, why: None };
             }
-        }
-        Walk { done, why: None }
-    }
-
-    // Goes forward by up to `n` steps, until one is refused, which the walk returns, or the goal is met. It stops also
-    // after a step after which the records weigh more than `most`.
-    fn walk_within(&mut self, goal: &Goal<'_, A>, n: u64, most: u64) -> Walk
-        ensures { IsWalkWithin most (goal_of goal.now) n self.old result.done result.why self.new }
-    {
-        let mut done = 0;
-        while done < n {
-            let steps = match self.go_on(
-                Direction::Forward,
-                goal,
-                self.steps_within(n - done, most),
-            ) {
-                Ok(steps) => steps,
-                Err(refusal) => return Walk::refused(done, refusal),
-            };
-            done += steps;
-            if self.has_met(goal) || self.weight() > most {
+            if passed == left {
+                if done == most {
+                    return Walk { done, why: None };
+                }
+                continue;
+            }
+            if let Err(refusal) = self.go(direction) {
+                return Walk::refused(done, refusal);
+            }
+            done += 1;
+            if self.has_met(goal, 1) {
+                return Walk { done, why: None };
+            }
+            if self.is_heavy(direction) {
                 return Walk { done, why: None };
             }
         }
-        Walk { done, why: None }
     }
 
-    // How many steps may be taken at once: one alone if the records weigh more than `most` already.
-    fn steps_within(&self, n: u64, most: u64) -> u64
-        requires { 0 < n }
-        ensures some { 0 < result }
-        ensures most { result ≤ n }
-        ensures one { most < weights_from self.now.earlier → result ≡ 1 }
+    /// Whether the session shows a state that meets the goal. It takes no memory.
+    pub fn meets(&self, goal: &Goal<'_, A>) -> bool
+        ensures { result ≡ goal_of goal.now self.now.last }
     {
-        if self.weight() > most { 1 } else { n }
+        is_met(self.machine(), goal)
     }
 
     // The same walk, which returns `NotMet` if no refusal ended it and its goal is not met.
@@ -160,7 +158,7 @@ impl<A: Allocator + Copy> Session<A> {
         ensures done { result.done ≡ walk.done }
         ensures why { result.why ≡ outcome (nat_lt 0 walk.done && goal_of goal.now self.now.last) walk.why }
     {
-        if walk.why.is_some() || walk.done > 0 && self.has_met(goal) {
+        if walk.why.is_some() || walk.done > 0 && self.meets(goal) {
             return walk;
         }
         Walk {
@@ -175,7 +173,7 @@ impl<A: Allocator + Copy> Session<A> {
         ensures walk { IsWalk Step no_goal n self.old result.done result.why self.new }
         ensures asked { IsAsked result.why self.new.last }
     {
-        self.go_far(Direction::Forward, n)
+        self.walk(Direction::Forward(None), None, n)
     }
 
     /// Goes forward as `forward` does, and stops also after a step after which the records weigh more than `most`
@@ -184,6 +182,8 @@ impl<A: Allocator + Copy> Session<A> {
     pub fn forward_within(&mut self, n: u64, most: u64) -> Walk
         ensures { IsWalkWithin most no_goal n self.old result.done result.why self.new }
     {
+        // A run takes its steps here, in a loop of its own that tries a step first: the loop of the other walks takes it
+        // one instruction in a hundred more.
         let mut done = 0;
         while done < n {
             if let Err(refusal) = self.step() {
@@ -203,16 +203,17 @@ impl<A: Allocator + Copy> Session<A> {
     pub fn back(&mut self, n: u64) -> Walk
         ensures { IsWalk Back no_goal n self.old result.done result.why self.new }
     {
-        self.go_far(Direction::Backward, n)
+        self.walk(Direction::Backward, None, n)
     }
 
     /// Goes forward by up to `n` steps, until the state meets the goal. That it did so already, before any step, does
     /// not count. A refused step ends the walk as in `forward`. If `n` steps were taken and the goal is not met, the
     /// walk returns `NotMet`, also if `n` is 0.
     pub fn forward_to(&mut self, goal: Goal<'_, A>, n: u64) -> Walk
-        ensures { IsSearch Step (goal_of goal.entry) n self.old result.done result.why self.new }
+        ensures search { IsSearch Step (goal_of goal.entry) n self.old result.done result.why self.new }
+        ensures asked { IsAsked result.why self.new.last }
     {
-        let walk = self.walk(Direction::Forward, &goal, n);
+        let walk = self.walk(Direction::Forward(None), Some(goal), n);
         self.searched(&goal, walk)
     }
 
@@ -220,9 +221,10 @@ impl<A: Allocator + Copy> Session<A> {
     /// `most` (`Session::weight`). Then it returns `NotMet` too if the goal is not met, and fewer than `n` steps may be
     /// done. So a search that never goes back further can commit before the records hold much memory.
     pub fn forward_to_within(&mut self, goal: Goal<'_, A>, n: u64, most: u64) -> Walk
-        ensures { IsSearchWithin most (goal_of goal.entry) n self.old result.done result.why self.new }
+        ensures search { IsSearchWithin most (goal_of goal.entry) n self.old result.done result.why self.new }
+        ensures asked { IsAsked result.why self.new.last }
     {
-        let walk = self.walk_within(&goal, n, most);
+        let walk = self.walk(Direction::Forward(Some(most)), Some(goal), n);
         self.searched(&goal, walk)
     }
 
@@ -234,7 +236,7 @@ impl<A: Allocator + Copy> Session<A> {
             result.why self.new }
     {
         // The walk may go back over all steps that there are. If there are none, it tries one, which is refused.
-        let walk = self.walk(Direction::Backward, &goal, self.len().max(1) as u64);
+        let walk = self.walk(Direction::Backward, Some(goal), self.len().max(1) as u64);
         self.searched(&goal, walk)
     }
 
@@ -250,7 +252,7 @@ impl<A: Allocator + Copy> Session<A> {
         if back.why.is_none() {
             return Return::Met(back.done);
         }
-        let again = self.go_far(Direction::Forward, back.done);
+        let again = self.forward(back.done);
         match again.why {
             None => Return::NotMet,
             Some(why) => Return::Stopped {
@@ -264,7 +266,8 @@ impl<A: Allocator + Copy> Session<A> {
     /// byte for byte. That it would do so already, before any step, does not count. A refused step ends the walk as in
     /// `forward`. If `n` steps were taken and the name was not met, the walk returns `NotMet`, also if `n` is 0.
     pub fn until(&mut self, name: &[u8], n: u64) -> Walk
-        ensures { IsSearch Step (is_call_of name.now) n self.old result.done result.why self.new }
+        ensures search { IsSearch Step (is_call_of name.now) n self.old result.done result.why self.new }
+        ensures asked { IsAsked result.why self.new.last }
     {
         self.forward_to(Goal::Call(&[name]), n)
     }

@@ -11,10 +11,10 @@ was_not_none (Some refusal) none test not_so is = absurd (cc)
 
 pub returns-in-None : goal.returns-in-None
 returns-in-None g c =
-    rw c.in-None.is at (returned c.go_far-again.result.why _ _ c.args.self.now _ _ c.back_to-back.result.done _ c.back_to-back.ensures (was_not_none c.back_to-back.result.why c.is_none.result c.is_none.ensures c.if-is_none.false)
-    c.go_far-again.ensures.walk c.go_far-again.ensures.asked c.machine-machine.ensures.trail)
+    rw c.in-None.is at (returned c.forward-again.result.why _ _ c.args.self.now _ _ c.back_to-back.result.done _ c.back_to-back.ensures (was_not_none c.back_to-back.result.why c.is_none.result c.is_none.ensures c.if-is_none.false)
+    c.forward-again.ensures.walk c.forward-again.ensures.asked c.machine-machine.ensures.trail)
 
 pub returns-in-Some : goal.returns-in-Some
 returns-in-Some g c =
-    rw c.in-Some.is at (returned c.go_far-again.result.why _ _ c.args.self.now _ _ c.back_to-back.result.done _ c.back_to-back.ensures (was_not_none c.back_to-back.result.why c.is_none.result c.is_none.ensures c.if-is_none.false)
-    c.go_far-again.ensures.walk c.go_far-again.ensures.asked c.machine-machine.ensures.trail)
+    rw c.in-Some.is at (returned c.forward-again.result.why _ _ c.args.self.now _ _ c.back_to-back.result.done _ c.back_to-back.ensures (was_not_none c.back_to-back.result.why c.is_none.result c.is_none.ensures c.if-is_none.false)
+    c.forward-again.ensures.walk c.forward-again.ensures.asked c.machine-machine.ensures.trail)
