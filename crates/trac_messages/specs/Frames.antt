@@ -1,5 +1,6 @@
 -- The frames of bytes.
-use Rattle.std.specs.Prelude.{ℕ, zero, suc, ◌+◌, nat_le, List, [], ◌∷◌, ◌++◌, length, take, drop, if◌then◌else◌, decimal}
+use Rattle.std.specs.Prelude.{ℕ, zero, suc, ◌+◌, nat_le, List, [], ◌∷◌, ◌++◌, length, take, drop, if◌then◌else◌}
+use Rattle.std.specs.Prelude.{decimal}
 use Rattle.trac_messages.specs.declared.header.TheConstants.{HEADER_LIMIT, MESSAGE_LIMIT}
 use Rattle.trac_messages.specs.declared.header.Heading.{Heading}
 use Rattle.trac_messages.specs.declared.header.Heading.TheVariants.{Open, Silent, Announces}

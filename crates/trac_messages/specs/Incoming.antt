@@ -1,5 +1,6 @@
 -- What a reader gives of the frames of its bytes.
-use Rattle.std.specs.Prelude.{◌≡◌, ◌⊎◌, ℕ, ◌+◌, ◌<◌, ◌≤◌, List, [], ◌∷◌, ◌++◌, length, take, drop, Bool, true, false, Option, refl}
+use Rattle.std.specs.Prelude.{◌≡◌, ◌⊎◌, ℕ, ◌+◌, ◌<◌, ◌≤◌, List, [], ◌∷◌, ◌++◌, length, take, drop, Bool, true, false}
+use Rattle.std.specs.Prelude.{Option, refl}
 use Rattle.std.specs.Coded.{Coded, code_by, coded×, coded_bool, coded_ℕ}
 use Rattle.std.specs.Io.KnownBytes.{Consumes, IsAtEnd}
 use Rattle.trac_rules.specs.Codes.{text_code}
@@ -79,7 +80,8 @@ HELD_LIMIT = HEADER_LIMIT + MESSAGE_LIMIT
 -- what stands at the front of these bytes, whatever more comes after them: nothing, if they have ended
 abbrev pub IsFront : List ℕ → Bool → Front → Type 0
 IsFront bytes ended (Whole size len) = (size + len ≤ length bytes) × ((more : List ℕ) →
-    frames_of (bytes ++ more) ≡ Frame.Message (take len (drop size bytes)) ∷ frames_of (drop (size + len) (bytes ++ more)))
+    frames_of (bytes ++ more)
+    ≡ Frame.Message (take len (drop size bytes)) ∷ frames_of (drop (size + len) (bytes ++ more)))
 IsFront bytes ended (Beyond size len) = (size ≤ length bytes) × ((more : List ℕ) →
     frames_of (bytes ++ more) ≡ Frame.TooLong len ∷ frames_of (drop (size + len) (bytes ++ more)))
 IsFront bytes ended (Unannounced size) = (more : List ℕ) →

@@ -1,5 +1,6 @@
 //! Messages, as their frames are read.
-ghost use Rattle.std.specs.Prelude.{◌≡◌, ◌≢◌, ℕ, ◌+◌, ◌<◌, ◌≤◌, List, [], ◌∷◌, length, take, drop, false, IfOk, OnOk, IfErr};
+ghost use Rattle.std.specs.Prelude.{◌≡◌, ◌≢◌, ℕ, ◌+◌, ◌<◌, ◌≤◌, List, [], ◌∷◌, length, take, drop, false, IfOk, OnOk};
+ghost use Rattle.std.specs.Prelude.{IfErr};
 ghost use Rattle.trac_messages.specs.Incoming.{Fails, Gathers, Gives, HELD_LIMIT, IsFront, IsGiven, ReadsMore, coming};
 ghost use Rattle.trac_messages.specs.Frames.{Frame, frames_of};
 
@@ -69,7 +70,8 @@ impl<A: Allocator + Copy> Model for Incoming<A> {
       ended = m.ended;
     } };
 
-    ghost invariant = { λ m. (m.start ≤ m.taken) × (m.taken ≤ length m.bytes.items) × (0 < m.skip → m.taken ≡ length m.bytes.items) };
+    ghost invariant = { λ m. (m.start ≤ m.taken) × (m.taken ≤ length m.bytes.items)
+        × (0 < m.skip → m.taken ≡ length m.bytes.items) };
 }
 
 impl<A: Allocator + Copy> Incoming<A> {
@@ -94,8 +96,10 @@ impl<A: Allocator + Copy> Incoming<A> {
     /// `Ending::Read`: the reader failed. `Ending::Memory`: memory was refused, before a read. The same comes next then
     /// as before.
     pub fn next<R: Read>(&mut self, input: &mut R) -> Result<Next, Ending>
-        ensures given { IfOk result (λ next. Gives (R.remaining input.old) (R.remaining input.new) self.old self.new next) }
-        ensures failed { IfErr result (λ ending. Fails (R.remaining input.old) (R.remaining input.new) self.old self.new ending) }
+        ensures given { IfOk result (λ next. Gives (R.remaining input.old) (R.remaining input.new) self.old self.new
+            next) }
+        ensures failed { IfErr result (λ ending. Fails (R.remaining input.old) (R.remaining input.new) self.old self.new
+            ending) }
     {
         let front = self.seek(input)?;
         Ok(self.give(front))
