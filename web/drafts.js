@@ -7,6 +7,8 @@ export const DRAFT = "trac.draft", THEME = "trac.theme";
 const MOST_DRAFT = 1 << 20;
 const DRAFT_TIME = 250;
 
+/** @typedef {import("./undoing.js").Work} Work */
+
 /** @param {string} key */
 export function kept(key) {
   try {
@@ -28,6 +30,19 @@ export function keepText(key, text) {
   }
 }
 
+// A program that a page has kept, and whether that page was left since; nothing where the text is none of a page.
+/** @param {string | null} kept @returns {(import("./undoing.js").Held & { work: Work, isLeft: boolean }) | null} */
+function draftIn(kept) {
+  try {
+    const { name, text, isTyped, isLeft } = JSON.parse(kept ?? "");
+    if (typeof name !== "string" || typeof text !== "string" || text === "") return null;
+    const bytes = new TextEncoder().encode(text);
+    return { name, bytes, work: { isTyped: isTyped !== false }, isLeft: isLeft === true };
+  } catch {
+    return null;
+  }
+}
+
 export class Draft {
   /** @param {Editor} editor */
   constructor(editor) {
@@ -36,20 +51,15 @@ export class Draft {
     this.isKept = true;
     /** @type {string | null} what this page has kept, and the work on that program, unless that is saved too */
     this.own = null;
-    /** @type {import("./undoing.js").Work | null} */
+    /** @type {Work | null} */
     this.work = null;
     /** @type {ReturnType<typeof setTimeout> | 0} */
     this.later = 0;
-    // (the browser keeps one program: of two pages that of the other is kept now)
-    addEventListener("storage", ({ key, newValue }) => {
-      if ((key !== DRAFT && key !== null) || this.own === null || newValue === this.own) return;
-      if (this.work === editor.work) this.isKept = false;
-      this.own = this.work = null;
-    });
-    addEventListener("pagehide", () => this.leave());
+    addEventListener("pagehide", () => this.left());
     // what was typed and is neither saved nor kept is not to be lost, nor is what gave way to another program
     addEventListener("beforeunload", (event) => {
       this.leave();
+      this.look();
       const isLost = !this.isKept && editor.work.isTyped && editor.bytes().length > 0;
       if (isLost || editor.undoing.typed().some((work) => work !== this.work)) event.preventDefault();
     });
@@ -72,6 +82,29 @@ export class Draft {
     if (this.later) this.keep();
   }
 
+  // Looks whether what this page has kept is there still. (The browser keeps one program: of two pages it may be that of
+  // the other. What this says meanwhile is not heard by a page that comes back from where browsers keep pages.)
+  look() {
+    if (this.own === null || kept(DRAFT) === this.own) return;
+    if (this.work === this.editor.work) this.isKept = false;
+    this.own = this.work = null;
+  }
+
+  // The page is left: what it has kept stands nowhere else then, so a page that keeps another in its place takes it
+  // over.
+  left() {
+    this.leave();
+    this.look();
+    if (this.own !== null) this.mark(this.own, true);
+  }
+
+  // Keeps the same with a note whether its page was left.
+  /** @param {string} own @param {boolean} isLeft */
+  mark(own, isLeft) {
+    const draft = JSON.stringify({ ...JSON.parse(own), isLeft });
+    this.own = keepText(DRAFT, draft) ? draft : own;
+  }
+
   // Another program is opened in its place. That of a link is not kept before it is changed.
   /** @param {boolean} isKept */
   opened(isKept) {
@@ -86,9 +119,23 @@ export class Draft {
     const bytes = editor.bytes();
     const text = bytes.length > MOST_DRAFT ? null : textOf(bytes);
     const { isTyped } = editor.work;
-    const draft = text === null ? null : JSON.stringify({ name: editor.name, text, isTyped });
+    const draft = text === null ? null : JSON.stringify({ name: editor.name, text, isTyped, isLeft: false });
+    const others = kept(DRAFT);
     this.isKept = draft !== null && keepText(DRAFT, draft);
-    if (this.isKept) [this.own, this.work] = [draft, editor.work];
+    if (this.isKept) {
+      if (others !== this.own) this.takeOver(others);
+      [this.own, this.work] = [draft, editor.work];
+    } else if (this.work === editor.work) {
+      // (what is kept of it is older)
+      this.own = this.work = null;
+    }
+  }
+
+  // What another page has kept and left, and this one has written over, can be brought back.
+  /** @param {string | null} others */
+  takeOver(others) {
+    const draft = draftIn(others);
+    if (draft?.isLeft && draft.work.isTyped) this.editor.undoing.takeOver(draft);
   }
 
   // The program is in a file.
@@ -100,14 +147,11 @@ export class Draft {
 
   // Brings back what was kept, if there is something.
   restore() {
-    try {
-      const { name, text, isTyped } = JSON.parse(kept(DRAFT) ?? "");
-      if (typeof name !== "string" || typeof text !== "string" || text === "") return false;
-      this.editor.put({ name, bytes: new TextEncoder().encode(text), work: { isTyped: isTyped !== false } });
-      this.work = this.editor.work;
-      return true;
-    } catch {
-      return false;
-    }
+    const own = kept(DRAFT), draft = draftIn(own);
+    if (own === null || !draft) return false;
+    this.editor.put(draft);
+    this.work = draft.work;
+    this.mark(own, false);
+    return true;
   }
 }
