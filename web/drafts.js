@@ -82,8 +82,8 @@ export class Draft {
     if (this.later) this.keep();
   }
 
-  // Looks whether what this page has kept is there still. (The browser keeps one program: of two pages it may be that of
-  // the other. What this says meanwhile is not heard by a page that comes back from where browsers keep pages.)
+  // Looks whether what this page has kept is there still. (The browser keeps one program: of two pages it may be that
+  // of the other. A page that the browser has set aside, and brings back, has not heard of that.)
   look() {
     if (this.own === null || kept(DRAFT) === this.own) return;
     if (this.work === this.editor.work) this.isKept = false;
