@@ -30,7 +30,15 @@ export function keepText(key, text) {
   }
 }
 
-// A program that a page has kept, and whether that page was left since; nothing where the text is none of a page.
+// A program as it is kept, but for a note whether its page was left since.
+/** @param {string} name @param {string} text @param {boolean} isTyped */
+const draftOf = (name, text, isTyped) => JSON.stringify({ name, text, isTyped });
+/** @param {string} draft @param {boolean} isLeft */
+const noted = (draft, isLeft) => `${draft.slice(0, -1)},"isLeft":${isLeft}}`;
+/** @param {string | null} kept */
+const bare = (kept) => kept && kept.replace(/,"isLeft":(?:true|false)\}$/, "}");
+
+// What is kept so; nothing where a text is none of a page.
 /** @param {string | null} kept @returns {(import("./undoing.js").Held & { work: Work, isLeft: boolean }) | null} */
 function draftIn(kept) {
   try {
@@ -85,7 +93,7 @@ export class Draft {
   // Looks whether what this page has kept is there still. (The browser keeps one program: of two pages it may be that
   // of the other. A page that the browser has set aside, and brings back, has not heard of that.)
   look() {
-    if (this.own === null || kept(DRAFT) === this.own) return;
+    if (this.own === null || bare(kept(DRAFT)) === this.own) return;
     if (this.work === this.editor.work) this.isKept = false;
     this.own = this.work = null;
   }
@@ -95,14 +103,7 @@ export class Draft {
   left() {
     this.leave();
     this.look();
-    if (this.own !== null) this.mark(this.own, true);
-  }
-
-  // Keeps the same with a note whether its page was left.
-  /** @param {string} own @param {boolean} isLeft */
-  mark(own, isLeft) {
-    const draft = JSON.stringify({ ...JSON.parse(own), isLeft });
-    this.own = keepText(DRAFT, draft) ? draft : own;
+    if (this.own !== null) keepText(DRAFT, noted(this.own, true));
   }
 
   // Another program is opened in its place. That of a link is not kept before it is changed.
@@ -118,12 +119,11 @@ export class Draft {
     const { editor } = this;
     const bytes = editor.bytes();
     const text = bytes.length > MOST_DRAFT ? null : textOf(bytes);
-    const { isTyped } = editor.work;
-    const draft = text === null ? null : JSON.stringify({ name: editor.name, text, isTyped, isLeft: false });
-    const others = kept(DRAFT);
-    this.isKept = draft !== null && keepText(DRAFT, draft);
+    const draft = text === null ? null : draftOf(editor.name, text, editor.work.isTyped);
+    const before = kept(DRAFT);
+    this.isKept = draft !== null && keepText(DRAFT, noted(draft, false));
     if (this.isKept) {
-      if (others !== this.own) this.takeOver(others);
+      if (bare(before) !== this.own) this.takeOver(before);
       [this.own, this.work] = [draft, editor.work];
     } else if (this.work === editor.work) {
       // (what is kept of it is older)
@@ -147,11 +147,12 @@ export class Draft {
 
   // Brings back what was kept, if there is something.
   restore() {
-    const own = kept(DRAFT), draft = draftIn(own);
-    if (own === null || !draft) return false;
+    const draft = draftIn(kept(DRAFT));
+    if (!draft) return false;
+    const { name, bytes, work } = draft;
     this.editor.put(draft);
-    this.work = draft.work;
-    this.mark(own, false);
+    [this.own, this.work] = [draftOf(name, textOf(bytes) ?? "", work.isTyped), work];
+    keepText(DRAFT, noted(this.own, false));
     return true;
   }
 }

@@ -21,6 +21,10 @@ ASKS = """(() => {
 })()"""
 # (it may do so while this one is none that hears of it)
 UNHEARD = "localStorage.setItem('trac.draft', 'other')"
+LEAVES = """(() => {
+  const draft = JSON.parse(localStorage.getItem('trac.draft'));
+  localStorage.setItem('trac.draft', JSON.stringify({ ...draft, isLeft: true }));
+})()"""
 THEIRS = "localStorage.setItem('trac.draft', {})"
 FULL = """(() => {
   for (let count = 0, size = 1 << 20; size > 0;) {
@@ -111,6 +115,12 @@ def check_left_page(page: Deeds) -> None:
         page.until(IS_KEPT.format(*words), "it is kept in its place")
         check(page.script(button + ".hidden"), "nothing is offered: {}".format(words))
         check(not page.script(ASKS), "what is kept is left")
+    # (another page that shows the same is left)
+    page.script(LEAVES)
+    check(not page.script(ASKS), "what is kept is left")
+    page.type("#(ps,more)'")
+    page.until(IS_KEPT.format("more"), "it is kept in its place")
+    check(page.script(button + ".hidden") and not page.script(ASKS), "nothing is offered of its own")
     page.script(THEIRS.format(json.dumps(json.dumps(theirs))))
     page.type("#(ps,mine)'")
     page.until(IS_KEPT.format("mine"), "it is kept in its place")
