@@ -284,6 +284,8 @@ SIGNALS = "SIGTERM", "SIGHUP", "SIGINT", "SIGQUIT"
 BOUNDS = (("ulimit -v 900000", TOOLS["check"], 1), ("ulimit -v 900000", TOOLS["play"], 0),
           ("ulimit -v 900000", TOOLS["page"], 0), ("ulimit -s 4000000; ulimit -v 2000000", TOOLS["play"], 5),
           ('ulimit -n 4096; for it in {3..1100}; do eval "exec $it</dev/null"; done', TOOLS["check"], 1))
+# Less memory than Python begins with: it would end in its own words, or never.
+NARROW = "ulimit -v 9000", "ulimit -v 13500", "ulimit -d 4000"
 # By each fault as Python begins, the status of the tool.
 FAULTS = {"MemoryError": 5, "ImportError": 70, "SystemError": 70}
 
@@ -566,6 +568,21 @@ class Streams(Case):
         for bounds, words, wanted in BOUNDS:
             ended = self.ended(["bash", "-c", bounds + ' && exec "$@"', "-", *as_all, *command(words, self.file)])
             self.holds("{}: {}".format(bounds, ended), ended.returncode == wanted and b"Traceback" not in ended.stderr)
+
+    @each(IN_PYTHON)
+    def test_narrow(self, name: str) -> None:
+        """Where the system gives less memory than Python begins with, nothing but that is said."""
+        words = TOOLS[name]
+        told = "trac: there is no memory for trac {}\n".format(words[1]).encode()
+        for bound in NARROW:
+            ended = self.ended(["bash", "-c", bound + ' && exec "$@"', "-", *command(words, self.file)])
+            self.holds("{}: {}".format(bound, ended), (ended.returncode, ended.stderr) == (5, told))
+
+    def test_narrow_walk(self) -> None:
+        """A walk at a terminal goes on without Python there."""
+        words: list[Word] = ["/bin/bash", "-c", NARROW[0] + ' && exec "$@"', "-", *command(TOOLS["walk"], self.file)]
+        seen, status = at_terminal(words, ["s 3\n", "q\n"])
+        self.holds("{}: {}".format(status, ascii(seen)), status == 0 and "0> " in seen and "3> " in seen)
 
     @each(IN_PYTHON)
     def test_beginnings(self, name: str) -> None:

@@ -7,6 +7,8 @@ export const DRAFT = "trac.draft", THEME = "trac.theme";
 const MOST_DRAFT = 1 << 20;
 const DRAFT_TIME = 250;
 
+/** @typedef {import("./undoing.js").Work} Work */
+
 /** @param {string} key */
 export function kept(key) {
   try {
@@ -28,6 +30,27 @@ export function keepText(key, text) {
   }
 }
 
+// A program as it is kept, but for a note whether its page was left since.
+/** @param {string} name @param {string} text @param {boolean} isTyped */
+const draftOf = (name, text, isTyped) => JSON.stringify({ name, text, isTyped });
+/** @param {string} draft @param {boolean} isLeft */
+const noted = (draft, isLeft) => `${draft.slice(0, -1)},"isLeft":${isLeft}}`;
+/** @param {string | null} kept */
+const bare = (kept) => kept && kept.replace(/,"isLeft":(?:true|false)\}$/, "}");
+
+// What is kept so; nothing where a text is none of a page.
+/** @param {string | null} kept @returns {(import("./undoing.js").Held & { work: Work, isLeft: boolean }) | null} */
+function draftIn(kept) {
+  try {
+    const { name, text, isTyped, isLeft } = JSON.parse(kept ?? "");
+    if (typeof name !== "string" || typeof text !== "string" || text === "") return null;
+    const bytes = new TextEncoder().encode(text);
+    return { name, bytes, work: { isTyped: isTyped !== false }, isLeft: isLeft === true };
+  } catch {
+    return null;
+  }
+}
+
 export class Draft {
   /** @param {Editor} editor */
   constructor(editor) {
@@ -36,20 +59,15 @@ export class Draft {
     this.isKept = true;
     /** @type {string | null} what this page has kept, and the work on that program, unless that is saved too */
     this.own = null;
-    /** @type {import("./undoing.js").Work | null} */
+    /** @type {Work | null} */
     this.work = null;
     /** @type {ReturnType<typeof setTimeout> | 0} */
     this.later = 0;
-    // (the browser keeps one program: of two pages that of the other is kept now)
-    addEventListener("storage", ({ key, newValue }) => {
-      if ((key !== DRAFT && key !== null) || this.own === null || newValue === this.own) return;
-      if (this.work === editor.work) this.isKept = false;
-      this.own = this.work = null;
-    });
-    addEventListener("pagehide", () => this.leave());
+    addEventListener("pagehide", () => this.left());
     // what was typed and is neither saved nor kept is not to be lost, nor is what gave way to another program
     addEventListener("beforeunload", (event) => {
       this.leave();
+      this.look();
       const isLost = !this.isKept && editor.work.isTyped && editor.bytes().length > 0;
       if (isLost || editor.undoing.typed().some((work) => work !== this.work)) event.preventDefault();
     });
@@ -72,6 +90,22 @@ export class Draft {
     if (this.later) this.keep();
   }
 
+  // Looks whether what this page has kept is there still. (The browser keeps one program: of two pages it may be that
+  // of the other. A page that the browser has set aside, and brings back, has not heard of that.)
+  look() {
+    if (this.own === null || bare(kept(DRAFT)) === this.own) return;
+    if (this.work === this.editor.work) this.isKept = false;
+    this.own = this.work = null;
+  }
+
+  // The page is left: what it has kept stands nowhere else then, so a page that keeps another in its place takes it
+  // over.
+  left() {
+    this.leave();
+    this.look();
+    if (this.own !== null) keepText(DRAFT, noted(this.own, true));
+  }
+
   // Another program is opened in its place. That of a link is not kept before it is changed.
   /** @param {boolean} isKept */
   opened(isKept) {
@@ -85,10 +119,23 @@ export class Draft {
     const { editor } = this;
     const bytes = editor.bytes();
     const text = bytes.length > MOST_DRAFT ? null : textOf(bytes);
-    const { isTyped } = editor.work;
-    const draft = text === null ? null : JSON.stringify({ name: editor.name, text, isTyped });
-    this.isKept = draft !== null && keepText(DRAFT, draft);
-    if (this.isKept) [this.own, this.work] = [draft, editor.work];
+    const draft = text === null ? null : draftOf(editor.name, text, editor.work.isTyped);
+    const before = kept(DRAFT);
+    this.isKept = draft !== null && keepText(DRAFT, noted(draft, false));
+    if (this.isKept) {
+      if (bare(before) !== this.own) this.takeOver(before);
+      [this.own, this.work] = [draft, editor.work];
+    } else if (this.work === editor.work) {
+      // (what is kept of it is older)
+      this.own = this.work = null;
+    }
+  }
+
+  // What another page has kept and left, and this one has written over, can be brought back.
+  /** @param {string | null} others */
+  takeOver(others) {
+    const draft = draftIn(others);
+    if (draft?.isLeft && draft.work.isTyped) this.editor.undoing.takeOver(draft);
   }
 
   // The program is in a file.
@@ -100,14 +147,12 @@ export class Draft {
 
   // Brings back what was kept, if there is something.
   restore() {
-    try {
-      const { name, text, isTyped } = JSON.parse(kept(DRAFT) ?? "");
-      if (typeof name !== "string" || typeof text !== "string" || text === "") return false;
-      this.editor.put({ name, bytes: new TextEncoder().encode(text), work: { isTyped: isTyped !== false } });
-      this.work = this.editor.work;
-      return true;
-    } catch {
-      return false;
-    }
+    const draft = draftIn(kept(DRAFT));
+    if (!draft) return false;
+    const { name, bytes, work } = draft;
+    this.editor.put(draft);
+    [this.own, this.work] = [draftOf(name, textOf(bytes) ?? "", work.isTyped), work];
+    keepText(DRAFT, noted(this.own, false));
+    return true;
   }
 }

@@ -24,6 +24,8 @@ export class Undoing {
     this.after = [];
     /** @type {Work[]} what was typed and can be brought back no more */
     this.lost = [];
+    /** @type {WeakSet<Held>} what another page has left */
+    this.others = new WeakSet();
     /** @type {(name: string) => void} what is told that such a program is back */
     this.restored = () => {};
     document.addEventListener("keydown", (event) => this.key(event));
@@ -41,7 +43,20 @@ export class Undoing {
   /** @param {Held[]} list */
   keep(list) {
     const { name, work } = this.editor;
-    list.push({ name, bytes: this.editor.bytes(), work });
+    this.add(list, { name, bytes: this.editor.bytes(), work });
+  }
+
+  // Keeps what another page has left. It is offered, whatever was typed since.
+  /** @param {Held} held */
+  takeOver(held) {
+    this.add(this.before, held);
+    this.others.add(held);
+    this.show();
+  }
+
+  /** @param {Held[]} list @param {Held} held */
+  add(list, held) {
+    list.push(held);
     const length = () => list.reduce((sum, { bytes }) => sum + bytes.length, 0);
     while (list.length > MOST_BEFORE || length() > MOST_BEFORE_BYTES) this.lose(list.splice(0, 1));
   }
@@ -87,7 +102,7 @@ export class Undoing {
   show() {
     const held = this.before[this.before.length - 1];
     const button = byId("undo");
-    button.hidden = !held || !this.editor.isAsOpened;
+    button.hidden = !held || !(this.editor.isAsOpened || this.others.has(held));
     button.textContent = held ? `bring back ${legible(held.name)}` : "";
   }
 }

@@ -19,6 +19,22 @@ ASKS = """(() => {
   dispatchEvent(event);
   return event.defaultPrevented;
 })()"""
+# (it may do so while this one is none that hears of it)
+UNHEARD = "localStorage.setItem('trac.draft', 'other')"
+LEAVES = """(() => {
+  const draft = JSON.parse(localStorage.getItem('trac.draft'));
+  localStorage.setItem('trac.draft', JSON.stringify({ ...draft, isLeft: true }));
+})()"""
+THEIRS = "localStorage.setItem('trac.draft', {})"
+FULL = """(() => {
+  for (let count = 0, size = 1 << 20; size > 0;) {
+    try {
+      localStorage.setItem(`full${count++}`, 'x'.repeat(size));
+    } catch {
+      size >>= 1;
+    }
+  }
+})()"""
 OTHER = """(() => {
   localStorage.setItem('trac.draft', 'other');
   dispatchEvent(new StorageEvent('storage', { key: 'trac.draft', newValue: 'other' }));
@@ -65,6 +81,99 @@ def check_other_page(page: Deeds) -> None:
         check(page.script(ASKS) != is_saved, "and {} where another page keeps its own".format(text))
     page.type("#(ps,last)'")
     page.until("(localStorage.getItem('trac.draft') ?? '').includes('last')", "it is kept")
+
+
+def check_other_page_after_reload(page: Deeds, file: str) -> None:
+    """So too where what was typed here was brought back by a reload."""
+    page.type("#(ps,mine)'")
+    page.until(IS_KEPT.format("mine"), "it is kept")
+    again(page, file)
+    check(page.script(VALUE) == "#(ps,mine)'", "it is back: " + page.script(VALUE))
+    check(not page.script(ASKS), "what is kept is left")
+    page.script(OTHER)
+    check(page.script(ASKS), "it is asked where another page keeps its own")
+
+
+def check_other_page_unheard(page: Deeds) -> None:
+    """So too where nothing says that another page has kept its own, as to one that the browser has set aside."""
+    page.type("#(ps,mine)'")
+    page.until(IS_KEPT.format("mine"), "it is kept")
+    page.script(UNHEARD)
+    check(page.script(ASKS), "it is asked where another page keeps its own")
+
+
+def check_left_page(page: Deeds) -> None:
+    """What was typed in a page that was left, since it was kept, can be brought back in one that keeps its own in its
+    place; not what stands in a page that is still open, or what nobody typed."""
+    theirs = {"name": "theirs.trac", "text": "#(ps,theirs)'", "isTyped": True, "isLeft": True}
+    button = "document.getElementById('undo')"
+    page.type("#(ps,one)'")
+    page.until(IS_KEPT.format("one"), "it is kept")
+    for words in {"isLeft": False}, {"isTyped": False}:
+        page.script(THEIRS.format(json.dumps(json.dumps({**theirs, **words}))))
+        page.type("#(ps,{})'".format(*words))
+        page.until(IS_KEPT.format(*words), "it is kept in its place")
+        check(page.script(button + ".hidden"), "nothing is offered: {}".format(words))
+        check(not page.script(ASKS), "what is kept is left")
+    # (another page that shows the same is left)
+    page.script(LEAVES)
+    check(not page.script(ASKS), "what is kept is left")
+    page.type("#(ps,more)'")
+    page.until(IS_KEPT.format("more"), "it is kept in its place")
+    check(page.script(button + ".hidden") and not page.script(ASKS), "nothing is offered of its own")
+    page.script(THEIRS.format(json.dumps(json.dumps(theirs))))
+    page.type("#(ps,mine)'")
+    page.until(IS_KEPT.format("mine"), "it is kept in its place")
+    check(not page.script(button + ".hidden") and page.script(button + ".textContent") == "bring back theirs.trac",
+          "it is offered: " + page.script(button + ".textContent"))
+    check(page.script(ASKS), "it is asked as long as that is not kept")
+    page.click(button)
+    check(page.script(VALUE) == "#(ps,theirs)'", "it is back: " + page.script(VALUE))
+    page.until(IS_KEPT.format("theirs"), "and kept")
+    page.script("document.getElementById('source').focus()")
+    page.press("y", control=True)
+    check(page.script(VALUE) == "#(ps,mine)'", "and forth again: " + page.script(VALUE))
+
+
+def check_leaving(page: Deeds, file: str) -> None:
+    """A page that is left says so beside what it has kept; one that brings that back says that it stands there."""
+    page.type("#(ps,mine)'")
+    page.until(IS_KEPT.format("mine"), "it is kept")
+    page.script("dispatchEvent(new Event('pagehide'))")
+    check(page.script("JSON.parse(localStorage.getItem('trac.draft')).isLeft"), "it is left")
+    check(not page.script(ASKS), "what is kept is left")
+    again(page, file)
+    check(page.script("JSON.parse(localStorage.getItem('trac.draft')).isLeft") is False, "it is back")
+
+
+def check_full(page: Deeds) -> None:
+    """Where the browser has no room, it is asked for what was typed since it was kept, also after another program was
+    opened."""
+    page.type("#(ps,small)'")
+    page.until(IS_KEPT.format("small"), "it is kept")
+    page.script(FULL)
+    page.type("#(ps,{})'".format("mine" * 20))
+    page.rest(300)
+    check(page.script(ASKS), "it is asked for what is not kept")
+    pick(page, "hello.trac")
+    page.rest(300)
+    check(page.script(ASKS), "and where another program is opened")
+    page.script("Object.keys(localStorage).forEach((key) => key.startsWith('full') && localStorage.removeItem(key))")
+    page.click("document.getElementById('undo')")
+    page.until(IS_KEPT.format("mine"), "it is back, and kept")
+    check(not page.script(ASKS), "what is kept is left")
+
+
+def check_too_long(page: Deeds) -> None:
+    """So too of a program that was kept and has grown too long for that, after a link is followed."""
+    page.type("#(ps,small)'")
+    page.until(IS_KEPT.format("small"), "it is kept")
+    page.put(("#(ps,({}))'\n".format("x" * 1000)) * 1100)
+    page.rest(300)
+    check(page.script(ASKS), "it is asked for what is not kept")
+    page.script("location.hash = {}".format(json.dumps(link(body(b"#(ps,shared)'")))))
+    page.until(VALUE + " === \"#(ps,shared)'\"", "the link is opened")
+    check(page.script(ASKS), "and where another program is opened")
 
 
 def check_two_typed(page: Deeds) -> None:
@@ -147,6 +256,6 @@ def check_question(page: Deeds) -> None:
     page.script("document.getElementById('question').close()")
 
 
-TRIED = (rows(check_draft, given=file_of)
-         + rows(check_undo, check_other_page, check_replaced, check_two_typed, check_typed_before_a_link,
-                check_question))
+TRIED = (rows(check_draft, check_other_page_after_reload, check_leaving, given=file_of)
+         + rows(check_undo, check_other_page, check_other_page_unheard, check_left_page, check_full, check_too_long,
+                check_replaced, check_two_typed, check_typed_before_a_link, check_question))

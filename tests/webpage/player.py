@@ -197,6 +197,7 @@ def check_wide(page: Deeds) -> None:
     name, hebrew = "document.getElementById('program-name').textContent", "a\u05d0"
     for text, is_fixed in ((hebrew * 40000, True), ("\u0e01\u0e33" * 40000, True), ("e\u0301" * 40000, True),
                            ("a\uaa60\uaa7b" * 20000, True), ("\U00010900" * 20000, True),
+                           ("\U00013000\U00013430" * 10000, True), ("\u2d30\u2d7f" * 10000, True),
                            ((hebrew * 500 + "\n") * 80, False), ("\u00e9\u0416\u2019" * 20000, False),
                            ("y" * 9000 + "\u05d0\U0001f600", False)):
         with tempfile.TemporaryDirectory(prefix="trac-webpage-test-") as room:
