@@ -40,9 +40,6 @@ lines_next (suc k) b rest some =
     let less : k ≡ suc k - 1 = omega arith in
     ap (λ m. (if ends_before b rest then 1 else 0) + lines_before m rest) less
 
-pub lines_zero : (k : ℕ) (text : List ℕ) → k ≡ 0 → lines_before k text ≡ 0
-lines_zero k text none = ap (λ m. lines_before m text) none
-
 pub lines_ends : (k : ℕ) (text : List ℕ) (i : ℕ) → i < length text → i < k → ends_line text i ≡ true → lines_before (k - i) (drop i text) ≡ 1 + lines_before (k - (i + 1)) (drop (i + 1) text)
 lines_ends k text i l some ends =
     let less : k - i - 1 ≡ k - (i + 1) = omega arith in
@@ -116,18 +113,3 @@ lines_within (suc k) (b ∷ rest) =
     starts_before k n b rest inner (one_further n b rest k inner (omega (arith, inner, lower n rest)))
 
 -- ---- characters
-
-pub within_none : (encoding : Encoding) (most : ℕ) (text : List ℕ) → text ≡ [] → bytes_within encoding most text ≡ 0
-within_none encoding most text none = ap (bytes_within encoding most) none
-
-pub within_stops : (encoding : Encoding) (most : ℕ) (text : List ℕ) (i : ℕ) → i < length text → (is_line_end (get_or text i 0) || ltb most (units encoding (get_or text i 0))) ≡ true →
-    bytes_within encoding most (drop i text) ≡ 0
-within_stops encoding most text i l stops =
-    ap (bytes_within encoding most) (drop_more text i 0 l)
-    ∙ cond-true (is_line_end (get_or text i 0) || ltb most (units encoding (get_or text i 0))) 0 (suc (bytes_within encoding (most - units encoding (get_or text i 0)) (drop (i + 1) text))) stops
-
-pub within_goes_on : (encoding : Encoding) (most : ℕ) (text : List ℕ) (i : ℕ) → i < length text → (is_line_end (get_or text i 0) || ltb most (units encoding (get_or text i 0))) ≡ false →
-    bytes_within encoding most (drop i text) ≡ suc (bytes_within encoding (most - units encoding (get_or text i 0)) (drop (i + 1) text))
-within_goes_on encoding most text i l on =
-    ap (bytes_within encoding most) (drop_more text i 0 l)
-    ∙ cond-false (is_line_end (get_or text i 0) || ltb most (units encoding (get_or text i 0))) 0 (suc (bytes_within encoding (most - units encoding (get_or text i 0)) (drop (i + 1) text))) on

@@ -70,14 +70,6 @@ dropped bytes got more skip none = ⊎_elim
 
 -- ---- what is passed over
 
-pub passes_held : (old new : Pending) (len : ℕ) → old.skip ≡ 0 → new.skip ≡ old.skip → new.bytes ≡ drop len old.bytes → len ≤ length old.bytes →
-    (more : List ℕ) → coming new more ≡ drop len (coming old more)
-passes_held old new len none same bytes within more =
-    ap (λ n. drop n (new.bytes ++ more)) (same ∙ none)
-    ∙ ap (λ (t : List ℕ). t ++ more) bytes
-    ∙ sym (drop-append-le len old.bytes more within)
-    ∙ ap (λ n. drop len (drop n (old.bytes ++ more))) (sym none)
-
 pub passes_all : (old new : Pending) (len : ℕ) → old.skip ≡ 0 → new.skip ≡ len - length old.bytes → new.bytes ≡ [] → length old.bytes ≤ len →
     (more : List ℕ) → coming new more ≡ drop len (coming old more)
 passes_all old new len none skip bytes beyond more =

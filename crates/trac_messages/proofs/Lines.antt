@@ -59,14 +59,6 @@ value_more word i number digit n l low high is value =
     let sum : 10 * number + digit ≡ number * 10 + digit_value (get_or word i 0) = omega (arith, is, worth (get_or word i 0) low high) in
     ap (λ m. digits_value_after 10 m (drop (i + 1) word)) sum ∙ sym (ap (digits_value_after 10 number) (drop_more word i 0 l)) ∙ value
 
-pub left_more : (word : List ℕ) (i : ℕ) (all : Bool) → i < length word → is_ascii_digit (get_or word i 0) ≡ true → all_ascii_digits (drop i word) ≡ all → all_ascii_digits (drop (i + 1) word) ≡ all
-left_more word i all l one left =
-    sym (ap all_ascii_digits (drop_more word i 0 l) ∙ ap (λ t. t && all_ascii_digits (drop (i + 1) word)) one) ∙ left
-
-pub left_fails : (word : List ℕ) (i : ℕ) (all : Bool) → i < length word → is_ascii_digit (get_or word i 0) ≡ false → all_ascii_digits (drop i word) ≡ all → all ≡ false
-left_fails word i all l one left =
-    sym left ∙ ap all_ascii_digits (drop_more word i 0 l) ∙ ap (λ t. t && all_ascii_digits (drop (i + 1) word)) one
-
 -- a word of no byte, or of too many, or with another byte, writes no number
 pub no_number : (word : List ℕ) → (nat_le 1 (length word) ≡ false) ⊎ ((nat_le (length word) DIGIT_LIMIT ≡ false) ⊎ (all_ascii_digits word ≡ false)) → None ≡ number_of word
 no_number word why =

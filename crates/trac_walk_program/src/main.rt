@@ -1,15 +1,17 @@
 //! The program of `trac walk`: a debugger of TRAC T-64 for a person at a terminal. With the first word --lint it is
-//! that of `trac lint`, which looks for doubts.
+//! that of `trac lint`, which looks for doubts, with --lsp that of `trac lsp`, a language server.
 #![tactic(auto)]
 
 mod files;
 mod linting;
 mod naming;
+mod serving;
 
 ghost use Rattle.std.specs.Prelude.{◌≤◌};
 
 use files::Files;
 use linting::lint_by;
+use serving::serve_by;
 use std::alloc::{AllocError, Global};
 use std::env::Args;
 use std::process::ExitCode;
@@ -30,6 +32,9 @@ const NOT_UNDERSTOOD: u8 = 2;
 
 /// The first word that asks for doubts. The launcher `trac` writes it for `trac lint`.
 const LINT: &str = "--lint";
+
+/// The first word that asks for a language server, likewise.
+const LSP: &str = "--lsp";
 
 fn main(rt: HostRuntime) -> ExitCode {
     match env::args(&rt) {
@@ -57,6 +62,7 @@ fn obey_texts(rt: &HostRuntime, words: &[String]) -> Result<ExitCode, AllocError
     let texts: Vec<&str> = words.iter().map(|word| word.as_str()).collect(rt.alloc())?;
     match texts.as_slice() {
         [_, first, ..] if *first == LINT => Ok(lint_by(rt, texts.as_slice().split_at(1).1)),
+        [_, first, ..] if *first == LSP => Ok(serve_by(rt, texts.split_at(2).1)),
         texts => walk_by(rt, texts),
     }
 }
@@ -84,8 +90,8 @@ fn walk_by(rt: &HostRuntime, words: &[&str]) -> Result<ExitCode, AllocError> {
     })
 }
 
-// Shows help, or the version.
-fn shown(rt: &HostRuntime, text: &str) -> ExitCode {
+/// Shows help, or the version.
+pub(crate) fn shown(rt: &HostRuntime, text: &str) -> ExitCode {
     match print!(rt; "{text}") {
         Ok(()) => ExitCode::SUCCESS,
         Err(_) => say(rt, Ending::Write),
