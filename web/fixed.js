@@ -11,11 +11,12 @@ const PART = 1 << 16;
 const NARROW = 1 << 12;
 
 // Signs that are laid out by those around them: they join, stand over others, or turn the direction. In a line of many
-// of them a browser looks at each with each.
+// of them a browser looks at each with each; so it does in one of many signs for bytes that are no text.
 const JOINING = new RegExp(`[${[
   "\\u0300-\\u036f\\u0483-\\u0489\\u0590-\\u1cff\\u1dc0-\\u1dff\\u200b-\\u200f\\u202a-\\u202e\\u2060-\\u206f",
   "\\u20d0-\\u20ff\\u2d7f\\u302a-\\u302f\\u3099\\u309a\\ua66f-\\ua67d\\ua800-\\uabff\\ud7b0-\\ud7ff\\ud802-\\ud807",
   "\\ud80d\\ud81a\\ud81b\\ud838-\\ud83a\\udb40\\ufb1d-\\ufdff\\ufe00-\\ufe0f\\ufe20-\\ufe2f\\ufe70-\\ufeff",
+  "\\ufffd",
 ].join("")}]`, "g");
 
 /**
