@@ -1,6 +1,5 @@
 //! Who replies to the lines of a person.
 
-use crate::programs::Program;
 use crate::replying::Memo;
 use crate::telling::Telling;
 use crate::walks::Walks;
@@ -22,7 +21,7 @@ impl<'p, W: Walks<A>, A: Allocator + Copy> Guide<'p, W, A> {
             telling: Telling {
                 alloc,
                 walker,
-                program: Program::Lent(program),
+                program,
                 recalled: None,
                 out: Vec::new(alloc),
             },
