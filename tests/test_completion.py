@@ -21,11 +21,13 @@ ROWS = [
     ("trac ru", "run"), ("trac p", "page play"), ("trac help w", "walk"), ("trac he", "help"), ("trac run f", ""),
     ("trac run --b", "--budget"), ("trac debug --b", ""), ("trac run --budget ", ""), ("trac debug --decimals 6", "64"),
     ("trac run --decimals ", "128 64"), ("trac run --budget 5 --j", "--journal"), ("trac debug f", FILES),
+    ("trac l", "lint lsp"), ("trac help ls", "lsp"),
 ] + [row for at in ("trac ", "trac-") for row in (
     (at + "course h", "hint"), (at + "course hint 3.1", "3.1"), (at + "course 7.", "7.1 7.2 7.3"),
     (at + "course solution 10.", "10.1 10.2 10.3"), (at + "course check 3.1 f", FILES), (at + "play --budget 9 f",
                                                                                          FILES),
     (at + "walk --memory ", ""), (at + "lint --input f", FILES), (at + "page --step ", ""),
+    (at + "lsp --", "--help"), (at + "lsp f", ""),
     *((at + command + rest, wanted) for command in ("walk", "lint", "play", "page")
       for rest, wanted in ((" --ver", "--version"), (" f", FILES))),
 )]

@@ -180,11 +180,13 @@ class Stored(InNode):
         self.are(rows)
 
     def test_texts(self) -> None:
-        """Help, and command lines that are not understood."""
+        """Help, and command lines that are not understood; there is no language server."""
         rows = []
         commands: dict[str, list[str]] = {"trac": [], "trac-walk": ["walk"], "trac-lint": ["lint"]}
         for name in stems(DATA / "texts", ".words"):
             program, *words = words_in(DATA / "texts" / (name + ".words"))
+            if program not in commands:
+                continue
             out, err = (DATA / "texts" / (name + ending) for ending in (".out", ".err"))
             rows.append((row([*commands[program], *words]), {"output": bytes_in(out), "error": bytes_in(err),
                                                              "status": 2 if err.exists() else 0}))
