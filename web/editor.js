@@ -173,6 +173,12 @@ export class Editor {
     return bytes;
   }
 
+  // The program as it can be brought back.
+  /** @returns {Held} */
+  held() {
+    return { name: this.name, bytes: this.bytes(), work: this.work };
+  }
+
   // Writes a text at the end of the program, before the line ends there, as if it was typed.
   /** @param {string} text */
   write(text) {

@@ -8,9 +8,9 @@ const MOST_BEFORE = 20;
 const MOST_BEFORE_BYTES = 1 << 25;
 
 /**
- * The work on a program, as long as that is in the page: whether something was typed that is in no file. And a program:
- * its name, its bytes, and the work on it.
- * @typedef {{ isTyped: boolean }} Work
+ * The work on a program, as long as that is in the page: whether something was typed that is in no file, and the
+ * program as it was put aside. And a program: its name, its bytes, and the work on it.
+ * @typedef {{ isTyped: boolean, aside?: string | undefined }} Work
  * @typedef {{ name: string, bytes: Uint8Array, work?: Work }} Held
  */
 
@@ -42,8 +42,7 @@ export class Undoing {
   // Keeps what is there.
   /** @param {Held[]} list */
   keep(list) {
-    const { name, work } = this.editor;
-    this.add(list, { name, bytes: this.editor.bytes(), work });
+    this.add(list, this.editor.held());
   }
 
   // Keeps what another page has left. It is offered, whatever was typed since.
@@ -67,10 +66,14 @@ export class Undoing {
     for (const { work } of gone) if (work?.isTyped) this.lost.push(work);
   }
 
+  // What can be brought back.
+  held() {
+    return [...this.before, ...this.after];
+  }
+
   // What was typed and does not stand in the editor.
   typed() {
-    const works = [...this.before, ...this.after].map(({ work }) => work);
-    return [...works, ...this.lost].filter((work) => work?.isTyped);
+    return [...this.held().map(({ work }) => work), ...this.lost].filter((work) => work?.isTyped);
   }
 
   // Brings back what stood there before another program was opened, or after.

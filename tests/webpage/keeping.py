@@ -135,6 +135,36 @@ def check_left_page(page: Deeds) -> None:
     check(page.script(VALUE) == "#(ps,mine)'", "and forth again: " + page.script(VALUE))
 
 
+def check_aside(page: Deeds, file: str) -> None:
+    """What stands nowhere else where its page is left is offered by the next one, without a question: browsers ask in
+    no page that nobody has touched since it was loaded. It is put aside until it is kept again."""
+    button, aside = "document.getElementById('undo')", "localStorage.getItem('trac.aside')"
+    theirs = {"name": "theirs.trac", "text": "#(ps,theirs)'", "isTyped": True, "isLeft": False}
+    page.type("#(ps,mine)'")
+    page.until(IS_KEPT.format("mine"), "it is kept")
+    again(page, file)
+    check(page.script(aside) is None, "nothing is put aside: {}".format(page.script(aside)))
+    page.script(THEIRS.format(json.dumps(json.dumps(theirs))))
+    page.script("dispatchEvent(new Event('pagehide'))")
+    page.load(file)
+    ready(page)
+    check(page.script(VALUE) == "#(ps,theirs)'", "what the other has kept is there: " + page.script(VALUE))
+    check(not page.script(button + ".hidden") and page.text("undo") == "bring back wrong-factorial.trac",
+          "what was put aside is offered: " + page.text("undo"))
+    check(not page.script(ASKS), "what is put aside is left")
+    page.click(button)
+    page.until(IS_KEPT.format("mine"), "it is back, and kept")
+    check(page.script(VALUE) == "#(ps,mine)'", "as it was: " + page.script(VALUE))
+    check(page.script(aside) is None, "it is put aside no more: {}".format(page.script(aside)))
+    check(page.script(ASKS), "it is asked for the other, which is kept no more")
+    for _ in range(2):
+        page.script("dispatchEvent(new Event('pagehide'))")
+    check(page.script(aside + ".split('theirs.trac').length") == 2, "that is put aside once: " + page.script(aside))
+    page.script("localStorage.clear()")
+    page.script("dispatchEvent(new Event('pagehide'))")
+    check(page.script("localStorage.length") == 0, "where the browser was told to forget, nothing is kept")
+
+
 def check_leaving(page: Deeds, file: str) -> None:
     """A page that is left says so beside what it has kept; one that brings that back says that it stands there."""
     page.type("#(ps,mine)'")
@@ -256,6 +286,6 @@ def check_question(page: Deeds) -> None:
     page.script("document.getElementById('question').close()")
 
 
-TRIED = (rows(check_draft, check_other_page_after_reload, check_leaving, given=file_of)
+TRIED = (rows(check_draft, check_other_page_after_reload, check_aside, check_leaving, given=file_of)
          + rows(check_undo, check_other_page, check_other_page_unheard, check_left_page, check_full, check_too_long,
                 check_replaced, check_two_typed, check_typed_before_a_link, check_question))
