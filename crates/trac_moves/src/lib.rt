@@ -3,12 +3,15 @@
 #![tactic(auto)]
 
 mod aim;
+mod anew;
 mod doubted;
+mod printed;
 mod searching;
 mod walker;
 mod window;
 
 pub use aim::Aim;
+pub use anew::walkers_stand_alike;
 pub use doubted::place_of;
 pub use searching::Search;
 pub use walker::Walker;

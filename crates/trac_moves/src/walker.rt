@@ -5,9 +5,10 @@ ghost use Rattle.trac_rules.specs.Session.{Step, repeated};
 ghost use Rattle.trac_rules.specs.State.{Tape};
 ghost use Rattle.trac_streams.specs.Escapes.{feed};
 ghost use Rattle.trac_streams.specs.Tape.{MayRefuseTape};
-ghost use Rattle.trac_moves.specs.Aims.{MeetsAim, goal_of_aim};
+ghost use Rattle.trac_session.specs.Goals.{goal_of};
+ghost use Rattle.trac_moves.specs.Aims.{MeetsGoal, goal_of_aim};
 ghost use Rattle.trac_moves.specs.Steps.{number_of_step};
-ghost use Rattle.trac_moves.specs.Walkers.{IsBackward, IsForward, IsReturned, IsTo, IsTowards, Moves, Stands};
+ghost use Rattle.trac_moves.specs.Walkers.{IsBackward, IsForward, IsReturned, IsTowards, Moves, Stands};
 ghost use Rattle.trac_moves.specs.Walkers.{refusal_said};
 ghost use Rattle.trac_moves.specs.Windows.{IsOver};
 
@@ -239,19 +240,7 @@ impl<A: Allocator + Copy> Walker<A> {
         ensures moved { Moves (IsTowards most) self.old self.new }
         ensures met { result ≡ None → goal_of_aim aim.entry self.new.window.session.last ≡ true }
     {
-        self.go(Some(aim), most)
-    }
-
-    /// Goes to this step, forward or back, until a step is refused, which is returned.
-    pub fn go_to(&mut self, step: u64) -> Option<Refusal>
-        ensures { Moves (IsTo step result) self.old self.new }
-    {
-        let now = self.step();
-        if step < now {
-            self.back(now - step)
-        } else {
-            self.forward(step - now)
-        }
+        self.go(Some(goal_for(aim)), most)
     }
 
     /// Goes forward as far as no step has to be forgotten for it, or until one is refused, which is returned.
@@ -263,23 +252,23 @@ impl<A: Allocator + Copy> Walker<A> {
     }
 
     // Goes forward, to a goal if there is one, walk by walk: after each that ended for want of room it makes room.
-    fn go(&mut self, aim: Option<Aim<'_>>, most: u64) -> Option<Refusal>
+    pub(crate) fn go<'s>(&'s mut self, goal: Option<Goal<'s, A>>, most: u64) -> Option<Refusal>
         ensures moved { Moves (IsTowards most) self.old self.new }
-        ensures all { aim.entry ≡ None → Moves (IsForward most result) self.old self.new }
-        ensures met { result ≡ None → MeetsAim aim.entry self.new.window.session.last }
+        ensures all { goal.entry ≡ None → Moves (IsForward most result) self.old self.new }
+        ensures met { result ≡ None → MeetsGoal goal.entry self.new.window.session.last }
     {
         let mut left = most;
         while left > 0 {
             self.make_room();
             // There is room for a step now.
             let most = self.room().max(1).min(left);
-            let walk = walk_on(&mut self.window.session, aim, most, self.weight);
-            if !self.goes_on(walk, aim.is_some()) {
+            let walk = walk_on(&mut self.window.session, goal, most, self.weight);
+            if !self.goes_on(walk, goal.is_some()) {
                 return walk.why;
             }
             left = left.saturating_sub(walk.done);
         }
-        match aim {
+        match goal {
             None => None,
             Some(_) => Some(Refusal::NotMet),
         }
@@ -319,9 +308,18 @@ impl<A: Allocator + Copy> Walker<A> {
     /// Goes back to a goal, and forward again if it is not met on the way back: then `NotMet` is returned. If a step
     /// was refused on the way forward again, the walker stands there, and that refusal is returned.
     pub fn return_to(&mut self, aim: Aim<'_>) -> Option<Refusal>
-        ensures { Moves (IsReturned result) self.old self.new }
+        ensures moved { Moves (IsReturned result) self.old self.new }
+        ensures met { result ≡ None → goal_of_aim aim.entry self.new.window.session.last ≡ true }
     {
-        refusal_of(self.window.session.return_to(goal_for(aim)))
+        self.return_to_goal(goal_for(aim))
+    }
+
+    // The same to any goal.
+    pub(crate) fn return_to_goal(&mut self, goal: Goal<'_, A>) -> Option<Refusal>
+        ensures moved { Moves (IsReturned result) self.old self.new }
+        ensures met { result ≡ None → goal_of goal.entry self.new.window.session.last ≡ true }
+    {
+        refusal_of(self.window.session.return_to(goal))
     }
 
     /// Goes back to the call that changed the form of this name last, as `return_to` does. `Memory` also if there is
@@ -333,7 +331,7 @@ impl<A: Allocator + Copy> Walker<A> {
         let Ok(form) = copy.transpose() else {
             return Some(Refusal::Memory);
         };
-        refusal_of(self.window.session.return_to(Goal::OtherForm(name, &form)))
+        self.return_to_goal(Goal::OtherForm(name, &form))
     }
 
     /// Forgets all but the last steps, so many as are kept.
@@ -393,19 +391,19 @@ impl<A: Allocator + Copy> Walker<A> {
 
 // A walk forward by so many steps at most, towards a goal if there is one. It stops also if the records weigh more than
 // this.
-fn walk_on<A: Allocator + Copy>(
-    session: &mut Session<A>,
-    aim: Option<Aim<'_>>,
+fn walk_on<'s, A: Allocator + Copy>(
+    session: &'s mut Session<A>,
+    goal: Option<Goal<'s, A>>,
     most: u64,
     weight: u64,
 ) -> Walk
     ensures within { result.done ≤ most }
     ensures some { result.why ≡ None → 0 < most → 0 < result.done }
     ensures walked { repeated Step result.done session.old ≡ Some session.new }
-    ensures met { result.why ≡ None → MeetsAim aim.entry session.new.last }
+    ensures met { result.why ≡ None → MeetsGoal goal.entry session.new.last }
 {
-    match aim {
-        Some(aim) => session.forward_to_within(goal_for(aim), most, weight),
+    match goal {
+        Some(goal) => session.forward_to_within(goal, most, weight),
         None => session.forward_within(most, weight),
     }
 }
