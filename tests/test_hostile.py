@@ -36,12 +36,12 @@ ENDLESS = 40_000_000
 ALLOWED, MORE = 64, 16
 MEBIBYTE = 1024
 # Loops without end, which take memory in each turn: how often the form D, of 8 bytes, is doubled before; a turn; and
-# how a walk ends that meets this. (Small blocks leave too little for a reply: then it ends with 5.)
+# how a walk ends that meets this.
 NAMED = b"#(ds,##(cl,D)##(cl,N),)#(ds,N,#(ad,##(cl,N),1))"
 GROWING = {
     "names-of-8-mib": (20, NAMED, 0),
     "names-of-1-mib": (17, NAMED, 0),
-    "names-of-2-kib": (8, NAMED, 5),
+    "names-of-2-kib": (8, NAMED, 0),
     "text-that-doubles": (20, DOUBLES, 0),
     # each block with a form of 64 KiB
     "blocks": (13, b"#(ds,F,##(cl,D))#(sb,B,F)", 0),
