@@ -208,13 +208,6 @@ def check_wide(page: Deeds) -> None:
             page.choose_file("#file", path)
             page.until(name + ".startsWith('wide.trac')", "it is opened")
         check(page.script("document.getElementById('source').readOnly") == is_fixed, ascii(text[:9]) + ": reading only")
-    with tempfile.TemporaryDirectory(prefix="trac-webpage-test-") as room:
-        path = os.path.join(room, "bytes.trac")
-        with open(path, "wb") as data:
-            data.write(b"\xff" * 30000)
-        page.choose_file("#file", path)
-        page.until(name + " === 'bytes.trac (for reading only: bytes 1 to 4,096 of 30,000 are shown)'",
-                   "a line of bytes that are no text is shown in a part")
     # (Firefox gives a script no such paste)
     held = page.script("(() => { const data = new DataTransfer(); "
                        "data.setData('text/plain', 'a\\u05d0'.repeat(40000)); "
@@ -223,6 +216,13 @@ def check_wide(page: Deeds) -> None:
                        "return paste.clipboardData.getData('text/plain').length; })()")
     want = "bytes 1 to 4,096 of 129,006 are shown: a line is too long for signs that join"
     check(not held or want in page.script(name), "a paste of them is shown in a part: " + page.script(name))
+    with tempfile.TemporaryDirectory(prefix="trac-webpage-test-") as room:
+        path = os.path.join(room, "bytes.trac")
+        with open(path, "wb") as data:
+            data.write(b"\xff" * 30000)
+        page.choose_file("#file", path)
+        page.until(name + " === 'bytes.trac (for reading only: bytes 1 to 4,096 of 30,000 are shown)'",
+                   "a line of bytes that are no text is shown in a part")
 
 
 def check_unseen(page: Deeds) -> None:
