@@ -21,9 +21,9 @@ struct Finding<'a> {
 
 /// Who says what is doubtful in a program.
 pub trait Linter {
-    /// Puts a line for each doubt of a text at the end of others: `:LINE:COLUMN: WORDS`, both counted from 1, columns by
-    /// bytes. A line whose words begin with `note: ` belongs to the one before it. There are fewer lines if memory is
-    /// refused.
+    /// Puts a line for each doubt of a text at the end of others: `:LINE:COLUMN: WORDS`, both counted from 1, columns
+    /// by bytes. A line whose words begin with `note: ` belongs to the one before it. There are fewer lines if memory
+    /// is refused.
     fn lint_into(&self, text: &[u8], lines: &mut Vec<u8>);
 }
 

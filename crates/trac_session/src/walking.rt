@@ -182,8 +182,8 @@ impl<A: Allocator + Copy> Session<A> {
     pub fn forward_within(&mut self, n: u64, most: u64) -> Walk
         ensures { IsWalkWithin most no_goal n self.old result.done result.why self.new }
     {
-        // A run takes its steps here, in a loop of its own that tries a step first: the loop of the other walks takes it
-        // one instruction in a hundred more.
+        // A run takes its steps here, in a loop of its own that tries a step first: the loop of the other walks takes
+        // it one instruction in a hundred more.
         let mut done = 0;
         while done < n {
             if let Err(refusal) = self.step() {

@@ -264,8 +264,8 @@ impl<E: TwoEnds<u8, A>, M: TwoEnds<Mark, A>, A: Allocator + Copy> Core<E, M, A> 
         Ok(())
     }
 
-    // A `)` in a function, which is performed. The texts of the call are made in these buffers. The loop of a walk calls
-    // this, and has the most frequent rules of scanning in itself.
+    // A `)` in a function, which is performed. The texts of the call are made in these buffers. The loop of a walk
+    // calls this, and has the most frequent rules of scanning in itself.
     #[inline(never)]
     pub(crate) fn close<K: Keeper<A>>(
         &mut self,
