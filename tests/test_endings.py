@@ -57,6 +57,9 @@ WIDE = b"#(ad,9223372036854775807,1,Z)'"
 # A form's call that would give more than a text may have.
 TOO_LONG = b"#(ds,F,(%s))#(ss,F,x)#(cl,F,(%s))" % (b"x" * 4096, b"x" * 4097)
 DOUBLED = b"#(ds,L,(#(ds,D,##(cl,D)##(cl,D))#(cl,L)))'#(ds,D,x)#(ps,begun)#(cl,L)'"
+# The tools for who changes the code that take words, each with words that it does not.
+TOOLS = {"believed": "--nothing", "dear": "trac_text x", "make-release": "x", "release": "--x", "set-version": "--x",
+         "third-party": "/nowhere", "times": "/nowhere", "watch": "x"}
 # So many functions may be begun one in another: the idle program has two marks, and each of these one more.
 MOST_BEGUN = 1048574
 
@@ -326,6 +329,12 @@ class Endings(Case):
             self.ends("", self.redirected('"$1" ' + line, b"AB'"), b"", 7, error)
         self.ends("nothing to print", self.redirected('"$1" run >&-'))
         self.ends("no standard error", self.redirected('"$1" run 2>&-', b"AB'"), b"AB")
+
+    @each(TOOLS)
+    def test_tool(self, name: str) -> None:
+        run = ran([TOP / "tools" / name, *TOOLS[name].split()])
+        self.holds("status {} of {}".format(run.status, run.command), run.status in (1, 2))
+        self.holds("a line, and no traceback: {!r}".format(run.error), run.error and b"Traceback" not in run.error)
 
     def test_pipe_that_nobody_reads_any_more(self) -> None:
         ours, theirs = os.pipe()
