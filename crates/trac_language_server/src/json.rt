@@ -46,8 +46,18 @@ pub(crate) fn range_of(
     encoding: Encoding,
     (start, end): (usize, usize),
 ) -> Result<Value, AllocError> {
-    let start = place_of(alloc, position_of(text, encoding, start))?;
-    let end = place_of(alloc, position_of(text, encoding, end))?;
+    let start = position_of(text, encoding, start);
+    range_between(alloc, start, position_of(text, encoding, end))
+}
+
+/// What stands between two positions, as a range.
+pub(crate) fn range_between(
+    alloc: Global,
+    start: Position,
+    end: Position,
+) -> Result<Value, AllocError> {
+    let start = place_of(alloc, start)?;
+    let end = place_of(alloc, end)?;
     json!(in alloc; {"start": start, "end": end})
 }
 

@@ -1,9 +1,9 @@
 //! The forms that a text defines, as it is written.
-use crate::json::range_of;
+use crate::json::range_between;
 use crate::parts::{after, front};
 use serde_json::{Value, json};
 use std::alloc::{AllocError, Global};
-use trac_documents::Encoding;
+use trac_documents::{Encoding, Position, position_of};
 
 // What a call begins with that defines a form, in either case of letters.
 const DEFINES: &[u8] = b"#(ds,";
@@ -14,42 +14,79 @@ const CALL_LIMIT: usize = 65_536;
 // The number that the protocol has for a function.
 const FUNCTION: u64 = 12;
 
-/// The forms that a text defines: each call of `ds` with a name that is written out. The error is that memory was
-/// refused, here and below.
+// So many forms are told at most.
+const MOST: usize = 10_000;
+
+/// The forms that a text defines, the first 10,000 of them: each call of `ds` with a name that is written out. The
+/// error is that memory was refused, here and below.
 pub(crate) fn symbols_of(
     alloc: Global,
     text: &[u8],
     encoding: Encoding,
 ) -> Result<Value, AllocError> {
     let mut symbols = Vec::new(alloc);
+    let mut mark = Mark::first();
     for place in 0..text.len() {
-        if let Some(symbol) = symbol_at(alloc, text, place, encoding)? {
-            symbols.push(symbol)?;
+        if symbols.len() >= MOST {
+            break;
         }
+        let Some(name) = name_in(after(text, place)) else {
+            continue;
+        };
+        mark = mark.moved(text, encoding, place);
+        symbols.push(symbol_of(alloc, text, encoding, &mark, name)?)?;
     }
     Ok(Value::Array(symbols))
 }
 
-// The form that the call at a place defines, if there is one.
-fn symbol_at(
+// The form of this name that the call at a place defines.
+fn symbol_of(
     alloc: Global,
     text: &[u8],
-    place: usize,
     encoding: Encoding,
-) -> Result<Option<Value>, AllocError> {
-    let call = after(text, place);
-    let Some(name) = name_in(call) else {
-        return Ok(None);
-    };
-    let start = place.saturating_add(DEFINES.len());
-    let end = start.saturating_add(name.len());
-    let whole = place.saturating_add(call_len(call)).max(end);
-    let range = range_of(alloc, text, encoding, (place, whole))?;
-    let selected = range_of(alloc, text, encoding, (start, end))?;
-    let symbol = json!(in alloc; {
+    call: &Mark,
+    name: &str,
+) -> Result<Value, AllocError> {
+    let len = call_len(after(text, call.place));
+    let start = call.moved(text, encoding, call.place.saturating_add(DEFINES.len()));
+    let end = start.moved(text, encoding, start.place.saturating_add(name.len()));
+    let whole = end.moved(text, encoding, call.place.saturating_add(len).max(end.place));
+    let range = range_between(alloc, call.position, whole.position)?;
+    let selected = range_between(alloc, start.position, end.position)?;
+    json!(in alloc; {
         "name": name, "kind": FUNCTION, "range": range, "selectionRange": selected
-    })?;
-    Ok(Some(symbol))
+    })
+}
+
+// A place of a text with its position, so that those of later places are counted from there.
+struct Mark {
+    place: usize,
+    position: Position,
+}
+
+impl Mark {
+    // The start of a text.
+    fn first() -> Self {
+        let position = Position {
+            line: 0,
+            character: 0,
+        };
+        Mark { place: 0, position }
+    }
+
+    // A later place of the text.
+    fn moved(&self, text: &[u8], encoding: Encoding, place: usize) -> Self {
+        let passed = place.saturating_sub(self.place);
+        let further = position_of(after(text, self.place), encoding, passed);
+        let character = if further.line == 0 {
+            self.position.character.saturating_add(further.character)
+        } else {
+            further.character
+        };
+        let line = self.position.line.saturating_add(further.line);
+        let position = Position { line, character };
+        Mark { place, position }
+    }
 }
 
 // The name that the call defines with which a text begins; none, if it defines none or a blank one.
