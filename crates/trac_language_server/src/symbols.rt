@@ -59,6 +59,7 @@ fn symbol_of(
 }
 
 // A place of a text with its position, so that those of later places are counted from there.
+#[derive(Drop)]
 struct Mark {
     place: usize,
     position: Position,
