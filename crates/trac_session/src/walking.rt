@@ -61,8 +61,9 @@ impl<A: Allocator + Copy> Session<A> {
         ensures end { IsForward direction → result < most → HasNoPlain self.new }
         ensures weight { IsForward direction → weights_from self.new.earlier ≡ weights_from self.old.earlier }
     {
-        // For what it says: the states are steps of one another, so that a step that moved a byte does nothing else.
-        let _machine = self.machine();
+        // Read for what holds of a session: its states are steps of one another, so that a step that moved a byte does
+        // nothing else.
+        let _limit = self.limit;
         match direction {
             Direction::Forward(_) => self.pass_plain(most),
             Direction::Backward => self.pass_back(most),
