@@ -17,13 +17,9 @@ use std::alloc::{AllocError, Allocator};
 use trac_rules::byte::LINE_FEED;
 use trac_rules::limit::{JOURNAL_LIMIT, TAPE_LIMIT};
 use trac_rules::width::Width;
-use trac_session::{Doubt, Goal, Machine, Refusal, Return, Session, Walk};
+use trac_session::{Doubt, Goal, Machine, Refusal, Return, Session, WEIGHED_BYTES, Walk};
 use trac_sight::{Forgetting, Glance, Reach, Sight, glance_at, lacks_output_room, sight_of};
 use trac_streams::Ending;
-
-// An item of a form takes 8 bytes in a record and weighs one, and lists may have as much room again as they need. So a
-// record takes at most so many bytes for each that it weighs.
-const WEIGHED_BYTES: u64 = 12;
 
 /// A session over a program, and how far it is from the start. If the journal is full, or its records weigh too much,
 /// or there is no room for more output, the walker makes room. It forgets the older half of the steps, with what they

@@ -14,14 +14,13 @@ use std::alloc::Allocator;
 use std::io::{Read, Write};
 use trac_rules::limit::{JOURNAL_LIMIT, TAPE_LIMIT};
 use trac_rules::refusal::Refusal;
-use trac_session::Session;
+use trac_session::{Session, WEIGHED_BYTES};
 use trac_streams::writing::{finish, flush, write_whole};
 use trac_streams::{BUDGET_LIMIT, Ending, Options, READ_SIZE};
 
-// How much the records of a run may weigh before it commits. An item of a form takes 8 bytes and weighs one, so
-// these are some 5 MiB of forms. A run never goes back, so it keeps them for nothing; and memory that is soon
-// used again costs less than new.
-const JOURNAL_WEIGHT: u64 = 8 * 1024 * 1024 / 12;
+// How much the records of a run may weigh before it commits: as much as 8 MiB may hold. A run never goes back, so it
+// keeps them for nothing; and memory that is soon used again costs less than new.
+const JOURNAL_WEIGHT: u64 = 8 * 1024 * 1024 / WEIGHED_BYTES;
 
 // After how many steps a run commits at the latest. It never goes back, and a short journal stays
 // in the processor's caches.

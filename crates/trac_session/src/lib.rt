@@ -14,7 +14,7 @@ mod walking;
 
 pub use commands::{Command, Replies, Reply};
 pub use goal::Goal;
-pub use session::Session;
+pub use session::{Session, WEIGHED_BYTES};
 pub use trac_forms::Form;
 pub use trac_rules::doubt::Doubt;
 pub use trac_rules::refusal::Refusal;

@@ -24,6 +24,10 @@ use trac_rules::refusal::Refusal;
 use trac_rules::width::Width;
 use trac_step::{Core, Machine, Mark, Tape};
 
+/// How many bytes a record takes at most for each that it weighs. An item of a form takes 8 bytes in a record and weighs
+/// one, and lists may have as much room again as they need.
+pub const WEIGHED_BYTES: u64 = 12;
+
 /// A processor with its input and a journal of its steps. It is seen as its limit, the width of numbers, a tape, and a
 /// list of states. The first of these is the first one that the last commit kept, or the initial one. The last is the
 /// machine's.

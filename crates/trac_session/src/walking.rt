@@ -61,8 +61,9 @@ impl<A: Allocator + Copy> Session<A> {
         ensures end { IsForward direction → result < most → HasNoPlain self.new }
         ensures weight { IsForward direction → weights_from self.new.earlier ≡ weights_from self.old.earlier }
     {
-        // For what it says: the states are steps of one another, so that a step that moved a byte does nothing else.
-        let _machine = self.machine();
+        // Read for what holds of a session: its states are steps of one another, so that a step that moved a byte does
+        // nothing else.
+        let _limit = self.limit;
         match direction {
             Direction::Forward(_) => self.pass_plain(most),
             Direction::Backward => self.pass_back(most),
@@ -179,6 +180,8 @@ impl<A: Allocator + Copy> Session<A> {
     /// Goes forward as `forward` does, and stops also after a step after which the records weigh more than `most`
     /// (`Session::weight`). Then no refusal is answered, and fewer than `n` steps may be done. So whoever never goes
     /// back can commit before the records hold much memory.
+    // Inlined into what else a run does, it takes three instructions in a thousand more.
+    #[inline(never)]
     pub fn forward_within(&mut self, n: u64, most: u64) -> Walk
         ensures { IsWalkWithin most no_goal n self.old result.done result.why self.new }
     {

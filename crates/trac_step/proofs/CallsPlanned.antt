@@ -25,8 +25,7 @@ use Rattle.trac_text.specs.Frames.{IsInnermost}
 use Rattle.trac_text.specs.Neutral.{MarkedText, Neutral, cut_back, neutral_of}
 use Rattle.trac_prims.specs.Plans.{IsGiven, fits_after}
 use Rattle.trac_journal.specs.Told.{record_with}
-use Rattle.trac_step.specs.declared.calling.Plan.{Plan}
-use Rattle.trac_step.specs.Calling.{arguments_in, state_after}
+use Rattle.trac_step.specs.Calling.{arguments_in, called_with, state_after}
 use Rattle.trac_step.specs.Ready.{undone_after}
 use Rattle.trac_step.proofs.Calls.{call_of, scan_call, step_planned, wanted}
 
@@ -70,39 +69,30 @@ module _ (environment : Environment) (s : State) (f : Frame) (fs : List Frame) (
       ∙ ap (undone_of arguments change) (sym given.state_is.storage_is)
       ∙ ap (λ (ts : List (List ℕ)). undone_of ts change (storage_of s)) (sym given.arguments_are)
 
-  module _ (plan : Plan) (kind_is : plan.called.kind ≡ kind) (value_is : plan.called.value ≡ length made.value.items) (scanned_is : plan.called.scanned ≡ is_scanned kind deed.forced)
-      (printed_is : plan.called.printed ≡ length made.print.items) (read_is : plan.called.read ≡ deed.read) (meta_is : plan.called.meta ≡ option_map (λ _. now.meta) deed.meta)
-      (trace_is : plan.called.trace ≡ now.trace) (forced_too : plan.forced ≡ deed.forced) (meta_too : plan.meta ≡ deed.meta) (trace_too : plan.trace ≡ deed.trace) where
-    -- the step leads to the state after what is planned
-    pub planned_taken : step environment s ≡ Ok (state_after plan made change (scan s))
-    planned_taken =
-        step_planned environment s f fs front is (done_on arguments (storage_of call.state) made change deed) planned
-        ∙ ap (λ (e : Effect). Ok (after_call call e)) same
-        ∙ (λ i. Ok (after_call call (record effect { forced = sym forced_too i; read = sym read_is i; meta = sym meta_too i; trace = sym trace_too i })))
-        ∙ ap (λ (x : Scanned). Ok (state_after plan made change x)) (sym (scan_call s f fs front is))
+  -- the step leads to the state after what is planned
+  pub planned_taken : step environment s ≡ Ok (state_after deed made change (scan s))
+  planned_taken =
+      step_planned environment s f fs front is (done_on arguments (storage_of call.state) made change deed) planned
+      ∙ ap (λ (e : Effect). Ok (after_call call e)) same
+      ∙ ap (λ (x : Scanned). Ok (state_after deed made change x)) (sym (scan_call s f fs front is))
 
-    told : call_recorded call effect ≡ record_with plan.called call.arguments (undone_of call.arguments change (storage_of s))
-    told =
-        let kinds = given.kind_is ∙ sym kind_is in
-        let scans : is_scanned call.kind deed.forced ≡ plan.called.scanned = ap (λ (k : Kind). is_scanned k deed.forced) given.kind_is ∙ sym scanned_is in
-        let metas : option_map (λ _. call.state.meta) deed.meta ≡ plan.called.meta = ap (λ (m : ℕ). option_map (λ _. m) deed.meta) given.state_is.meta_is ∙ sym meta_is in
-        let traces = given.state_is.trace_is ∙ sym trace_is in
-        λ i. record {
-          kind = kinds i;
-          arguments = call.arguments;
-          value = sym value_is i;
-          scanned = scans i;
-          printed = sym printed_is i;
-          read = sym read_is i;
-          meta = metas i;
-          trace = traces i;
-          undone = undone_planned i;
-        }
+  told : call_recorded call effect ≡ record_with (called_with s kind deed made) call.arguments (undone_of call.arguments change (storage_of s))
+  told = λ i. record {
+    kind = given.kind_is i;
+    arguments = call.arguments;
+    value = length made.value.items;
+    scanned = is_scanned (given.kind_is i) deed.forced;
+    printed = length made.print.items;
+    read = deed.read;
+    meta = option_map (λ _. s.meta) deed.meta;
+    trace = s.trace;
+    undone = undone_planned i;
+  }
 
-    -- and its record is what is planned
-    pub planned_recorded : record_of environment s ≡ Some (rules.Called (record_with plan.called (arguments_in (scan s)) (undone_after change s)))
-    planned_recorded =
-        ap (record_in environment s) (scan_call s f fs front is)
-        ∙ ap (λ (o : Result Effect Refusal). option_map rules.Called (option_map (call_recorded call) (result_ok o))) performs
-        ∙ ap (λ (c : CallRecord). let o : Option rules.Record = Some (rules.Called c) in o) told
-        ∙ ap (λ (x : Scanned). let o : Option rules.Record = Some (rules.Called (record_with plan.called (arguments_in x) (undone_of (arguments_in x) change (storage_of s)))) in o) (sym (scan_call s f fs front is))
+  -- and its record is what is planned
+  pub planned_recorded : record_of environment s ≡ Some (rules.Called (record_with (called_with s kind deed made) (arguments_in (scan s)) (undone_after change s)))
+  planned_recorded =
+      ap (record_in environment s) (scan_call s f fs front is)
+      ∙ ap (λ (o : Result Effect Refusal). option_map rules.Called (option_map (call_recorded call) (result_ok o))) performs
+      ∙ ap (λ (c : CallRecord). let o : Option rules.Record = Some (rules.Called c) in o) told
+      ∙ ap (λ (x : Scanned). let o : Option rules.Record = Some (rules.Called (record_with (called_with s kind deed made) (arguments_in x) (undone_of (arguments_in x) change (storage_of s)))) in o) (sym (scan_call s f fs front is))

@@ -15,7 +15,7 @@ use Rattle.trac_change.specs.declared.change.UnnamedChange.{UnnamedChange}
 use Rattle.trac_prims.specs.declared.effect.Made.{Made}
 use Rattle.trac_change.specs.Changed.{changed}
 use Rattle.trac_text.specs.declared.calls.Beginning.{Beginning}
-use Rattle.trac_step.specs.declared.calling.Plan.{Plan}
+use Rattle.trac_prims.specs.declared.effect.Deed.{Deed}
 use Rattle.trac_text.specs.Holding.{BeginsFirst, ShownTexts}
 use Rattle.trac_storage.specs.Changing.{AreAmong}
 use Rattle.trac_step.specs.Calling.{BeginsInnermost, arguments_in, effect_with, state_after, state_ended, with_storage}
@@ -78,33 +78,33 @@ module _ (s : State) (front : front_of s.active ≡ Closing) where
       by_frames [] = refl
       by_frames (f ∷ fs) = refl
 
-  module _ (b : Beginning) (begins : BeginsInnermost s b) {A : Type 0} (plan : Plan) (made : Made A) (change : UnnamedChange A) where
+  module _ (b : Beginning) (begins : BeginsInnermost s b) {A : Type 0} (deed : Deed) (made : Made A) (change : UnnamedChange A) where
     -- forms and blocks are those after it
-    storage_after : storage_of (state_after plan made change (scan s)) ≡ changed (arguments_in (scan s)) change (storage_of s)
+    storage_after : storage_of (state_after deed made change (scan s)) ≡ changed (arguments_in (scan s)) change (storage_of s)
     storage_after =
-        ap (λ (x : Scanned). storage_of (state_after plan made change x)) scanned ∙ by_frames s.frames begins
+        ap (λ (x : Scanned). storage_of (state_after deed made change x)) scanned ∙ by_frames s.frames begins
         ∙ ap (λ (x : Scanned). changed (arguments_in x) change (storage_of s)) (sym scanned)
       where
         by_frames : (fs : List Frame) → BeginsFirst fs s.base b →
-            storage_of (state_after plan made change (closing_in fs (deleted 1 s))) ≡ changed (arguments_in (closing_in fs (deleted 1 s))) change (storage_of s)
+            storage_of (state_after deed made change (closing_in fs (deleted 1 s))) ≡ changed (arguments_in (closing_in fs (deleted 1 s))) change (storage_of s)
         by_frames [] h = absurd h
         by_frames (f ∷ fs) h =
-            let e = effect_with plan made (changed (arguments_in (closing_in (f ∷ fs) (deleted 1 s))) change (storage_of s)) in
+            let e = effect_with deed made (changed (arguments_in (closing_in (f ∷ fs) (deleted 1 s))) change (storage_of s)) in
             storage-placed f.kind e.forced e.value (changed_by e (record (deleted 1 s) { frames = fs }))
 
-    pub storage_proper : IsProper (state_after plan made change (scan s)) → IsProperStorage (changed (arguments_in (scan s)) change (storage_of s))
+    pub storage_proper : IsProper (state_after deed made change (scan s)) → IsProperStorage (changed (arguments_in (scan s)) change (storage_of s))
     storage_proper proper = subst IsProperStorage storage_after proper.storage
 
     -- and the rest of it leads to the state after it
-    pub ended_is : state_ended plan made (scan (with_storage (changed (arguments_in (scan s)) change (storage_of s)) s)) ≡ state_after plan made change (scan s)
+    pub ended_is : state_ended deed made (scan (with_storage (changed (arguments_in (scan s)) change (storage_of s)) s)) ≡ state_after deed made change (scan s)
     ended_is =
-        ap (λ (x : Scanned). state_ended plan made (scan (with_storage (changed (arguments_in x) change (storage_of s)) s))) scanned
-        ∙ ap (state_ended plan made) (scan_front (with_storage (changed (arguments_in (closing_in s.frames (deleted 1 s))) change (storage_of s)) s) Closing front)
+        ap (λ (x : Scanned). state_ended deed made (scan (with_storage (changed (arguments_in x) change (storage_of s)) s))) scanned
+        ∙ ap (state_ended deed made) (scan_front (with_storage (changed (arguments_in (closing_in s.frames (deleted 1 s))) change (storage_of s)) s) Closing front)
         ∙ by_frames s.frames begins
-        ∙ ap (state_after plan made change) (sym scanned)
+        ∙ ap (state_after deed made change) (sym scanned)
       where
         by_frames : (fs : List Frame) → BeginsFirst fs s.base b →
-            state_ended plan made (closing_in fs (deleted 1 (with_storage (changed (arguments_in (closing_in fs (deleted 1 s))) change (storage_of s)) s)))
-            ≡ state_after plan made change (closing_in fs (deleted 1 s))
+            state_ended deed made (closing_in fs (deleted 1 (with_storage (changed (arguments_in (closing_in fs (deleted 1 s))) change (storage_of s)) s)))
+            ≡ state_after deed made change (closing_in fs (deleted 1 s))
         by_frames [] h = absurd h
         by_frames (f ∷ fs) h = refl

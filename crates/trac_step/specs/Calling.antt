@@ -1,17 +1,19 @@
 -- The parts of a step: where scanning moves on, and what a call whose effect is known leads to.
-use Rattle.std.specs.Prelude.{ℕ, ◌+◌, ◌≤◌, List, [], length, Option, Some, None}
+use Rattle.std.specs.Prelude.{ℕ, ◌+◌, ◌≤◌, List, [], length, Option, Some, None, option_map}
 use Rattle.trac_rules.specs.declared.kind.Kind.{Kind}
 use Rattle.trac_rules.specs.State.{State, Storage, storage_of}
 use Rattle.trac_rules.specs.Effect.{Effect}
 use Rattle.trac_rules.specs.Limits.{text_bytes}
 use Rattle.trac_rules.specs.Performing.{after_call}
+use Rattle.trac_rules.specs.Records.{is_scanned}
 use Rattle.trac_rules.specs.Scanning.{Scanned, Moves, Calls, begun, comma_in}
 use Rattle.trac_change.specs.declared.change.UnnamedChange.{UnnamedChange}
 use Rattle.trac_prims.specs.declared.effect.Made.{Made}
 use Rattle.trac_change.specs.Changed.{changed}
 use Rattle.trac_text.specs.Holding.{BeginsFirst}
 use Rattle.trac_text.specs.declared.calls.Beginning.{Beginning}
-use Rattle.trac_step.specs.declared.calling.Plan.{Plan}
+use Rattle.trac_prims.specs.declared.effect.Deed.{Deed}
+use Rattle.trac_journal.specs.declared.called.Called.{Called}
 use Rattle.trac_step.specs.Layout.{Shown}
 
 -- ---- scanning moves on
@@ -47,27 +49,40 @@ abbrev pub with_change : {A : Type 0} → Scanned → UnnamedChange A → State 
 with_change scanned change s = with_storage (changed (arguments_in scanned) change (storage_of s)) s
 
 -- what a planned call does if these texts are made for it, and forms and blocks are these after it
-abbrev pub effect_with : {A : Type 0} → Plan → Made A → Storage → Effect
-effect_with plan made storage = record {
+abbrev pub effect_with : {A : Type 0} → Deed → Made A → Storage → Effect
+effect_with deed made storage = record {
   value = made.value.items;
-  forced = plan.forced;
+  forced = deed.forced;
   printed = made.print.items;
-  read = plan.called.read;
-  meta = plan.meta;
-  trace = plan.trace;
+  read = deed.read;
+  meta = deed.meta;
+  trace = deed.trace;
   storage = storage;
 }
 
 -- the state after the call that scanning asks for, if this is planned
-abbrev pub state_after : {A : Type 0} → Plan → Made A → UnnamedChange A → Scanned → State
-state_after plan made change (Moves t) = t
-state_after plan made change (Calls call) =
-    after_call call (effect_with plan made (changed call.arguments change (storage_of call.state)))
+abbrev pub state_after : {A : Type 0} → Deed → Made A → UnnamedChange A → Scanned → State
+state_after deed made change (Moves t) = t
+state_after deed made change (Calls call) =
+    after_call call (effect_with deed made (changed call.arguments change (storage_of call.state)))
 
 -- the same if forms and blocks are changed already
-abbrev pub state_ended : {A : Type 0} → Plan → Made A → Scanned → State
-state_ended plan made (Moves t) = t
-state_ended plan made (Calls call) = after_call call (effect_with plan made (storage_of call.state))
+abbrev pub state_ended : {A : Type 0} → Deed → Made A → Scanned → State
+state_ended deed made (Moves t) = t
+state_ended deed made (Calls call) = after_call call (effect_with deed made (storage_of call.state))
+
+-- what the record of a call of this kind, from a state, says beside its arguments, and what was destroyed of forms and
+-- blocks, if this is planned
+abbrev pub called_with : {A : Type 0} → State → Kind → Deed → Made A → Called
+called_with s kind deed made = record {
+  value = length made.value.items;
+  printed = length made.print.items;
+  read = deed.read;
+  kind = kind;
+  scanned = is_scanned kind deed.forced;
+  meta = option_map (λ _. s.meta) deed.meta;
+  trace = s.trace;
+}
 
 -- the innermost function of a state begins here
 abbrev pub BeginsInnermost : State → Beginning → Type 0

@@ -17,7 +17,6 @@ use Rattle.trac_rules.specs.State.{Environment, State}
 use Rattle.trac_rules.specs.Stepping.{step}
 use Rattle.trac_rules.specs.Undone.{Undone}
 use Rattle.trac_rules.specs.Weights.{loss, weight}
-use Rattle.trac_step.specs.Calling.{arguments_in}
 use Rattle.trac_step.specs.Layout.{Shown}
 use Rattle.trac_step.specs.Room.{HasRoom, IsNoLess, LacksRoomAhead}
 
@@ -26,14 +25,6 @@ use Rattle.trac_step.specs.Room.{HasRoom, IsNoLess, LacksRoomAhead}
 pub record FitsJournal (called : Called) (arguments : List (List ℕ)) (undone : Undone) : Type 0 where
   pub small : AreSmall called (length (concat arguments)) (length arguments)
   pub light : IsLight (CallOf (record_with called arguments undone))
-
--- what keeps these records, so many at most, can keep that of the call at which a state stands too, if this is said of
--- the call, and this is what it destroyed of forms and blocks. It has room for calls of such arguments
-pub record HasRoomForCall (s : State) (called : Called) (undone : Undone) (records : List Record) (most : ℕ)
-    (room : List (List ℕ) → Type 0) : Type 0 where
-  pub not_full : length records < most
-  pub place : room (arguments_in (scan s))
-  pub fits : FitsJournal called (arguments_in (scan s)) undone
 
 -- a machine comes to this state, and this record is added; or memory is refused, and nothing but rooms changes
 pub record IsKeptAs {R : Type 0} (kept : Record) (state : State) (result : Result R Refusal) (before after : Shown)

@@ -1,19 +1,15 @@
 //! The steps that perform a function.
-ghost use Rattle.std.specs.Prelude.{◌≡◌, ◌<◌, ◌≤◌, ◌+◌, ◌++◌, ◌∷◌, length, option_map, IfErr};
+ghost use Rattle.std.specs.Prelude.{◌≡◌, ◌<◌, ◌≤◌, ◌+◌, ◌++◌, length, option_map, IfErr};
 ghost use Rattle.std.specs.Prelude.{IfOk, IsOkUnless, OnErr, OnOk};
 ghost use Rattle.trac_rules.specs.Outcomes.{MayRefuse};
-ghost use Rattle.trac_rules.specs.Records as rules;
 ghost use Rattle.trac_rules.specs.Records.{is_scanned};
 ghost use Rattle.trac_rules.specs.Scanning.{front_of, scan};
 ghost use Rattle.trac_rules.specs.Stepping.{step};
 ghost use Rattle.trac_rules.specs.Proper.{IsProper};
 ghost use Rattle.trac_change.specs.declared.change.UnnamedChange.TheVariants.{Keep};
 ghost use Rattle.trac_prims.specs.Tape.{environment_of};
-ghost use Rattle.trac_journal.specs.Told.{record_with};
-ghost use Rattle.trac_change.specs.Undone.{undone_in};
-ghost use Rattle.trac_step.specs.Calling.{BeginsInnermost, HasRoomFor, arguments_in, state_after, state_ended};
-ghost use Rattle.trac_step.specs.Calling.{with_change};
-ghost use Rattle.trac_step.specs.Kept.{CanStep, FitsJournal, HasRoomForCall, IsKeptAs, IsStepped};
+ghost use Rattle.trac_step.specs.Calling.{HasRoomFor, arguments_in, called_with, state_after, state_ended, with_change};
+ghost use Rattle.trac_step.specs.Kept.{CanStep, FitsJournal, IsKeptAs, IsStepped};
 ghost use Rattle.trac_step.specs.Ready.{CanChange, CanEnd, IsPlanned, IsReady, recorded_after, undone_after};
 ghost use Rattle.trac_step.specs.Room.{IsNoLess};
 
@@ -26,32 +22,22 @@ use trac_rules::scan::Front;
 use trac_storage::change_forms;
 use trac_text::{Beginning, Kind, Mark, Refusal};
 
-// What is known of a call that may be performed, but for the texts that it makes and what becomes of forms and blocks.
-#[derive(Clone, Copy)]
-pub(crate) struct Plan {
-    // where its function begins
-    pub(crate) beginning: Beginning,
-    // what its record says
-    pub(crate) called: Called,
-    // how many bytes of the tape are read then
-    pub(crate) position: usize,
-    // whether its value is scanned, though the function may be neutral
-    pub(crate) forced: bool,
-    // the meta character, if it is set
-    pub(crate) meta: Option<u8>,
-    // the trace, if it is set
-    pub(crate) trace: Option<bool>,
-}
-
-// What the record of a call says beside its arguments, and what was destroyed of forms and blocks.
-fn called_by<A: Allocator + Copy>(kind: Kind, now: Now, made: &Made<A>, deed: Deed) -> Called
+// What the record of a call says beside its arguments, and what was destroyed of forms and blocks, if these are meta
+// character and trace before it.
+fn called_by<A: Allocator + Copy>(
+    kind: Kind,
+    meta: u8,
+    trace: bool,
+    deed: Deed,
+    made: &Made<A>,
+) -> Called
     ensures kind { result.kind ≡ kind }
     ensures value { result.value ≡ length made.now.value.items }
     ensures scanned { result.scanned ≡ is_scanned kind deed.forced }
     ensures printed { result.printed ≡ length made.now.print.items }
     ensures read { result.read ≡ deed.read }
-    ensures meta { result.meta ≡ option_map (λ _. now.meta) deed.meta }
-    ensures trace { result.trace ≡ now.trace }
+    ensures meta { result.meta ≡ option_map (λ _. meta) deed.meta }
+    ensures trace { result.trace ≡ trace }
 {
     Called {
         kind,
@@ -59,8 +45,8 @@ fn called_by<A: Allocator + Copy>(kind: Kind, now: Now, made: &Made<A>, deed: De
         scanned: deed.forced | (kind == Kind::Active),
         printed: made.print.len(),
         read: deed.read,
-        meta: deed.meta.and(Some(now.meta)),
-        trace: now.trace,
+        meta: deed.meta.and(Some(meta)),
+        trace,
     }
 }
 
@@ -77,20 +63,20 @@ fn put_printed<A: Allocator>(output: &mut SlidingBuf<u8, A>, printed: &[u8])
 
 impl<E: TwoEnds<u8, A>, M: TwoEnds<Mark, A>, A: Allocator + Copy> Core<E, M, A> {
     // Plans the call of the innermost function: its texts are made, and what becomes of forms and blocks is put in
-    // place of a change that keeps them. Or why it is refused.
+    // place of a change that keeps them. Returns where the function begins, and what else is done. Or why it is refused.
     fn planned(
         &self,
         tape: Tape<'_>,
         made: &mut Made<A>,
         change: &mut UnnamedChange<A>,
-    ) -> Result<Plan, Refusal>
+    ) -> Result<(Beginning, Deed), Refusal>
         requires keeps { change.old ≡ Keep }
         requires proper { IsProper self.now.state }
         requires front { front_of self.now.state.active ≡ Front.Closing }
         requires inside { 0 < length self.now.state.frames }
         requires within { self.now.state.position ≤ length tape.bytes.now }
-        ensures planned { IfOk result
-            (λ plan. IsPlanned (environment_of self.now.width tape.entry) self.now.state made.new plan change.new) }
+        ensures planned { IfOk result (λ plan.
+            IsPlanned (environment_of self.now.width tape.entry) self.now.state made.new plan.0 plan.1 change.new) }
         ensures refused { IfErr result (MayRefuse (step (environment_of self.now.width tape.entry) self.now.state)) }
     {
         let Some(function) = self.texts.neutral().innermost() else {
@@ -114,18 +100,12 @@ impl<E: TwoEnds<u8, A>, M: TwoEnds<Mark, A>, A: Allocator + Copy> Core<E, M, A> 
             made,
             change,
         )?;
-        Ok(Plan {
-            beginning: Beginning {
-                number: function.number,
-                place: function.place,
-                kind: function.kind,
-            },
-            called: called_by(function.kind, now, made, deed),
-            forced: deed.forced,
-            position: now.position + deed.read,
-            meta: deed.meta,
-            trace: deed.trace,
-        })
+        let beginning = Beginning {
+            number: function.number,
+            place: function.place,
+            kind: function.kind,
+        };
+        Ok((beginning, deed))
     }
 
     // Makes room for the texts that the call adds, so that ending it needs no memory. The state stays.
@@ -140,131 +120,57 @@ impl<E: TwoEnds<u8, A>, M: TwoEnds<Mark, A>, A: Allocator + Copy> Core<E, M, A> 
         Ok(())
     }
 
-    // Changes forms and blocks as the call planned it, while its arguments still stand in the neutral text.
-    // Returns what was destroyed. It is refused memory alone, and then the state stays. What stands in
-    // `change` after it is not claimed.
-    fn change_storage(
+    // Changes forms and blocks as the call planned it, and keeps its record, while its arguments still stand in the
+    // neutral text: they are cut once for all this. It is refused memory alone, and then the state and the records
+    // stay. Most calls change nothing of forms and blocks, and for these the compiler makes a way of its own.
+    fn change_into<K: Keeper<A>>(
         &mut self,
+        keeper: &mut K,
         beginning: Beginning,
+        called: Called,
         change: &mut UnnamedChange<A>,
-    ) -> Result<Undone<A>, Refusal>
-        requires { CanChange self.old.state beginning change.old }
-        ensures changed { OnOk result
-            (self.new.state ≡ with_change (scan self.old.state) change.old self.old.state) }
-        ensures undone { IfOk result (λ undone. undone_in undone ≡ undone_after change.old self.old.state) }
-        ensures unchanged { OnErr result (self.new.state ≡ self.old.state) }
-        ensures room { IsNoLess self.old self.new }
-        ensures err { IsOkUnless result Refusal.Memory }
+    ) -> Result<(), Refusal>
+        requires proper { IsProper self.old.state }
+        requires can { CanChange self.old.state beginning change.old }
+        requires not_full { length (K.records keeper.old) < K.most }
+        requires fits { FitsJournal called (arguments_in (scan self.old.state))
+            (undone_after change.old self.old.state) }
+        ensures { IsKeptAs (recorded_after called change.old self.old.state)
+            (with_change (scan self.old.state) change.old self.old.state) result self.old self.new
+            (K.records keeper.old) (K.records keeper.new) }
     {
-        let alloc = *self.output.allocator();
         let arguments = self.texts.arguments_at(beginning);
-        change_forms(&mut self.store, alloc, &arguments, change)
+        keeper.reserve_call(&arguments)?;
+        if let UnnamedChange::Keep = change {
+            keeper.push_call(called, &arguments, &mut Undone::Nothing);
+            return Ok(());
+        }
+        let alloc = *self.output.allocator();
+        let mut undone = change_forms(&mut self.store, alloc, &arguments, change)?;
+        keeper.push_call(called, &arguments, &mut undone);
+        Ok(())
     }
 
     // Ends the call whose change of forms and blocks is made: its function is gone, what it prints is printed, and its
     // value is where it goes. It takes no memory.
-    fn end_call(&mut self, plan: &Plan, made: &Made<A>)
-        requires { CanEnd self.old made.now plan.now }
-        ensures state { self.new.state ≡ state_ended plan.now made.now (scan self.old.state) }
+    fn end_call(&mut self, beginning: Beginning, deed: Deed, made: &Made<A>)
+        requires { CanEnd self.old made.now beginning deed }
+        ensures state { self.new.state ≡ state_ended deed made.now (scan self.old.state) }
         ensures room { IsNoLess self.old self.new }
     {
-        self.texts.end_function(plan.beginning);
+        self.texts.end_function(beginning);
         self.texts
-            .put_value(plan.beginning.kind, plan.forced, made.value.as_slice());
+            .put_value(beginning.kind, deed.forced, made.value.as_slice());
         put_printed(&mut self.output, made.print.as_slice());
-        let meta = plan.meta.unwrap_or(self.meta);
-        let trace = plan.trace.unwrap_or(self.trace);
+        let meta = deed.meta.unwrap_or(self.meta);
+        let trace = deed.trace.unwrap_or(self.trace);
         self.meta = meta;
         self.trace = trace;
-        self.position = plan.position;
+        self.position += deed.read;
     }
 
-    // Keeps the record of the call that the next step performs, for which there is room. This is what it destroyed of
-    // forms and blocks.
-    #[inline(always)]
-    fn keep_call<K: Keeper<A>>(&self, keeper: &mut K, plan: &Plan, mut undone: Undone<A>)
-        requires front { front_of self.now.state.active ≡ Front.Closing }
-        requires begins { BeginsInnermost self.now.state plan.now.beginning }
-        requires room { HasRoomForCall self.now.state plan.now.called (undone_in undone) (K.records keeper.old) K.most
-            (K.has_room keeper.old) }
-        ensures { K.records keeper.new
-            ≡ rules.Called (record_with plan.now.called (arguments_in (scan self.now.state)) (undone_in undone))
-            ∷ K.records keeper.old }
-    {
-        let arguments = self.texts.arguments_at(plan.beginning);
-        keeper.push_call(plan.called, &arguments, &mut undone);
-    }
-
-    // Changes forms and blocks as the call planned it, and keeps its record, for which there is room. It is refused
-    // memory alone, and then the state and the records stay. Most calls change nothing of forms and blocks,
-    // and for these the compiler makes a way of its own.
-    fn change_into<K: Keeper<A>>(
-        &mut self,
-        keeper: &mut K,
-        plan: &Plan,
-        change: &mut UnnamedChange<A>,
-    ) -> Result<(), Refusal>
-        requires can { CanChange self.old.state plan.now.beginning change.old }
-        requires room { HasRoomForCall self.old.state plan.now.called (undone_after change.old self.old.state)
-            (K.records keeper.old) K.most (K.has_room keeper.old) }
-        ensures { IsKeptAs (recorded_after plan.now change.old self.old.state)
-            (with_change (scan self.old.state) change.old self.old.state) result self.old self.new
-            (K.records keeper.old) (K.records keeper.new) }
-    {
-        if let UnnamedChange::Keep = change {
-            self.keep_call(keeper, plan, Undone::Nothing);
-            return Ok(());
-        }
-        self.change_storage_into(keeper, *plan, change)
-    }
-
-    // The same, if something may change. It is lent no plan, so that this can stay in registers if nothing changes.
-    #[inline(never)]
-    fn change_storage_into<K: Keeper<A>>(
-        &mut self,
-        keeper: &mut K,
-        plan: Plan,
-        change: &mut UnnamedChange<A>,
-    ) -> Result<(), Refusal>
-        requires can { CanChange self.old.state plan.beginning change.old }
-        requires room { HasRoomForCall self.old.state plan.called (undone_after change.old self.old.state)
-            (K.records keeper.old) K.most (K.has_room keeper.old) }
-        ensures { IsKeptAs (recorded_after plan change.old self.old.state)
-            (with_change (scan self.old.state) change.old self.old.state) result self.old self.new
-            (K.records keeper.old) (K.records keeper.new) }
-    {
-        let undone = self.change_storage(plan.beginning, change)?;
-        self.keep_call(keeper, &plan, undone);
-        Ok(())
-    }
-
-    // Performs the call that is planned, and keeps its record. It is refused memory alone, and then
-    // the state and the records stay.
-    fn perform<K: Keeper<A>>(
-        &mut self,
-        keeper: &mut K,
-        plan: &Plan,
-        made: &Made<A>,
-        change: &mut UnnamedChange<A>,
-    ) -> Result<(), Refusal>
-        requires proper { IsProper self.old.state }
-        requires ready { IsReady self.old.state made.now plan.now change.old }
-        requires not_full { length (K.records keeper.old) < K.most }
-        requires fits { FitsJournal plan.now.called (arguments_in (scan self.old.state))
-            (undone_after change.old self.old.state) }
-        ensures { IsKeptAs (recorded_after plan.now change.old self.old.state)
-            (state_after plan.now made.now change.old (scan self.old.state)) result self.old self.new
-            (K.records keeper.old) (K.records keeper.new) }
-    {
-        let arguments = self.texts.arguments_at(plan.beginning);
-        keeper.reserve_call(&arguments)?;
-        self.make_room(made)?;
-        self.change_into(keeper, plan, change)?;
-        self.end_call(plan, made);
-        Ok(())
-    }
-
-    // A `)` in a function, which is performed. The texts of the call are made in these buffers. The loop of a walk
+    // A `)` in a function, which is performed: it is judged, then its memory is taken, then forms and blocks change and
+    // its record is kept, and then it is ended. The texts of the call are made in these buffers. The loop of a walk
     // calls this, and has the most frequent rules of scanning in itself.
     #[inline(never)]
     pub(crate) fn close<K: Keeper<A>>(
@@ -280,7 +186,33 @@ impl<E: TwoEnds<u8, A>, M: TwoEnds<Mark, A>, A: Allocator + Copy> Core<E, M, A> 
             (K.records keeper.new) (K.places keeper.old) }
     {
         let mut change = UnnamedChange::Keep;
-        let plan = self.planned(tape, made, &mut change)?;
-        self.perform(keeper, &plan, made, &mut change)
+        let (beginning, deed) = self.planned(tape, made, &mut change)?;
+        self.perform(keeper, beginning, deed, made, &mut change)
+    }
+
+    // Performs the call that is planned, and keeps its record. It is refused memory alone, and then
+    // the state and the records stay.
+    fn perform<K: Keeper<A>>(
+        &mut self,
+        keeper: &mut K,
+        beginning: Beginning,
+        deed: Deed,
+        made: &Made<A>,
+        change: &mut UnnamedChange<A>,
+    ) -> Result<(), Refusal>
+        requires proper { IsProper self.old.state }
+        requires ready { IsReady self.old.state made.now beginning deed change.old }
+        requires not_full { length (K.records keeper.old) < K.most }
+        requires fits { FitsJournal (called_with self.old.state beginning.kind deed made.now)
+            (arguments_in (scan self.old.state)) (undone_after change.old self.old.state) }
+        ensures { IsKeptAs (recorded_after (called_with self.old.state beginning.kind deed made.now) change.old
+            self.old.state) (state_after deed made.now change.old (scan self.old.state)) result self.old self.new
+            (K.records keeper.old) (K.records keeper.new) }
+    {
+        let called = called_by(beginning.kind, self.meta, self.trace, deed, made);
+        self.make_room(made)?;
+        self.change_into(keeper, beginning, called, change)?;
+        self.end_call(beginning, deed, made);
+        Ok(())
     }
 }

@@ -9,4 +9,4 @@ old_where_set old None = refl
 old_where_set old (Some b) = refl
 
 pub returns-clause-meta : goal.returns-clause-meta
-returns-clause-meta g c = c.and.ensures ∙ old_where_set c.args.now.meta c.args.deed.meta
+returns-clause-meta g c = c.and.ensures ∙ old_where_set c.args.meta c.args.deed.meta

@@ -5,6 +5,7 @@ use Rattle.trac_rules.proofs.TakenAgain.{repeated_trail}
 use Rattle.trac_session.specs.declared.walking.Direction.{Direction}
 use Rattle.trac_session.specs.Directions.{command_towards}
 use Rattle.trac_session.proofs.Quiet.{quiet_back, quiet_forward}
+use Rattle.trac_session.proofs.Trailed.{trail_shown}
 use Rattle.trac_session.proofs.session.Session.pass.Goals as goal
 
 pub returns-in-Forward-clause-quiet : goal.returns-in-Forward-clause-quiet
@@ -13,10 +14,10 @@ returns-in-Forward-clause-quiet g c = λ k p some less walked.
     let new = c.pass_plain.new.self in
     let way : repeated Step k old ≡ Some p = ap (λ (d : Direction). repeated (command_towards d) k old) (sym c.in-Forward.is) ∙ walked in
     quiet_forward c.pass_plain.result k old new p c.pass_plain.ensures.moved
-    (repeated_trail Step c.pass_plain.result old new c.machine-machine.ensures.trail c.pass_plain.ensures.passed) less way
+    (repeated_trail Step c.pass_plain.result old new (trail_shown c.self.inside.journal.records c.args.self.now c.self.invariant c.self.view_is) c.pass_plain.ensures.passed) less way
 
 pub returns-in-Backward-clause-quiet : goal.returns-in-Backward-clause-quiet
 returns-in-Backward-clause-quiet g c = λ k p some less walked.
     let old = c.args.self.now in
     let way : repeated Back k old ≡ Some p = ap (λ (d : Direction). repeated (command_towards d) k old) (sym c.in-Backward.is) ∙ walked in
-    quiet_back c.pass_back.result k old c.pass_back.new.self p c.pass_back.ensures.moved c.machine-machine.ensures.trail some (omega (arith, less)) way
+    quiet_back c.pass_back.result k old c.pass_back.new.self p c.pass_back.ensures.moved (trail_shown c.self.inside.journal.records c.args.self.now c.self.invariant c.self.view_is) some (omega (arith, less)) way

@@ -1,11 +1,10 @@
-use Rattle.std.proofs.Common.{List, ℕ, ◌+◌, ◌-◌, length, refl, sym, ap, ◌∙◌, arith}
+use Rattle.std.proofs.Common.{List, ℕ, ◌+◌, ◌-◌, length, refl, sym, ap, arith}
 use Rattle.std.proofs.lemmas.Result.{err_from_is_err_and}
 use Rattle.trac_rules.specs.Scanning.{scan}
 use Rattle.trac_rules.specs.State.{Frame, State}
 use Rattle.trac_rules.proofs.ProperStates.{step_proper}
 use Rattle.trac_prims.specs.Tape.{environment_of}
 use Rattle.trac_text.specs.Neutral.{Neutral}
-use Rattle.trac_step.specs.declared.calling.Plan.{Plan}
 use Rattle.trac_step.specs.Calling.{state_after}
 use Rattle.trac_prims.specs.declared.effect.Now.{Now}
 use Rattle.trac_step.specs.Layout.{Shown}
@@ -77,26 +76,15 @@ returns-clause-planned g c =
     let deed = c.in_ok-deed.deed in
     let planned = c.in_ok-deed.ensures.outcome (call_of s inner.frame rest) given in
     let of_call = c.in_ok-deed.ensures.change in
-    let told = c.called_by.ensures in
-    let plan : Plan = record {
-      beginning = record { number = f.number; place = f.place; kind = f.kind };
-      called = c.called_by.result;
-      forced = deed.forced;
-      position = c.self.inside.position + deed.read;
-      meta = deed.meta;
-      trace = deed.trace;
-    } in
-    let taken = planned_taken e s inner.frame rest c.requires.front frames f.kind f.arguments c.self.inside.store now given made change deed planned of_call plan
-    told.kind told.value told.scanned told.printed told.read told.meta told.trace refl refl refl in
+    let taken = planned_taken e s inner.frame rest c.requires.front frames f.kind f.arguments c.self.inside.store now given made change deed planned of_call in
     rw width_is (record {
       ready = record {
         front = c.requires.front;
         begins = begins_innermost s c.neutral.result f.number f.place f.kind f.arguments read inner;
-        position = ap (λ (t : State). t.position + deed.read) state_is ∙ ap (λ (n : ℕ). s.position + n) (sym told.read);
+        position = omega (arith, c.in_ok-deed.ensures.within, ap (λ (t : State). t.position) state_is);
         pieces = pieces_given e s inner.frame rest c.requires.front frames f.kind f.arguments c.self.inside.store now given made change deed planned of_call;
-        proper = step_proper e s (state_after plan made change (scan s)) proper taken;
+        proper = step_proper e s (state_after deed made change (scan s)) proper taken;
       };
       taken = taken;
-      recorded = planned_recorded e s inner.frame rest c.requires.front frames f.kind f.arguments c.self.inside.store now given made change deed planned of_call plan
-          told.kind told.value told.scanned told.printed told.read told.meta told.trace refl refl refl;
+      recorded = planned_recorded e s inner.frame rest c.requires.front frames f.kind f.arguments c.self.inside.store now given made change deed planned of_call;
     })
