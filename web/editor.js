@@ -47,12 +47,15 @@ export class Editor {
     this.lit = new Map();
     /** @type {Work} the work on what stands there */
     this.work = { isTyped: false };
-    // the text as it was opened
-    this.opened = "";
+    // whether something was typed since a program was opened
+    this.isTouched = false;
+    /** @type {() => void} what is done before another program stands there */
+    this.leaving = () => {};
     /** @type {ReturnType<typeof setTimeout> | undefined} */
     this.later = undefined;
     this.undoing = new Undoing(this);
     this.box.addEventListener("input", () => {
+      this.isTouched = true;
       this.typed();
       changed();
       this.undoing.show();
@@ -89,15 +92,16 @@ export class Editor {
     event.preventDefault();
     const { value, selectionStart, selectionEnd } = this.box;
     const whole = value.slice(0, selectionStart) + text.replaceAll("\r\n", "\n") + value.slice(selectionEnd);
-    this.open(this.name, this.encoded(whole));
+    this.open({ name: this.name, bytes: this.encoded(whole) });
     return true;
   }
 
   // Opens a program in place of what is there, which can be brought back.
-  /** @param {string} name @param {Uint8Array} bytes */
-  open(name, bytes) {
+  /** @param {Held} held */
+  open(held) {
+    this.leaving();
     this.undoing.leave();
-    this.put({ name, bytes });
+    this.put(held);
   }
 
   // Shows a program. What is long, is not UTF-8, has wide lines or line ends of two kinds, is for reading only.
@@ -117,22 +121,23 @@ export class Editor {
     byId("mend").hidden = !areEnds;
     if (isSame) this.free();
     else this.fix(fixedOf(bytes, wide ? WIDE : areEnds ? TWO_ENDS : NO_TEXT));
-    this.opened = this.box.value;
+    this.isTouched = false;
     this.repaint();
     this.frame.scrollTop = 0;
     this.undoing.show();
   }
 
-  // Whether nothing was typed since a program was opened.
-  get isAsOpened() {
-    return this.box.value === this.opened;
+  // What stands there was typed before the page was there to hear of it.
+  begun() {
+    this.isTouched = true;
+    this.typed();
   }
 
   // Has one kind of line ends in place of two, so that the program can be edited.
   mend() {
     const text = textOf(this.bytes()) ?? "";
-    this.open(this.name, new TextEncoder().encode(text.replaceAll("\r\n", "\n")));
-    this.work.isTyped = true;
+    const bytes = new TextEncoder().encode(text.replaceAll("\r\n", "\n"));
+    this.open({ name: this.name, bytes, work: { isTyped: true } });
     this.undoing.restored(this.name);
     this.box.focus();
   }
@@ -248,9 +253,7 @@ export class Editor {
   // Shows the part that has a byte in its middle, with what is lit in it.
   /** @param {Fixed} fixed @param {number} number */
   showAround({ bytes, why }, number) {
-    const isOpened = this.isAsOpened;
     this.fix(fixedOf(bytes, why, number));
-    if (isOpened) this.opened = this.box.value;
     this.repaint();
     for (const [name, stretches] of this.lit) this.light(name, stretches, false);
   }

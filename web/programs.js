@@ -11,10 +11,10 @@ const MOST_BYTES = 33554432;
 let opening = Promise.resolve();
 
 // Takes what is to be opened in its turn: so what was asked for last stands in the editor, however long each takes, and
-// what was there can be brought back.
-/** @template Kind @param {() => Promise<Kind>} does @returns {Promise<Kind>} */
-export function inTurn(does) {
-  const done = opening.then(does);
+// what was there can be brought back. Where that is kept nowhere, it is asked first.
+/** @param {Page} page @param {() => Promise<unknown>} does */
+export function inTurn(page, does) {
+  const done = opening.then(async () => await page.draft.mayGo() && does());
   opening = done.catch(() => {});
   return done;
 }
@@ -27,9 +27,9 @@ async function openFile(page, file) {
     refuseFile(page, `${legible(file.name)} has ${grouped(file.size)} bytes: ${most}. Nothing is opened.`);
     return;
   }
-  await inTurn(async () => {
+  await inTurn(page, async () => {
     try {
-      page.open(file.name, new Uint8Array(await file.arrayBuffer()));
+      page.open({ name: file.name, bytes: new Uint8Array(await file.arrayBuffer()) });
     } catch {
       refuseFile(page, `${legible(file.name)} cannot be read. Nothing is opened.`);
     }
@@ -106,7 +106,8 @@ export async function openGiven(page, { name, program, input, step, budget }) {
   const [bytes, read] = await Promise.all([program, input].map(unpackedText));
   const inputs = read.length ? [{ step: 0, bytes: read }] : [];
   document.title = `${name}: TRAC`;
-  page.open(name, bytes, false);
+  if (!await page.draft.mayGo()) return;
+  page.open({ name, bytes }, true);
   const wanted = { program: bytes, inputs, isClosed: false, step, budget: budget ?? budgetTo(step) };
   await performTo(page, wanted, "the page");
 }

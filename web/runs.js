@@ -40,10 +40,15 @@ export class Runs {
     if (page.run?.stand === "waits" && [document.body, held, byId("output")].includes(focused())) byId("input").focus();
   }
 
+  // What is run as it was asked for last: that may go on still. (How far the run before has come is no matter then.)
+  get latest() {
+    return this.began ? { ...this.began, from: undefined } : this.page.shownRun.wanted({});
+  }
+
   // Runs the program that was run with other input, or further.
   /** @param {Partial<Wanted>} changes */
   performAgain(changes) {
-    return this.perform(this.page.shownRun.wanted(changes));
+    return this.perform({ ...this.latest, ...changes });
   }
 
   /**
@@ -221,12 +226,12 @@ export class Runs {
     if (focused() === byId("output")) byId("ending").querySelector("button")?.focus();
   }
 
-  // The lines of input that stay where other input is given at the cursor: at the end all, else those that the program
-  // has begun to read. It is asked first if others came; nothing if these are to stay.
+  // The lines of input that stay where other input is given at the cursor: at the end all, or while they are run still,
+  // else those that the program has begun to read. It is asked first if others came; nothing if these are to stay.
   /** @param {string} wish */
   async linesBefore(wish) {
     const { shownRun: run, cursor: { step, read } } = this.page;
-    if (step === run.end) return run.inputs;
+    if (this.began || step === run.end) return this.latest.inputs;
     const stay = linesBegun(run.inputs, read - run.program.length);
     const later = laterSaid(countOfLines(run.inputs) - countOfLines(stay), run.isClosed, step);
     const isWanted = !later || await ask(`${later} ${wish}`);
@@ -234,16 +239,17 @@ export class Runs {
   }
 
   // Takes a line of input at the step where the cursor is. It gets the ' that ends it, where it has none and is to be
-  // read up to that.
+  // read up to that. Returns whether it was taken.
   /** @param {string} line */
   async feed(line) {
     const { shownRun: run, cursor: { step } } = this.page;
     const before = await this.linesBefore("Take this line in place of that?");
-    if (!before) return;
+    if (!before) return false;
     const isEnded = needsEnd(run, line);
     const bytes = new TextEncoder().encode(`${line}${isEnded ? "'" : ""}\n`);
     await this.performAgain({ inputs: [...before, { step, bytes }], isClosed: false });
     if (isEnded) this.page.view.note("' was put at its end, since it is read up to that");
+    return true;
   }
 
   // Lets more of the program be typed, after its end.
@@ -260,7 +266,7 @@ export class Runs {
   feedEnd(end) {
     const { shownRun: run } = this.page;
     const bytes = new TextEncoder().encode(`${end}\n`);
-    return this.performAgain({ inputs: [...run.inputs, { step: run.end, bytes }], isClosed: false });
+    return this.performAgain({ inputs: [...this.latest.inputs, { step: run.end, bytes }], isClosed: false });
   }
 
   async endInput() {

@@ -1,0 +1,94 @@
+// The entries of this browser: each program that someone types on has its own, under its own id. A page writes over an
+// entry only where that is still what this page has read or written there. Otherwise it begins another one. So two
+// pages lose nothing to each other.
+import { keepText, kept, keptKeys } from "./stored.js";
+
+const KEY = "trac.work.";
+// If there are more entries, the oldest go whose programs are in files.
+export const MOST_WORKS = 50;
+// Where versions before this one kept a program, and those put aside.
+const OLDER = "trac.draft", OLDER_ASIDE = "trac.aside";
+
+/**
+ * A program as it is kept, when it was typed last, and whether it was saved to a file since. Where that is kept: the id
+ * of the entry, and the whole entry as this page knows it.
+ * @typedef {{ name: string, text: string, time: number, isSaved: boolean }} Entry
+ * @typedef {{ id: string, raw: string }} Place
+ * @typedef {Entry & Place} Kept
+ */
+
+/** @param {string} id */
+const rawOf = (id) => kept(KEY + id);
+const newId = () => Date.now().toString(36) + Math.random().toString(36).slice(2);
+
+// The entry of an id; nothing where there is none.
+/** @param {string} id @returns {Kept | null} */
+export function entryOf(id) {
+  const raw = rawOf(id) ?? "";
+  try {
+    const { name, text, time, isSaved } = JSON.parse(raw);
+    if (typeof name !== "string" || typeof text !== "string" || text === "") return null;
+    return { id, raw, name, text, time: Number(time) || 0, isSaved: isSaved === true };
+  } catch {
+    return null;
+  }
+}
+
+// All entries, the latest first.
+export function entries() {
+  const ids = keptKeys().filter((key) => key.startsWith(KEY)).map((key) => key.slice(KEY.length));
+  const all = /** @type {Kept[]} */ (ids.map(entryOf).filter((one) => one !== null));
+  return all.sort((one, other) => other.time - one.time);
+}
+
+// How an entry is now that this page knows so: it may be gone, or another page may have gone on with it.
+/** @param {Place} place @returns {"same" | "gone" | "other"} */
+export function standOf({ id, raw }) {
+  const now = rawOf(id);
+  return now === raw ? "same" : now === null ? "gone" : "other";
+}
+
+// Writes an entry where this page has it, or else a new one. Returns where it is; nothing where the browser refuses it.
+/** @param {Place | undefined} place @param {Entry} entry @returns {Place | null} */
+export function writeEntry(place, entry) {
+  const raw = JSON.stringify(entry);
+  const isSame = place !== undefined && standOf(place) === "same";
+  const id = isSame ? place.id : newId();
+  if (!keepText(KEY + id, raw)) return null;
+  if (!isSame) dropSaved();
+  return { id, raw };
+}
+
+// Forgets an entry, unless another page has gone on with it.
+/** @param {Place} place */
+export function forgetEntry(place) {
+  if (standOf(place) === "same") keepText(KEY + place.id, null);
+}
+
+// Of too many entries the oldest go whose programs are in files.
+function dropSaved() {
+  const all = entries();
+  const saved = all.filter(({ isSaved }) => isSaved).reverse();
+  saved.slice(0, Math.max(0, all.length - MOST_WORKS)).forEach(forgetEntry);
+}
+
+// What versions before this one have kept has entries now.
+export function takeOlder() {
+  const older = [...partsOf(`[${kept(OLDER) ?? ""}]`), ...partsOf(kept(OLDER_ASIDE))];
+  const known = entries();
+  const isDone = older.every(({ name, text, isTyped }) => {
+    if (typeof name !== "string" || typeof text !== "string" || text === "") return true;
+    if (known.some((one) => one.name === name && one.text === text)) return true;
+    return writeEntry(undefined, { name, text, time: Date.now(), isSaved: isTyped === false }) !== null;
+  });
+  if (isDone) for (const key of [OLDER, OLDER_ASIDE]) if (kept(key) !== null) keepText(key, null);
+}
+
+/** @param {string | null} list @returns {{ name?: unknown, text?: unknown, isTyped?: unknown }[]} */
+function partsOf(list) {
+  try {
+    return JSON.parse(list ?? "").filter(Boolean);
+  } catch {
+    return [];
+  }
+}
