@@ -4,7 +4,9 @@ import { textOf } from "./bytes.js";
 import { byId } from "./elements.js";
 import { ask } from "./question.js";
 import { keepText, kept } from "./stored.js";
-import { entries, entryOf, forgetEntry, MOST_WORKS, standOf, takeOlder, writeEntry } from "./works.js";
+import {
+  countOfEntries, entries, entryOf, forgetEntry, MOST_WORKS, standOf, takeOlder, writeEntry,
+} from "./works.js";
 import { legible } from "./unseen.js";
 
 // What this tab had last, for when it is loaded anew.
@@ -97,7 +99,7 @@ export class Draft {
   // Says what is not kept, and why; or that there are many.
   /** @param {Held} held */
   show(held) {
-    const count = entries().length;
+    const count = countOfEntries();
     const why = textToKeep(held.bytes) === null ? "over 1 MiB, or no text" : "this browser refuses it";
     byId("kept-note").textContent = isAtRisk(held) ? `not kept (${why}): save it`
       : count > MOST_WORKS ? `Yours has ${count} programs: save or forget some` : "";

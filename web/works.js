@@ -34,10 +34,12 @@ export function entryOf(id) {
   }
 }
 
+const ids = () => keptKeys().filter((key) => key.startsWith(KEY)).map((key) => key.slice(KEY.length));
+export const countOfEntries = () => ids().length;
+
 // All entries, the latest first.
 export function entries() {
-  const ids = keptKeys().filter((key) => key.startsWith(KEY)).map((key) => key.slice(KEY.length));
-  const all = /** @type {Kept[]} */ (ids.map(entryOf).filter((one) => one !== null));
+  const all = /** @type {Kept[]} */ (ids().map(entryOf).filter((one) => one !== null));
   return all.sort((one, other) => other.time - one.time);
 }
 
