@@ -43,6 +43,10 @@ ROOM = "Object.keys(localStorage).forEach((key) => key.startsWith('full') && loc
 CHOICES = """((words) => [...document.getElementById('library').options]
   .flatMap((one, at) => one.text.includes(words) ? [at] : []))({})"""
 CHOSEN = "document.getElementById('library').selectedOptions[0].text"
+# Asks twice, and takes long after each answer.
+ASKING = ("#(ds,L,(#(eq,N,0,,(#(cl,L,#(su,N,1))))))'#(ss,L,N)'#(ps,(a? ))#(ds,A,##(rs))#(cl,L,20000)"
+          "#(ps,(b? ))#(ds,B,##(rs))#(cl,L,20000)#(ps,(a=))#(ps,##(cl,A))#(ps,( b=))#(ps,##(cl,B))'")
+ENDED = "document.getElementById('stop').hidden && document.getElementById('output').textContent.includes('{}')"
 LONG = ("#(ps,({}))'\n".format("x" * 1000)) * 1100
 
 
@@ -364,6 +368,24 @@ def check_typed_before_a_link(page: Deeds) -> None:
     check(not page.script(ASKS), "nothing is lost")
 
 
+def check_lines_ahead(page: Deeds) -> None:
+    """A line of input that is given while the run after the last one goes on comes after that; so does the end."""
+    for end in False, True:
+        page.type(ASKING)
+        page.run()
+        page.script("document.getElementById('input').focus()")
+        page.insert("ONE'")
+        page.press("Enter")
+        if end:
+            page.script("document.getElementById('end-input').click()")
+        else:
+            page.insert("TWO'")
+            page.press("Enter")
+        page.until(ENDED.format("a=ONE"), "all is read")
+        check(page.text("given-text") == "ONE'LF" + ("" if end else "TWO'LF"), "given is: " + page.text("given-text"))
+        check("the input has ended" in page.text("ending") or not end, "how it ends: " + page.text("ending"))
+
+
 def check_undo(page: Deeds) -> None:
     """Another program is opened without a question, and Ctrl+Z brings back what was there; so does a button; and forth
     again."""
@@ -411,6 +433,6 @@ def check_question(page: Deeds) -> None:
 
 TRIED = (rows(check_draft, check_opened, check_brought_back, check_many_opened, check_many_typed, check_same_time,
               check_at_once, check_full, check_too_long, check_forgotten, check_saved, check_older,
-              check_typed_before_a_link, check_undo, check_undone, check_question)
+              check_typed_before_a_link, check_lines_ahead, check_undo, check_undone, check_question)
          + rows(check_large_files, seconds=10)
          + rows(check_two_tabs, check_early, check_not_ready, given=file_of, seconds=5))
