@@ -5,7 +5,7 @@ import { byId } from "./elements.js";
 import { ask } from "./question.js";
 import { keepText, kept } from "./stored.js";
 import {
-  countOfEntries, entries, entryOf, forgetEntry, MOST_WORKS, standOf, takeOlder, writeEntry,
+  countOfEntries, entries, entryOf, forgetEntry, MOST_WORKS, noteReplaced, standOf, takeOlder, writeEntry,
 } from "./works.js";
 import { legible } from "./unseen.js";
 
@@ -27,8 +27,8 @@ const textToKeep = (bytes) => bytes.length > MOST_DRAFT ? null : textOf(bytes);
 
 // A program of an entry. Whether it is this tab's own: else another tab may have it, too.
 /** @param {Kept} entry @returns {Required<Held>} */
-export function heldOf({ id, raw, name, text, isSaved }, isMine = false) {
-  const work = { isTyped: !isSaved, isKept: true, place: { id, raw }, isMine };
+export function heldOf({ id, raw, name, text, isSaved, isReplaced }, isMine = false) {
+  const work = { isTyped: !isSaved && !isReplaced, isKept: true, place: { id, raw }, isMine };
   return { name, bytes: new TextEncoder().encode(text), work };
 }
 
@@ -46,6 +46,7 @@ export class Draft {
     /** @type {ReturnType<typeof setTimeout> | 0} */
     this.later = 0;
     editor.leaving = () => this.leave();
+    editor.replacing = () => this.replace();
     addEventListener("pagehide", () => this.leave());
     document.addEventListener("visibilitychange", () => this.leave());
     // (a page that the browser has set aside, and brings back, has heard of nothing meanwhile)
@@ -56,11 +57,20 @@ export class Draft {
     });
   }
 
-  // The program was typed: it is kept soon.
+  // The program was typed: it is kept soon. (One that was deleted sign by sign was replaced, too.)
   typed() {
+    if (this.editor.box.value === "") this.replace();
     Object.assign(this.editor.work, { isTyped: true, isKept: false });
     clearTimeout(this.later);
     this.later = setTimeout(() => this.keep(), DRAFT_TIME);
+  }
+
+  // All that stands there gives way to another text: its entry stays, and what comes has one of its own.
+  replace() {
+    if (this.later) this.keep();
+    const { place, isMine } = this.editor.work;
+    if (place && isMine) noteReplaced(place);
+    if (place) this.editor.work = { isTyped: false };
   }
 
   // What is to be kept soon is kept at once. So is what could not be kept before.
@@ -76,7 +86,7 @@ export class Draft {
     if (work.isTyped && work.isMine && work.place && standOf(work.place) === "other") this.keep();
   }
 
-  // Keeps what was typed. (Where all of it was deleted, the entry stays as it was.)
+  // Keeps what was typed, if that is something.
   keep() {
     clearTimeout(this.later);
     this.later = 0;
@@ -90,7 +100,7 @@ export class Draft {
   keepHeld({ name, bytes, work }) {
     const text = textToKeep(bytes);
     if (!work) return;
-    const entry = text === null ? null : { name, text, time: Date.now(), isSaved: !work.isTyped };
+    const entry = text === null ? null : { name, text, time: Date.now(), isSaved: !work.isTyped, isReplaced: false };
     const place = entry && writeEntry(work.place, entry);
     work.isKept = place !== null;
     if (place) Object.assign(work, { place, isMine: true });
@@ -127,19 +137,19 @@ export class Draft {
       const { id, isMine, name, text, isTyped } = JSON.parse(kept(TAB, "sessionStorage") ?? "");
       const entry = typeof id === "string" ? entryOf(id) : null;
       if (entry) return heldOf(entry, isMine === true);
-      if (typeof name !== "string" || typeof text !== "string" || text === "") return null;
+      if (typeof name !== "string" || typeof text !== "string") return null;
       return { name, bytes: new TextEncoder().encode(text), work: { isTyped: isTyped === true } };
     } catch {
       return null;
     }
   }
 
-  // Goes on with what this tab had, or else with what was typed last, saved programs after others. What someone has
+  // Goes on with what this tab had, or else with what was typed last, if it was not saved or replaced. What someone has
   // typed before the page was there stays, as a work of its own. Returns whether something stands there.
   restore() {
     takeOlder();
     const { editor } = this;
-    const all = entries(), last = all.find(({ isSaved }) => !isSaved) ?? all[0];
+    const all = entries(), last = all.find((one) => heldOf(one).work.isTyped) ?? all[0];
     const held = this.remembered() ?? (last ? heldOf(last) : null);
     const early = editor.box.value;
     if (early !== "" && early !== (held && textOf(held.bytes))) {
@@ -174,8 +184,8 @@ export class Draft {
   async forget() {
     this.leave();
     const { editor, editor: { name, work } } = this;
-    const words = work.isTyped ? "It is in no file." : "It was saved to a file.";
-    if (!work.place || !await ask(`Forget ${legible(name)}, as it stands there? ${words}`)) return false;
+    const words = `Forget ${legible(name)}, as it stands there?${work.isTyped ? " It is in no file." : ""}`;
+    if (!work.place || !await ask(words)) return false;
     if (work !== editor.work) return false;
     forgetEntry(work.place);
     editor.work = { isTyped: false };

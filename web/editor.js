@@ -49,8 +49,10 @@ export class Editor {
     this.work = { isTyped: false };
     // whether something was typed since a program was opened
     this.isTouched = false;
-    /** @type {() => void} what is done before another program stands there */
+    /** @type {() => void} what is done before another program stands there, and before all of one is replaced */
     this.leaving = () => {};
+    /** @type {() => void} */
+    this.replacing = () => {};
     /** @type {ReturnType<typeof setTimeout> | undefined} */
     this.later = undefined;
     this.undoing = new Undoing(this);
@@ -59,6 +61,11 @@ export class Editor {
       this.typed();
       changed();
       this.undoing.show();
+    });
+    this.box.addEventListener("beforeinput", ({ inputType }) => {
+      const { selectionStart, selectionEnd, value } = this.box;
+      const isAll = value !== "" && selectionStart === 0 && selectionEnd === value.length;
+      if (isAll && !inputType.startsWith("history")) this.replacing();
     });
     this.box.addEventListener("paste", (event) => {
       if (this.pasted(event)) changed();

@@ -4,15 +4,16 @@
 import { keepText, kept, keptKeys } from "./stored.js";
 
 const KEY = "trac.work.";
-// If there are more entries, the oldest go whose programs are in files.
+// If there are more entries, the oldest go whose programs are in files, or that someone has replaced by others.
 export const MOST_WORKS = 50;
 // Where versions before this one kept a program, and those put aside.
 const OLDER = "trac.draft", OLDER_ASIDE = "trac.aside";
 
 /**
- * A program as it is kept, when it was typed last, and whether it was saved to a file since. Where that is kept: the id
- * of the entry, and the whole entry as this page knows it.
- * @typedef {{ name: string, text: string, time: number, isSaved: boolean }} Entry
+ * A program as it is kept, when it was typed last, and what came of it since: whether it was saved to a file, and
+ * whether someone has put another text in its place. Where that is kept: the id of the entry, and the whole entry as
+ * this page knows it.
+ * @typedef {{ name: string, text: string, time: number, isSaved: boolean, isReplaced: boolean }} Entry
  * @typedef {{ id: string, raw: string }} Place
  * @typedef {Entry & Place} Kept
  */
@@ -26,9 +27,10 @@ const newId = () => Date.now().toString(36) + Math.random().toString(36).slice(2
 export function entryOf(id) {
   const raw = rawOf(id) ?? "";
   try {
-    const { name, text, time, isSaved } = JSON.parse(raw);
+    const { name, text, time, isSaved, isReplaced } = JSON.parse(raw);
     if (typeof name !== "string" || typeof text !== "string" || text === "") return null;
-    return { id, raw, name, text, time: Number(time) || 0, isSaved: isSaved === true };
+    const came = { isSaved: isSaved === true, isReplaced: isReplaced === true };
+    return { id, raw, name, text, time: Number(time) || 0, ...came };
   } catch {
     return null;
   }
@@ -57,8 +59,17 @@ export function writeEntry(place, entry) {
   const isSame = place !== undefined && standOf(place) === "same";
   const id = isSame ? place.id : newId();
   if (!keepText(KEY + id, raw)) return null;
-  if (!isSame) dropSaved();
+  if (!isSame) dropOldest();
   return { id, raw };
+}
+
+// Notes that another text was put in place of an entry's. It stays.
+/** @param {Place} place */
+export function noteReplaced(place) {
+  const entry = standOf(place) === "same" ? entryOf(place.id) : null;
+  if (!entry) return;
+  const { name, text, time, isSaved } = entry;
+  writeEntry(place, { name, text, time, isSaved, isReplaced: true });
 }
 
 // Forgets an entry, unless another page has gone on with it.
@@ -67,11 +78,11 @@ export function forgetEntry(place) {
   if (standOf(place) === "same") keepText(KEY + place.id, null);
 }
 
-// Of too many entries the oldest go whose programs are in files.
-function dropSaved() {
+// Of too many entries the oldest go that were saved or replaced.
+function dropOldest() {
   const all = entries();
-  const saved = all.filter(({ isSaved }) => isSaved).reverse();
-  saved.slice(0, Math.max(0, all.length - MOST_WORKS)).forEach(forgetEntry);
+  const going = all.filter(({ isSaved, isReplaced }) => isSaved || isReplaced).reverse();
+  going.slice(0, Math.max(0, all.length - MOST_WORKS)).forEach(forgetEntry);
 }
 
 // What versions before this one have kept has entries now.
@@ -81,7 +92,8 @@ export function takeOlder() {
   const isDone = older.every(({ name, text, isTyped }) => {
     if (typeof name !== "string" || typeof text !== "string" || text === "") return true;
     if (known.some((one) => one.name === name && one.text === text)) return true;
-    return writeEntry(undefined, { name, text, time: Date.now(), isSaved: isTyped === false }) !== null;
+    const entry = { name, text, time: Date.now(), isSaved: isTyped === false, isReplaced: false };
+    return writeEntry(undefined, entry) !== null;
   });
   if (isDone) for (const key of [OLDER, OLDER_ASIDE]) if (kept(key) !== null) keepText(key, null);
 }

@@ -10,10 +10,11 @@ const MOST_WORDS = 40;
 const OWN = "own:", FORGET = "forget";
 
 /** @param {import("./works.js").Kept} entry */
-function optionOf({ id, name, text, time, isSaved }) {
+function optionOf({ id, name, text, time, isSaved, isReplaced }) {
   const when = new Date(time).toLocaleString([], { dateStyle: "short", timeStyle: "short" });
   const words = legible(text.slice(0, 4 * MOST_WORDS).replace(/\s+/g, " ")).slice(0, MOST_WORDS);
-  return new Option(`${legible(name)}, ${when}${isSaved ? ", saved" : ""}: ${words}`, OWN + id);
+  const came = `${isSaved ? ", saved" : ""}${isReplaced ? ", replaced" : ""}`;
+  return new Option(`${legible(name)}, ${when}${came}: ${words}`, OWN + id);
 }
 
 export class Yours {

@@ -22,7 +22,8 @@ QUESTION = "document.getElementById('question').open"
 # The entries, as texts; whether one has a text; and whether the browser is asked before the page is left.
 ENTRIES = "Object.keys(localStorage).filter((key) => key.startsWith('trac.work.')).map((key) => localStorage[key])"
 IS_KEPT = ENTRIES + ".some((one) => JSON.parse(one).text.includes('{}'))"
-TEXTS = ENTRIES + ".map((one) => JSON.parse(one).text).sort()"
+TEXTS = (ENTRIES + ".map((one) => JSON.parse(one)).filter(({ isReplaced }) => !isReplaced)"
+         ".map(({ text }) => text).sort()")
 ASKS = """(() => {
   const event = new Event('beforeunload', { cancelable: true });
   dispatchEvent(event);
@@ -172,6 +173,24 @@ def check_many_typed(page: Deeds) -> None:
     check(len(texts) == 12, "all are kept: {}".format(texts))
     for index in 0, 11:
         go_on(page, "text {};".format(index))
+
+
+def check_replaced(page: Deeds) -> None:
+    """A program stays that someone has replaced as a whole, by one that is typed in its place."""
+    typed(page, "mine")
+    page.script("document.getElementById('source').focus()")
+    page.press("a", control=True)
+    page.press("x")
+    page.press("y")
+    page.until(IS_KEPT.format("xy"), "another one is kept")
+    page.press("Backspace", times=2)
+    page.press("z")
+    page.until(TEXTS + ".includes('z')", "and another one")
+    check(page.script(TEXTS) == ["z"], "one is typed now: {}".format(page.script(TEXTS)))
+    check(choices(page, ", replaced: xy"), "the list says what was replaced")
+    again(page)
+    check(page.script(VALUE) == "z", "that is back: " + page.script(VALUE))
+    go_on(page, "mine")
 
 
 def check_two_tabs(page: Deeds, file: str) -> None:
@@ -431,8 +450,8 @@ def check_question(page: Deeds) -> None:
     page.script("document.getElementById('question').close()")
 
 
-TRIED = (rows(check_draft, check_opened, check_brought_back, check_many_opened, check_many_typed, check_same_time,
-              check_at_once, check_full, check_too_long, check_forgotten, check_saved, check_older,
+TRIED = (rows(check_draft, check_opened, check_brought_back, check_many_opened, check_many_typed, check_replaced,
+              check_same_time, check_at_once, check_full, check_too_long, check_forgotten, check_saved, check_older,
               check_typed_before_a_link, check_lines_ahead, check_undo, check_undone, check_question)
          + rows(check_large_files, seconds=10)
          + rows(check_two_tabs, check_early, check_not_ready, given=file_of, seconds=5))
