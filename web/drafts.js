@@ -65,12 +65,13 @@ export class Draft {
     this.later = setTimeout(() => this.keep(), DRAFT_TIME);
   }
 
-  // All that stands there gives way to another text: its entry stays, and what comes has one of its own.
+  // All that stands there gives way to another text: its entry stays, if it has one, and what comes has one of its own.
   replace() {
     if (this.later) this.keep();
-    const { place, isMine } = this.editor.work;
-    if (place && isMine) noteReplaced(place);
-    if (place) this.editor.work = { isTyped: false };
+    const { place, isKept, isMine } = this.editor.work;
+    if (!place || !(isKept || this.editor.box.value === "")) return;
+    if (isMine) noteReplaced(place);
+    this.editor.work = { isTyped: false };
   }
 
   // What is to be kept soon is kept at once. So is what could not be kept before.

@@ -23,7 +23,7 @@ export class Library {
     /** @type {Program[]} */
     this.programs = JSON.parse(textIn("library-data"));
     const list = byId("library");
-    list.append(new Option("Examples", ""));
+    list.append(new Option("Programs", ""));
     for (const group of new Set(this.programs.map((program) => program.group))) {
       const part = make("optgroup");
       part.label = group;

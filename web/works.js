@@ -85,20 +85,31 @@ function dropOldest() {
   going.slice(0, Math.max(0, all.length - MOST_WORKS)).forEach(forgetEntry);
 }
 
-// What versions before this one have kept has entries now.
+// What versions before this one have kept has entries now. One goes after the other, so that there is room.
 export function takeOlder() {
-  const older = [...partsOf(`[${kept(OLDER) ?? ""}]`), ...partsOf(kept(OLDER_ASIDE))];
-  const known = entries();
-  const isDone = older.every(({ name, text, isTyped }) => {
-    if (typeof name !== "string" || typeof text !== "string" || text === "") return true;
-    if (known.some((one) => one.name === name && one.text === text)) return true;
-    const entry = { name, text, time: Date.now(), isSaved: isTyped === false, isReplaced: false };
-    return writeEntry(undefined, entry) !== null;
-  });
-  if (isDone) for (const key of [OLDER, OLDER_ASIDE]) if (kept(key) !== null) keepText(key, null);
+  const [draft, aside] = [`[${kept(OLDER) ?? ""}]`, kept(OLDER_ASIDE)].map(partsOf);
+  if (draft.every((one) => takeOne(one, 0))) keepText(OLDER, null);
+  for (let count = 1; aside.length > 0 && takeOne(aside[aside.length - 1], count); count++) {
+    aside.pop();
+    keepText(OLDER_ASIDE, aside.length ? JSON.stringify(aside) : null);
+  }
 }
 
-/** @param {string | null} list @returns {{ name?: unknown, text?: unknown, isTyped?: unknown }[]} */
+/**
+ * What an older version has kept of a program.
+ * @typedef {{ name?: unknown, text?: unknown, isTyped?: unknown }} Older
+ */
+
+// Has one of these in an entry, as one that was typed before so many others. Returns whether it is there.
+/** @param {Older} older @param {number} count */
+function takeOne({ name, text, isTyped }, count) {
+  if (typeof name !== "string" || typeof text !== "string" || text === "") return true;
+  if (entries().some((one) => one.name === name && one.text === text)) return true;
+  const entry = { name, text, time: Date.now() - count, isSaved: isTyped === false, isReplaced: false };
+  return writeEntry(undefined, entry) !== null;
+}
+
+/** @param {string | null} list @returns {Older[]} */
 function partsOf(list) {
   try {
     return JSON.parse(list ?? "").filter(Boolean);
