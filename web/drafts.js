@@ -45,6 +45,8 @@ export class Draft {
     this.editor = editor;
     /** @type {ReturnType<typeof setTimeout> | 0} */
     this.later = 0;
+    /** @type {(words: string) => void} what says what is not kept */
+    this.told = () => {};
     editor.leaving = () => this.leave();
     editor.replacing = () => this.replace();
     addEventListener("pagehide", () => this.leave());
@@ -112,8 +114,10 @@ export class Draft {
   show(held) {
     const count = countOfEntries();
     const why = textToKeep(held.bytes) === null ? "over 1 MiB, or no text" : "this browser refuses it";
-    byId("kept-note").textContent = isAtRisk(held) ? `not kept (${why}): save it`
+    const words = isAtRisk(held) ? `not kept (${why}): save it`
       : count > MOST_WORKS ? `Yours has ${count} programs: save or forget some` : "";
+    if (words && words !== byId("kept-note").textContent) this.told(words);
+    byId("kept-note").textContent = words;
   }
 
   // Another program stands there.

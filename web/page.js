@@ -41,6 +41,7 @@ export class Page {
     // how often a program was opened, or brought back
     this.opened = 0;
     this.announcer = new Announcer();
+    this.draft.told = (words) => this.announcer.say("note", words);
     this.view = new View(this);
     this.runs = new Runs(this);
     this.cursor = new Cursor(this);
