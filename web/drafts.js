@@ -120,8 +120,10 @@ export class Draft {
     byId("kept-note").textContent = words;
   }
 
-  // Another program stands there.
+  // Another program stands there. What was forgotten and is brought back is as if it were typed.
   opened() {
+    const { work } = this.editor;
+    if (work.isForgotten) Object.assign(work, { isTyped: true, isForgotten: false });
     this.remember();
     byId("kept-note").textContent = "";
     if (isAtRisk(this.editor.held())) this.typed();
@@ -193,7 +195,7 @@ export class Draft {
     if (!work.place || !await ask(words)) return false;
     if (work !== editor.work) return false;
     forgetEntry(work.place);
-    editor.work = { isTyped: false };
+    editor.work = { isTyped: false, isForgotten: true };
     return true;
   }
 }

@@ -8,6 +8,7 @@ import { isLong, measureInTurns, probe, showSoFar, WATCHED } from "./probing.js"
 import { needsEnd } from "./endings.js";
 import { keepFocus } from "./focus.js";
 import { isEqual } from "./judging.js";
+import { legible } from "./unseen.js";
 import { byId, focused } from "./elements.js";
 import { gather } from "./gathering.js";
 import { ask } from "./question.js";
@@ -167,10 +168,20 @@ export class Runs {
     const partial = words === STOPPED ? this.partial : this.kept;
     this.leave();
     view.busy(false);
-    if (!began || !partial) return this.stay(words);
+    if (!began || !partial) return this.stay(words + this.untaken(began));
     view.showWords(words);
     this.takePartial(began, partial, words);
     return undefined;
+  }
+
+  // The lines that were given for a run that came to nothing, if these are several: they are not to be lost. (One alone
+  // is in its box again.)
+  /** @param {Begin | null} began */
+  untaken(began) {
+    const known = this.page.run?.inputs ?? [];
+    const lost = (began?.inputs ?? []).filter((line) => !known.includes(line));
+    const told = lost.map(({ bytes }) => legible(new TextDecoder().decode(bytes).trimEnd()));
+    return told.length > 1 ? ` Lines that were not taken: ${told.join("; ")}.` : "";
   }
 
   // Shows the run before, after words that say why there is no other, or nothing.
@@ -247,7 +258,11 @@ export class Runs {
     if (!before) return false;
     const isEnded = needsEnd(run, line);
     const bytes = new TextEncoder().encode(`${line}${isEnded ? "'" : ""}\n`);
-    await this.performAgain({ inputs: [...before, { step, bytes }], isClosed: false });
+    const given = { step, bytes };
+    await this.performAgain({ inputs: [...before, given], isClosed: false });
+    // (it may have been stopped before anything was known of it)
+    const now = this.began ?? this.page.run;
+    if (now && !now.inputs.includes(given)) return false;
     if (isEnded) this.page.view.note("' was put at its end, since it is read up to that");
     return true;
   }

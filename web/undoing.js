@@ -9,10 +9,11 @@ const MOST_BEFORE = 20;
 const MOST_BEFORE_BYTES = 1 << 25;
 
 /**
- * The work on a program: whether something was typed that is in no file, whether that is kept, in which entry, and
- * whether this tab has written that entry. And a program: its name, its bytes, and the work on it.
+ * The work on a program: whether something was typed that is in no file, whether that is kept, in which entry, whether
+ * this tab has written that entry, and whether it was to be forgotten. And a program: its name, its bytes, and the work
+ * on it.
  * @typedef {{
- *   isTyped: boolean, isKept?: boolean, place?: import("./works.js").Place, isMine?: boolean
+ *   isTyped: boolean, isKept?: boolean, place?: import("./works.js").Place, isMine?: boolean, isForgotten?: boolean
  * }} Work
  * @typedef {{ name: string, bytes: Uint8Array, work?: Work }} Held
  */

@@ -78,10 +78,10 @@ export function forgetEntry(place) {
   if (standOf(place) === "same") keepText(KEY + place.id, null);
 }
 
-// Of too many entries the oldest go that were saved or replaced.
+// Of too many entries the oldest go that were saved to files.
 function dropOldest() {
   const all = entries();
-  const going = all.filter(({ isSaved, isReplaced }) => isSaved || isReplaced).reverse();
+  const going = all.filter(({ isSaved }) => isSaved).reverse();
   going.slice(0, Math.max(0, all.length - MOST_WORKS)).forEach(forgetEntry);
 }
 

@@ -297,6 +297,9 @@ def check_forgotten(page: Deeds) -> None:
     page.until(VALUE + " === ''", "the editor is empty")
     check(page.script(TEXTS) == ["#(ps,one)'"], "the other is kept: {}".format(page.script(TEXTS)))
     check(not choices(page, "#(ps,two") and not choices(page, "Forget"), "it is listed no more")
+    page.click(UNDO)
+    page.until(VALUE + " === \"#(ps,two)'\"", "it is brought back")
+    page.until(TEXTS + ".length === 2", "and kept again")
     go_on(page, "one")
     page.script("localStorage.clear()")
     check(page.script(ASKS), "it is asked for what is kept no more")
@@ -405,6 +408,24 @@ def check_lines_ahead(page: Deeds) -> None:
         check("the input has ended" in page.text("ending") or not end, "how it ends: " + page.text("ending"))
 
 
+def check_lines_stopped(page: Deeds) -> None:
+    """Lines that are given for a run that is stopped are there still: given, if something of it is known, else the last
+    in its box, and all in what is said if there are several."""
+    there = ("['input', 'given-text', 'ending'].map((id) => document.getElementById(id))"
+             ".map((one) => one.value ?? one.textContent).join().includes(\"{}\")")
+    for lines in ("ONE'",), ("ONE'", "TWO'"):
+        page.type(ASKING)
+        page.run()
+        page.script("document.getElementById('input').value = ''")
+        page.script("document.getElementById('input').focus()")
+        for line in lines:
+            page.insert(line)
+            page.press("Enter")
+        page.script("document.getElementById('stop').click()")
+        for line in lines:
+            page.until(there.format(line), "{} is there".format(line))
+
+
 def check_undo(page: Deeds) -> None:
     """Another program is opened without a question, and Ctrl+Z brings back what was there; so does a button; and forth
     again."""
@@ -452,6 +473,6 @@ def check_question(page: Deeds) -> None:
 
 TRIED = (rows(check_draft, check_opened, check_brought_back, check_many_opened, check_many_typed, check_replaced,
               check_same_time, check_at_once, check_full, check_too_long, check_forgotten, check_saved, check_older,
-              check_typed_before_a_link, check_lines_ahead, check_undo, check_undone, check_question)
+              check_typed_before_a_link, check_lines_ahead, check_lines_stopped, check_undo, check_undone, check_question)
          + rows(check_large_files, seconds=10)
          + rows(check_two_tabs, check_early, check_not_ready, given=file_of, seconds=5))
