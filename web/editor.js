@@ -47,8 +47,9 @@ export class Editor {
     this.lit = new Map();
     /** @type {Work} the work on what stands there */
     this.work = { isTyped: false };
-    // whether something was typed since a program was opened
+    // whether something was typed since a program was opened, and how that stood in the box
     this.isTouched = false;
+    this.asOpened = "";
     /** @type {() => void} what is done before another program stands there, and before all of one is replaced */
     this.leaving = () => {};
     /** @type {() => void} */
@@ -62,8 +63,11 @@ export class Editor {
       changed();
       this.undoing.show();
     });
-    this.box.addEventListener("beforeinput", ({ inputType }) => {
-      const { selectionStart, selectionEnd, value } = this.box;
+    this.box.addEventListener("beforeinput", (event) => {
+      const { box: { selectionStart, selectionEnd, value }, isTouched } = this, { inputType } = event;
+      // (Chromium would go on with what was done to the program before this one)
+      const isPast = inputType === "historyUndo" ? value === this.asOpened : inputType === "historyRedo" && !isTouched;
+      if (isPast) event.preventDefault();
       const isAll = value !== "" && selectionStart === 0 && selectionEnd === value.length;
       if (isAll && !inputType.startsWith("history")) this.replacing();
     });
@@ -129,6 +133,7 @@ export class Editor {
     if (isSame) this.free();
     else this.fix(fixedOf(bytes, wide ? WIDE : areEnds ? TWO_ENDS : NO_TEXT));
     this.isTouched = false;
+    this.asOpened = this.box.value;
     this.repaint();
     this.frame.scrollTop = 0;
     this.undoing.show();

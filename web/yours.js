@@ -8,10 +8,11 @@ import { entries, entryOf } from "./works.js";
 // So many signs of a program tell it from others. How a choice of it begins, and that which forgets one.
 const MOST_WORDS = 40;
 const OWN = "own:", FORGET = "forget";
+const WHEN = new Intl.DateTimeFormat([], { dateStyle: "short", timeStyle: "short" });
 
 /** @param {import("./works.js").Kept} entry */
 function optionOf({ id, name, text, time, isSaved, isReplaced }) {
-  const when = new Date(time).toLocaleString([], { dateStyle: "short", timeStyle: "short" });
+  const when = WHEN.format(time);
   const words = legible(text.slice(0, 4 * MOST_WORDS).replace(/\s+/g, " ")).slice(0, MOST_WORDS);
   const came = `${isSaved ? ", saved" : ""}${isReplaced ? ", replaced" : ""}`;
   return new Option(`${legible(name)}, ${when}${came}: ${words}`, OWN + id);

@@ -450,6 +450,7 @@ def check_undo(page: Deeds) -> None:
 
 def check_undone(page: Deeds) -> None:
     """Where all that was typed is undone, one more Ctrl+Z brings back no other program: Ctrl+Y does all again."""
+    first = page.script(VALUE)
     pick(page, "hello.trac")
     hello = page.script(VALUE)
     page.script("(() => { const box = document.getElementById('source'); "
@@ -461,6 +462,19 @@ def check_undone(page: Deeds) -> None:
     check(page.script(UNDO + ".hidden"), "no button brings back another one")
     page.press("y", times=3, control=True)
     check(page.script(VALUE) == text and "mine" in text, "it is done again: " + page.script(VALUE))
+    typed(page, "other")
+    pick(page, "hello.trac")
+    page.script("document.getElementById('source').focus()")
+    page.insert("BBBB")
+    page.press("z", times=6, control=True)
+    check(page.script(VALUE) == hello, "nothing of the program before is undone: " + page.script(VALUE))
+    pick(page, "hanoi.trac")
+    page.script("document.getElementById('source').focus()")
+    page.press("z", control=True)
+    page.press("z", control=True)
+    page.press("z", control=True)
+    whole = "#(ps,other)'", hello, first
+    check(page.script(VALUE) in whole, "nor in one that is brought back: " + page.script(VALUE))
 
 
 def check_question(page: Deeds) -> None:
