@@ -5,7 +5,7 @@ import { byId } from "./elements.js";
 import { ask } from "./question.js";
 import { keepText, kept } from "./stored.js";
 import {
-  countOfEntries, entries, entryOf, forgetEntry, MOST_WORKS, noteReplaced, standOf, takeOlder, writeEntry,
+  countOfEntries, entries, entryOf, forgetEntry, isRaced, MOST_WORKS, noteReplaced, standOf, takeOlder, writeEntry,
 } from "./works.js";
 import { legible } from "./unseen.js";
 
@@ -83,10 +83,14 @@ export class Draft {
     for (const held of this.editor.undoing.held()) if (held.work?.isTyped && !held.work.isKept) this.keepHeld(held);
   }
 
-  // Where another page has gone on with the entry of what was typed here, this has another one.
+  // Where another page has gone on with the entry of what was typed here, this has another one. So has what gave way to
+  // another program here, if both were written at about the same time.
   look() {
-    const { work } = this.editor;
+    const { work, undoing } = this.editor;
     if (work.isTyped && work.isMine && work.place && standOf(work.place) === "other") this.keep();
+    for (const held of undoing.held()) {
+      if (held.work?.isTyped && held.work.isMine && held.work.place && isRaced(held.work.place)) this.keepHeld(held);
+    }
   }
 
   // Keeps what was typed, if that is something.

@@ -6,6 +6,8 @@ import { keepText, kept, keptKeys } from "./stored.js";
 const KEY = "trac.work.";
 // If there are more entries, the oldest go whose programs are in files, or that someone has replaced by others.
 export const MOST_WORKS = 50;
+// Within so many milliseconds two pages may write one entry, and not see each other do so.
+const RACE_TIME = 2000;
 // Where versions before this one kept a program, and those put aside.
 const OLDER = "trac.draft", OLDER_ASIDE = "trac.aside";
 
@@ -70,6 +72,13 @@ export function noteReplaced(place) {
   if (!entry) return;
   const { name, text, time, isSaved } = entry;
   writeEntry(place, { name, text, time, isSaved, isReplaced: true });
+}
+
+// Whether another page has written an entry so soon after this one that it may not have seen what this had written.
+/** @param {Place} place */
+export function isRaced({ id, raw }) {
+  const now = entryOf(id);
+  return now !== null && now.raw !== raw && now.time - JSON.parse(raw).time < RACE_TIME;
 }
 
 // Forgets an entry, unless another page has gone on with it.

@@ -390,6 +390,19 @@ def check_typed_before_a_link(page: Deeds) -> None:
     check(not page.script(ASKS), "nothing is lost")
 
 
+def check_raced(page: Deeds) -> None:
+    """Two pages write one entry at about the same time, and one opens another program at once: both texts are kept."""
+    typed(page, "mine")
+    pick(page, "hello.trac")
+    page.script("""(() => {
+      const [key, raw] = Object.entries(localStorage).find(([key]) => key.startsWith("trac.work."));
+      const entry = JSON.parse(raw);
+      localStorage[key] = JSON.stringify({ ...entry, text: "#(ps,theirs)'", time: entry.time + 3 });
+      dispatchEvent(new StorageEvent("storage", { key }));
+    })()""")
+    check(sorted(page.script(TEXTS)) == ["#(ps,mine)'", "#(ps,theirs)'"], "both: {}".format(page.script(TEXTS)))
+
+
 def check_lines_ahead(page: Deeds) -> None:
     """A line of input that is given while the run after the last one goes on comes after that; so does the end."""
     for end in False, True:
@@ -487,6 +500,7 @@ def check_question(page: Deeds) -> None:
 
 TRIED = (rows(check_draft, check_opened, check_brought_back, check_many_opened, check_many_typed, check_replaced,
               check_same_time, check_at_once, check_full, check_too_long, check_forgotten, check_saved, check_older,
-              check_typed_before_a_link, check_lines_ahead, check_lines_stopped, check_undo, check_undone, check_question)
+              check_typed_before_a_link, check_lines_ahead, check_lines_stopped, check_raced, check_undo, check_undone,
+              check_question)
          + rows(check_large_files, seconds=10)
          + rows(check_two_tabs, check_early, check_not_ready, given=file_of, seconds=5))
