@@ -50,6 +50,8 @@ export class Editor {
     // whether something was typed since a program was opened, and how that stood in the box
     this.isTouched = false;
     this.asOpened = "";
+    // whether all of that was undone
+    this.isUndone = false;
     /** @type {() => void} what is done before another program stands there, and before all of one is replaced */
     this.leaving = () => {};
     /** @type {() => void} */
@@ -57,8 +59,10 @@ export class Editor {
     /** @type {ReturnType<typeof setTimeout> | undefined} */
     this.later = undefined;
     this.undoing = new Undoing(this);
-    this.box.addEventListener("input", () => {
+    this.box.addEventListener("input", (event) => {
       this.isTouched = true;
+      const isUndo = event instanceof InputEvent && event.inputType === "historyUndo";
+      this.isUndone = isUndo && this.box.value === this.asOpened;
       this.typed();
       changed();
       this.undoing.show();
@@ -66,10 +70,16 @@ export class Editor {
     this.box.addEventListener("beforeinput", (event) => {
       const { box: { selectionStart, selectionEnd, value }, isTouched } = this, { inputType } = event;
       // (Chromium would go on with what was done to the program before this one)
-      const isPast = inputType === "historyUndo" ? value === this.asOpened : inputType === "historyRedo" && !isTouched;
-      if (isPast) event.preventDefault();
+      const isPast = !isTouched || (inputType === "historyUndo" && this.isUndone);
+      if (isPast && inputType.startsWith("history")) event.preventDefault();
+      // (what is composed is chosen as a whole before each sign of it)
+      if (event.isComposing) return;
       const isAll = value !== "" && selectionStart === 0 && selectionEnd === value.length;
       if (isAll && !inputType.startsWith("history")) this.replacing();
+    });
+    this.box.addEventListener("compositionstart", () => {
+      const { selectionStart, selectionEnd, value } = this.box;
+      if (value !== "" && selectionStart === 0 && selectionEnd === value.length) this.replacing();
     });
     this.box.addEventListener("paste", (event) => {
       if (this.pasted(event)) changed();
@@ -132,7 +142,7 @@ export class Editor {
     byId("mend").hidden = !areEnds;
     if (isSame) this.free();
     else this.fix(fixedOf(bytes, wide ? WIDE : areEnds ? TWO_ENDS : NO_TEXT));
-    this.isTouched = false;
+    this.isTouched = this.isUndone = false;
     this.asOpened = this.box.value;
     this.repaint();
     this.frame.scrollTop = 0;

@@ -174,14 +174,15 @@ export class Runs {
     return undefined;
   }
 
-  // The lines that were given for a run that came to nothing, if these are several: they are not to be lost. (One alone
-  // is in its box again.)
+  // The lines that were given for a run that came to nothing: they are not to be lost.
   /** @param {Begin | null} began */
   untaken(began) {
     const known = this.page.run?.inputs ?? [];
-    const lost = (began?.inputs ?? []).filter((line) => !known.includes(line));
+    const isKnown = (/** @type {import("./run.js").Line} */ { step, bytes }) =>
+      known.some((line) => line.step === step && isEqual(line.bytes, bytes));
+    const lost = (began?.inputs ?? []).filter((line) => !isKnown(line));
     const told = lost.map(({ bytes }) => legible(new TextDecoder().decode(bytes).trimEnd()));
-    return told.length > 1 ? ` Lines that were not taken: ${told.join("; ")}.` : "";
+    return told.length > 0 ? ` Not taken: ${told.join("; ")}.` : "";
   }
 
   // Shows the run before, after words that say why there is no other, or nothing.
