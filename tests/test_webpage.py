@@ -22,7 +22,7 @@ GROUPS = (anew, answers, by_keys, colours, course, editing, folding, given, keep
           zoom)
 PAGE = os.path.realpath(os.environ.get("TRAC_PAGE") or TOP / "release" / "trac.html")
 # Where rows stand, and what there is no row.
-FOLDER, SHARED = os.fspath(TESTS / "webpage"), {"pages.py", "lending.py", "rows.py", "seen.py", "names.py"}
+FOLDER, SHARED = os.fspath(TESTS / "webpage"), {"pages.py", "lending.py", "rows.py", "seen.py", "names.py", "tabs.py"}
 # The most bytes that the page has.
 MOST_BYTES = 700_000
 

@@ -82,8 +82,8 @@ export class Course {
   /** @param {string} name @param {string} text */
   program(name, text) {
     const frame = make("div", "program");
-    const opens = async () => this.page.open(name, new TextEncoder().encode(text));
-    const open = buttonOf(`Open ${name}`, () => inTurn(opens));
+    const opens = async () => this.page.open({ name, bytes: new TextEncoder().encode(text) });
+    const open = buttonOf(`Open ${name}`, () => inTurn(this.page, opens));
     frame.append(make("pre", "block", text.replace(/\n$/, "")), open);
     return frame;
   }

@@ -1,231 +1,205 @@
-// What this browser keeps for the next time: the program in the editor with its name, and the looks. Where it keeps
-// nothing, the page goes on without.
+// What is typed is kept in an entry of its own (works.js), soon after it was typed, and before anything else comes in
+// its place. So whatever is opened then, it is there still.
 import { textOf } from "./bytes.js";
+import { byId } from "./elements.js";
+import { ask } from "./question.js";
+import { keepText, kept } from "./stored.js";
+import {
+  countOfEntries, entries, entryOf, forgetEntry, isRaced, MOST_WORKS, noteReplaced, standOf, takeOlder, writeEntry,
+} from "./works.js";
+import { legible } from "./unseen.js";
 
-export const DRAFT = "trac.draft", ASIDE = "trac.aside", THEME = "trac.theme";
+// What this tab had last, for when it is loaded anew.
+const TAB = "trac.tab";
 // A longer program is not kept, and it is kept so many milliseconds after it was typed.
 const MOST_DRAFT = 1 << 20;
 const DRAFT_TIME = 250;
-// So many programs are put aside at most, and so many signs of them: there has to be room for what is kept.
-const MOST_ASIDE = 8;
-const MOST_ASIDE_SIGNS = 1 << 21;
 
 /**
  * @typedef {import("./undoing.js").Held} Held
  * @typedef {import("./undoing.js").Work} Work
+ * @typedef {import("./works.js").Kept} Kept
  */
 
-/** @param {string} key */
-export function kept(key) {
-  try {
-    return localStorage.getItem(key);
-  } catch {
-    return null;
-  }
+// What is to be kept of a program; nothing where it is too long, or no text.
+/** @param {Uint8Array} bytes */
+const textToKeep = (bytes) => bytes.length > MOST_DRAFT ? null : textOf(bytes);
+
+// A program of an entry. Whether it is this tab's own: else another tab may have it, too.
+/** @param {Kept} entry @returns {Required<Held>} */
+export function heldOf({ id, raw, name, text, isSaved, isReplaced }, isMine = false) {
+  const work = { isTyped: !isSaved && !isReplaced, isKept: true, place: { id, raw }, isMine };
+  return { name, bytes: new TextEncoder().encode(text), work };
 }
 
-// Keeps a text, or forgets it. Returns whether that was done.
-/** @param {string} key @param {string | null} text */
-export function keepText(key, text) {
-  try {
-    if (text === null) localStorage.removeItem(key);
-    else localStorage.setItem(key, text);
-    return true;
-  } catch {
-    return false;
-  }
-}
-
-// A program as it is kept, but for a note whether its page was left since.
-/** @param {string} name @param {string} text @param {boolean} isTyped */
-const draftOf = (name, text, isTyped) => JSON.stringify({ name, text, isTyped });
-// So too of what is held; nothing where that is too long, or no text.
+// Whether what was typed in a work is neither kept nor saved.
 /** @param {Held} held */
-function draftOfHeld({ name, bytes, work }) {
-  const text = bytes.length > MOST_DRAFT ? null : textOf(bytes);
-  return text === null ? null : draftOf(name, text, work?.isTyped !== false);
-}
-/** @param {string} draft @param {boolean} isLeft */
-const noted = (draft, isLeft) => `${draft.slice(0, -1)},"isLeft":${isLeft}}`;
-/** @param {string | null} kept */
-const bare = (kept) => kept && kept.replace(/,"isLeft":(?:true|false)\}$/, "}");
-
-// What is kept so; nothing where a text is none of a page.
-/** @param {string | null} kept @returns {(Held & { work: Work, isLeft: boolean }) | null} */
-function draftIn(kept) {
-  try {
-    const { name, text, isTyped, isLeft } = JSON.parse(kept ?? "");
-    if (typeof name !== "string" || typeof text !== "string" || text === "") return null;
-    const bytes = new TextEncoder().encode(text);
-    return { name, bytes, work: { isTyped: isTyped !== false }, isLeft: isLeft === true };
-  } catch {
-    return null;
-  }
-}
-
-// The programs that were put aside, each as it is kept, the latest last.
-/** @returns {string[]} */
-function aside() {
-  try {
-    const list = JSON.parse(kept(ASIDE) ?? "").map((/** @type {unknown} */ one) => JSON.stringify(one));
-    return list.filter(draftIn);
-  } catch {
-    return [];
-  }
-}
-
-/** @param {string[]} list */
-function keepAside(list) {
-  return keepText(ASIDE, list.length ? `[${list.join()}]` : null);
+function isAtRisk({ bytes, work }) {
+  if (!work?.isTyped || bytes.length === 0) return false;
+  return !(work.isKept && work.place && standOf(work.place) !== "gone");
 }
 
 export class Draft {
   /** @param {Editor} editor */
   constructor(editor) {
     this.editor = editor;
-    // whether what stands in the editor is kept or saved
-    this.isKept = true;
-    /** @type {string | null} what this page has kept, and the work on that program, unless that is saved too */
-    this.own = null;
-    /** @type {Work | null} */
-    this.work = null;
     /** @type {ReturnType<typeof setTimeout> | 0} */
     this.later = 0;
-    addEventListener("pagehide", () => this.left());
-    // what was typed and is neither saved nor kept is not to be lost, nor is what gave way to another program
+    /** @type {(words: string) => void} what says what is not kept */
+    this.told = () => {};
+    editor.leaving = () => this.leave();
+    editor.replacing = () => this.replace();
+    addEventListener("pagehide", () => this.leave());
+    document.addEventListener("visibilitychange", () => this.leave());
+    // (a page that the browser has set aside, and brings back, has heard of nothing meanwhile)
+    for (const kind of ["storage", "pageshow", "focus"]) addEventListener(kind, () => this.look());
     addEventListener("beforeunload", (event) => {
       this.leave();
-      this.look();
-      if (this.isLost || editor.undoing.typed().some((work) => this.isAtRisk(work))) event.preventDefault();
+      if ([...editor.undoing.held(), editor.held()].some(isAtRisk)) event.preventDefault();
     });
   }
 
-  // The program is another now: it is kept soon.
-  changed() {
-    this.isKept = false;
+  // The program was typed: it is kept soon. (One that was deleted sign by sign was replaced, too.)
+  typed() {
+    if (this.editor.box.value === "") this.replace();
+    Object.assign(this.editor.work, { isTyped: true, isKept: false });
     clearTimeout(this.later);
     this.later = setTimeout(() => this.keep(), DRAFT_TIME);
   }
 
-  typed() {
-    this.editor.work.isTyped = true;
-    this.changed();
-  }
-
-  // What is to be kept soon is kept at once.
-  leave() {
+  // All that stands there gives way to another text: its entry stays, if it has one, and what comes has one of its own.
+  replace() {
     if (this.later) this.keep();
+    const { place, isKept, isMine } = this.editor.work;
+    if (!place || !(isKept || this.editor.box.value === "")) return;
+    if (isMine) noteReplaced(place);
+    this.editor.work = { isTyped: false };
   }
 
-  // Looks whether what this page has kept is there still. (The browser keeps one program: of two pages it may be that
-  // of the other. A page that the browser has set aside, and brings back, has not heard of that.)
+  // What is to be kept soon is kept at once. So is what could not be kept before.
+  leave() {
+    const { work } = this.editor;
+    if (this.later || (work.isTyped && !work.isKept)) this.keep();
+    for (const held of this.editor.undoing.held()) if (held.work?.isTyped && !held.work.isKept) this.keepHeld(held);
+  }
+
+  // Where another page has gone on with the entry of what was typed here, this has another one. So has what gave way to
+  // another program here, if both were written at about the same time.
   look() {
-    if (this.own === null || bare(kept(DRAFT)) === this.own) return;
-    if (this.work === this.editor.work) this.isKept = false;
-    this.own = this.work = null;
-  }
-
-  // The page is left: what it has kept stands nowhere else then, so a page that keeps another in its place takes it
-  // over.
-  left() {
-    this.leave();
-    this.look();
-    if (this.own !== null) keepText(DRAFT, noted(this.own, true));
-    this.putAside();
-  }
-
-  // Whether what stands in the editor was typed and is neither kept nor saved.
-  get isLost() {
-    return !this.isKept && this.editor.work.isTyped && this.editor.bytes().length > 0;
-  }
-
-  // Whether so is what was typed in a work that can be brought back.
-  /** @param {Work | undefined} work */
-  isAtRisk(work) {
-    return work?.isTyped && work !== this.work && !work.aside;
-  }
-
-  // What was typed and would be lost with this page is put aside for the next one. (Browsers ask in no page that nobody
-  // has touched since it was loaded, as one that was reloaded, and some in none at all.) But where nothing is kept any
-  // more, it is not to be.
-  putAside() {
-    if (kept(DRAFT) === null) return;
-    const { editor } = this;
-    const lost = editor.undoing.held().filter(({ work }) => this.isAtRisk(work));
-    if (this.isLost) lost.push(editor.held());
-    if (lost.length === 0) return;
-    let list = aside();
-    for (const held of lost) {
-      const draft = draftOfHeld(held);
-      if (draft === null || !held.work) continue;
-      list = list.filter((one) => one !== draft && one !== held.work?.aside).concat(draft);
-      // (the page may come back)
-      held.work.aside = draft;
+    const { work, undoing } = this.editor;
+    if (work.isTyped && work.isMine && work.place && standOf(work.place) === "other") this.keep();
+    for (const held of undoing.held()) {
+      if (held.work?.isTyped && held.work.isMine && held.work.place && isRaced(held.work.place)) this.keepHeld(held);
     }
-    while (list.length > MOST_ASIDE || list.join().length > MOST_ASIDE_SIGNS) list.shift();
-    const isDone = keepAside(list);
-    for (const { work } of lost) if (work?.aside && !(isDone && list.includes(work.aside))) work.aside = undefined;
   }
 
-  // What was put aside and is kept or saved now is put aside no more.
-  /** @param {Work} work */
-  takeBack(work) {
-    if (work.aside) keepAside(aside().filter((draft) => draft !== work.aside));
-    work.aside = undefined;
-  }
-
-  // Another program is opened in its place. That of a link is not kept before it is changed.
-  /** @param {boolean} isKept */
-  opened(isKept) {
-    this.isKept = true;
-    if (isKept) this.changed();
-  }
-
+  // Keeps what was typed, if that is something.
   keep() {
     clearTimeout(this.later);
     this.later = 0;
-    const { editor } = this;
-    const draft = draftOfHeld(editor.held());
-    const before = kept(DRAFT);
-    this.isKept = draft !== null && keepText(DRAFT, noted(draft, false));
-    if (this.isKept) {
-      if (bare(before) !== this.own) this.takeOver(before);
-      [this.own, this.work] = [draft, editor.work];
-      this.takeBack(editor.work);
-    } else if (this.work === editor.work) {
-      // (what is kept of it is older)
-      this.own = this.work = null;
+    const held = this.editor.held();
+    if (held.bytes.length > 0) this.keepHeld(held);
+    this.remember();
+    this.show(held);
+  }
+
+  /** @param {Held} held */
+  keepHeld({ name, bytes, work }) {
+    const text = textToKeep(bytes);
+    if (!work) return;
+    const entry = text === null ? null : { name, text, time: Date.now(), isSaved: !work.isTyped, isReplaced: false };
+    const place = entry && writeEntry(work.place, entry);
+    work.isKept = place !== null;
+    if (place) Object.assign(work, { place, isMine: true });
+  }
+
+  // Says what is not kept, and why; or that there are many.
+  /** @param {Held} held */
+  show(held) {
+    const count = countOfEntries();
+    const why = textToKeep(held.bytes) === null ? "over 1 MiB, or no text" : "this browser refuses it";
+    const words = isAtRisk(held) ? `not kept (${why}): save it`
+      : count > MOST_WORKS ? `Yours has ${count} programs: save or forget some` : "";
+    if (words && words !== byId("kept-note").textContent) this.told(words);
+    byId("kept-note").textContent = words;
+  }
+
+  // Another program stands there. What was forgotten and is brought back is as if it were typed.
+  opened() {
+    const { work } = this.editor;
+    if (work.isForgotten) Object.assign(work, { isTyped: true, isForgotten: false });
+    this.remember();
+    byId("kept-note").textContent = "";
+    if (isAtRisk(this.editor.held())) this.typed();
+  }
+
+  // This tab remembers its entry, or what was only opened, for when it is loaded anew.
+  remember() {
+    const { name, bytes, work } = /** @type {Required<Held>} */ (this.editor.held());
+    const text = work.place ? "" : textToKeep(bytes);
+    const tab = work.place ? { id: work.place.id, isMine: work.isMine } : { name, text, isTyped: work.isTyped };
+    const isDone = text !== null && keepText(TAB, JSON.stringify(tab), "sessionStorage");
+    if (!isDone) keepText(TAB, null, "sessionStorage");
+  }
+
+  /** @returns {Held | null} */
+  remembered() {
+    try {
+      const { id, isMine, name, text, isTyped } = JSON.parse(kept(TAB, "sessionStorage") ?? "");
+      const entry = typeof id === "string" ? entryOf(id) : null;
+      if (entry) return heldOf(entry, isMine === true);
+      if (typeof name !== "string" || typeof text !== "string") return null;
+      return { name, bytes: new TextEncoder().encode(text), work: { isTyped: isTyped === true } };
+    } catch {
+      return null;
     }
   }
 
-  // What another page has kept and left, and this one has written over, can be brought back.
-  /** @param {string | null} others */
-  takeOver(others) {
-    const draft = draftIn(others);
-    if (draft?.isLeft && draft.work.isTyped) this.editor.undoing.takeOver(draft);
+  // Goes on with what this tab had, or else with what was typed last, if it was not saved or replaced. What someone has
+  // typed before the page was there stays, as a work of its own. Returns whether something stands there.
+  restore() {
+    takeOlder();
+    const { editor } = this;
+    const all = entries(), last = all.find((one) => heldOf(one).work.isTyped) ?? all[0];
+    const held = this.remembered() ?? (last ? heldOf(last) : null);
+    const early = editor.box.value;
+    if (early !== "" && early !== (held && textOf(held.bytes))) {
+      editor.begun();
+      this.typed();
+      this.keep();
+      return true;
+    }
+    if (!held) return false;
+    editor.put(held);
+    this.opened();
+    return true;
+  }
+
+  // Whether another program may be opened: that is asked where what was typed is kept nowhere.
+  async mayGo() {
+    this.leave();
+    const held = this.editor.held(), words = `${legible(held.name)} is not kept by this browser.`;
+    return !isAtRisk(held) || ask(`${words} Open another program in its place?`);
   }
 
   // The program is in a file.
   saved() {
-    this.isKept = true;
-    this.editor.work.isTyped = false;
-    this.takeBack(this.editor.work);
-    if (this.work === this.editor.work) this.own = this.work = null;
+    this.leave();
+    const { work } = this.editor;
+    work.isTyped = false;
+    if (work.place && standOf(work.place) === "same") this.keep();
+    byId("kept-note").textContent = "";
   }
 
-  // Brings back what was kept, if there is something, and offers what was put aside.
-  restore() {
-    const { undoing } = this.editor;
-    for (const one of aside()) {
-      const { name, bytes } = /** @type {Held} */ (draftIn(one));
-      undoing.add(undoing.before, { name, bytes, work: { isTyped: true, aside: one } });
-    }
-    const draft = draftIn(kept(DRAFT));
-    if (!draft) return false;
-    const { name, bytes, work } = draft;
-    this.editor.put(draft);
-    [this.own, this.work] = [draftOf(name, textOf(bytes) ?? "", work.isTyped), work];
-    keepText(DRAFT, noted(this.own, false));
+  // Forgets the entry of what stands there, after a question. Returns whether it did.
+  async forget() {
+    this.leave();
+    const { editor, editor: { name, work } } = this;
+    const words = `Forget ${legible(name)}, as it stands there?${work.isTyped ? " It is in no file." : ""}`;
+    if (!work.place || !await ask(words)) return false;
+    if (work !== editor.work) return false;
+    forgetEntry(work.place);
+    editor.work = { isTyped: false, isForgotten: true };
     return true;
   }
 }

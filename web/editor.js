@@ -47,15 +47,39 @@ export class Editor {
     this.lit = new Map();
     /** @type {Work} the work on what stands there */
     this.work = { isTyped: false };
-    // the text as it was opened
-    this.opened = "";
+    // whether something was typed since a program was opened, and how that stood in the box
+    this.isTouched = false;
+    this.asOpened = "";
+    // whether all of that was undone
+    this.isUndone = false;
+    /** @type {() => void} what is done before another program stands there, and before all of one is replaced */
+    this.leaving = () => {};
+    /** @type {() => void} */
+    this.replacing = () => {};
     /** @type {ReturnType<typeof setTimeout> | undefined} */
     this.later = undefined;
     this.undoing = new Undoing(this);
-    this.box.addEventListener("input", () => {
+    this.box.addEventListener("input", (event) => {
+      this.isTouched = true;
+      const isUndo = event instanceof InputEvent && event.inputType === "historyUndo";
+      this.isUndone = isUndo && this.box.value === this.asOpened;
       this.typed();
       changed();
       this.undoing.show();
+    });
+    this.box.addEventListener("beforeinput", (event) => {
+      const { box: { selectionStart, selectionEnd, value }, isTouched } = this, { inputType } = event;
+      // (Chromium would go on with what was done to the program before this one)
+      const isPast = !isTouched || (inputType === "historyUndo" && this.isUndone);
+      if (isPast && inputType.startsWith("history")) event.preventDefault();
+      // (what is composed is chosen as a whole before each sign of it)
+      if (event.isComposing) return;
+      const isAll = value !== "" && selectionStart === 0 && selectionEnd === value.length;
+      if (isAll && !inputType.startsWith("history")) this.replacing();
+    });
+    this.box.addEventListener("compositionstart", () => {
+      const { selectionStart, selectionEnd, value } = this.box;
+      if (value !== "" && selectionStart === 0 && selectionEnd === value.length) this.replacing();
     });
     this.box.addEventListener("paste", (event) => {
       if (this.pasted(event)) changed();
@@ -89,15 +113,16 @@ export class Editor {
     event.preventDefault();
     const { value, selectionStart, selectionEnd } = this.box;
     const whole = value.slice(0, selectionStart) + text.replaceAll("\r\n", "\n") + value.slice(selectionEnd);
-    this.open(this.name, this.encoded(whole));
+    this.open({ name: this.name, bytes: this.encoded(whole) });
     return true;
   }
 
   // Opens a program in place of what is there, which can be brought back.
-  /** @param {string} name @param {Uint8Array} bytes */
-  open(name, bytes) {
+  /** @param {Held} held */
+  open(held) {
+    this.leaving();
     this.undoing.leave();
-    this.put({ name, bytes });
+    this.put(held);
   }
 
   // Shows a program. What is long, is not UTF-8, has wide lines or line ends of two kinds, is for reading only.
@@ -117,22 +142,24 @@ export class Editor {
     byId("mend").hidden = !areEnds;
     if (isSame) this.free();
     else this.fix(fixedOf(bytes, wide ? WIDE : areEnds ? TWO_ENDS : NO_TEXT));
-    this.opened = this.box.value;
+    this.isTouched = this.isUndone = false;
+    this.asOpened = this.box.value;
     this.repaint();
     this.frame.scrollTop = 0;
     this.undoing.show();
   }
 
-  // Whether nothing was typed since a program was opened.
-  get isAsOpened() {
-    return this.box.value === this.opened;
+  // What stands there was typed before the page was there to hear of it.
+  begun() {
+    this.isTouched = true;
+    this.typed();
   }
 
   // Has one kind of line ends in place of two, so that the program can be edited.
   mend() {
     const text = textOf(this.bytes()) ?? "";
-    this.open(this.name, new TextEncoder().encode(text.replaceAll("\r\n", "\n")));
-    this.work.isTyped = true;
+    const bytes = new TextEncoder().encode(text.replaceAll("\r\n", "\n"));
+    this.open({ name: this.name, bytes, work: { isTyped: true } });
     this.undoing.restored(this.name);
     this.box.focus();
   }
@@ -248,9 +275,7 @@ export class Editor {
   // Shows the part that has a byte in its middle, with what is lit in it.
   /** @param {Fixed} fixed @param {number} number */
   showAround({ bytes, why }, number) {
-    const isOpened = this.isAsOpened;
     this.fix(fixedOf(bytes, why, number));
-    if (isOpened) this.opened = this.box.value;
     this.repaint();
     for (const [name, stretches] of this.lit) this.light(name, stretches, false);
   }

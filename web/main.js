@@ -2,7 +2,7 @@
 import { startAnnouncing } from "./announce.js";
 import { engineOfPage } from "./engine.js";
 import { startLights } from "./lights.js";
-import { keepText, kept, THEME } from "./drafts.js";
+import { keepText, kept, THEME } from "./stored.js";
 import { startChoosing } from "./choosing.js";
 import { byteNear, startSlider, startSwipes } from "./touch.js";
 import { startKeys } from "./keys.js";
@@ -83,7 +83,10 @@ function startPage(page) {
     event.preventDefault();
     const box = byId("input"), line = box.value;
     box.value = "";
-    page.runs.feed(line).then(() => box.focus());
+    page.runs.feed(line).then((isTaken) => {
+      if (!isTaken && box.value === "") box.value = line;
+      box.focus();
+    });
   });
   byId("end-input").addEventListener("click", () => page.runs.endInput());
   // a button that the mouse has pressed is not to be pressed again by the space key
@@ -106,9 +109,10 @@ function startPage(page) {
 engineOfPage(DECIMALS).then(async (engine) => {
   const page = new Page(engine);
   startPage(page);
-  await engine.ready?.catch((fault) => goWithout(page, fault));
   const given = givenToPage();
+  // (what is kept stands there before anything can be typed, though the processor may take long to come)
   welcome(page, given !== null);
+  await engine.ready?.catch((fault) => goWithout(page, fault));
   // (a link to the page of a program says more than that)
   if (given && location.hash.length < 2) await openGiven(page, given);
   else await openAddress(page, location.hash);

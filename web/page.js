@@ -31,7 +31,7 @@ export class Page {
     this.draft = new Draft(this.editor);
     this.editor.undoing.restored = (name) => {
       this.forget();
-      this.draft.changed();
+      this.draft.opened();
       this.announcer.say("ending", `${name} is back.`);
     };
     /** @type {Run | null} the run that is shown */
@@ -41,6 +41,7 @@ export class Page {
     // how often a program was opened, or brought back
     this.opened = 0;
     this.announcer = new Announcer();
+    this.draft.told = (words) => this.announcer.say("note", words);
     this.view = new View(this);
     this.runs = new Runs(this);
     this.cursor = new Cursor(this);
@@ -75,14 +76,13 @@ export class Page {
   }
 
   // Opens a program: its bytes stand in the editor, and what was run before is gone from the page. What stood in the
-  // editor can be brought back. That of a link is not kept for the next time.
-  /** @param {string} name @param {Uint8Array} bytes */
-  open(name, bytes, isKept = true) {
-    this.draft.leave();
-    this.editor.open(name, bytes);
+  // editor can be brought back. That of a link is not remembered for when this tab is loaded anew: the link is.
+  /** @param {import("./undoing.js").Held} held */
+  open(held, isOfLink = false) {
+    this.editor.open(held);
     byId("welcome-about").hidden = true;
     this.forget();
-    this.draft.opened(isKept);
+    if (!isOfLink) this.draft.opened();
     this.announcer.say("ending", `${byId("program-name").textContent} is opened.`);
   }
 

@@ -7,14 +7,18 @@ import { legible } from "./unseen.js";
 
 // The most bytes that a program may have. A longer file is not even read: a tab has no room for any size.
 const MOST_BYTES = 33554432;
+// how often something was asked for
+let asked = 0;
 /** @type {Promise<unknown>} what is opened, up to what was asked for last */
 let opening = Promise.resolve();
 
 // Takes what is to be opened in its turn: so what was asked for last stands in the editor, however long each takes, and
-// what was there can be brought back.
-/** @template Kind @param {() => Promise<Kind>} does @returns {Promise<Kind>} */
-export function inTurn(does) {
-  const done = opening.then(does);
+// what was there can be brought back. Where that is kept nowhere, it is asked first. (A file that is read may never
+// come: it is opened only if nothing else was asked for meanwhile.)
+/** @param {Page} page @param {() => Promise<unknown>} does */
+export function inTurn(page, does) {
+  asked++;
+  const done = opening.then(async () => await page.draft.mayGo() && does());
   opening = done.catch(() => {});
   return done;
 }
@@ -27,13 +31,10 @@ async function openFile(page, file) {
     refuseFile(page, `${legible(file.name)} has ${grouped(file.size)} bytes: ${most}. Nothing is opened.`);
     return;
   }
-  await inTurn(async () => {
-    try {
-      page.open(file.name, new Uint8Array(await file.arrayBuffer()));
-    } catch {
-      refuseFile(page, `${legible(file.name)} cannot be read. Nothing is opened.`);
-    }
-  });
+  const own = ++asked, buffer = await file.arrayBuffer().catch(() => null);
+  if (own !== asked) return;
+  if (buffer) await inTurn(page, async () => page.open({ name: file.name, bytes: new Uint8Array(buffer) }));
+  else refuseFile(page, `${legible(file.name)} cannot be read. Nothing is opened.`);
 }
 
 // Says that a file is not opened.
@@ -106,7 +107,8 @@ export async function openGiven(page, { name, program, input, step, budget }) {
   const [bytes, read] = await Promise.all([program, input].map(unpackedText));
   const inputs = read.length ? [{ step: 0, bytes: read }] : [];
   document.title = `${name}: TRAC`;
-  page.open(name, bytes, false);
+  if (!await page.draft.mayGo()) return;
+  page.open({ name, bytes }, true);
   const wanted = { program: bytes, inputs, isClosed: false, step, budget: budget ?? budgetTo(step) };
   await performTo(page, wanted, "the page");
 }

@@ -8,6 +8,7 @@ import { isLong, measureInTurns, probe, showSoFar, WATCHED } from "./probing.js"
 import { needsEnd } from "./endings.js";
 import { keepFocus } from "./focus.js";
 import { isEqual } from "./judging.js";
+import { legible } from "./unseen.js";
 import { byId, focused } from "./elements.js";
 import { gather } from "./gathering.js";
 import { ask } from "./question.js";
@@ -40,10 +41,15 @@ export class Runs {
     if (page.run?.stand === "waits" && [document.body, held, byId("output")].includes(focused())) byId("input").focus();
   }
 
+  // What is run as it was asked for last: that may go on still. (How far the run before has come is no matter then.)
+  get latest() {
+    return this.began ? { ...this.began, from: undefined } : this.page.shownRun.wanted({});
+  }
+
   // Runs the program that was run with other input, or further.
   /** @param {Partial<Wanted>} changes */
   performAgain(changes) {
-    return this.perform(this.page.shownRun.wanted(changes));
+    return this.perform({ ...this.latest, ...changes });
   }
 
   /**
@@ -162,10 +168,21 @@ export class Runs {
     const partial = words === STOPPED ? this.partial : this.kept;
     this.leave();
     view.busy(false);
-    if (!began || !partial) return this.stay(words);
+    if (!began || !partial) return this.stay(words + this.untaken(began));
     view.showWords(words);
     this.takePartial(began, partial, words);
     return undefined;
+  }
+
+  // The lines that were given for a run that came to nothing: they are not to be lost.
+  /** @param {Begin | null} began */
+  untaken(began) {
+    const known = this.page.run?.inputs ?? [];
+    const isKnown = (/** @type {import("./run.js").Line} */ { step, bytes }) =>
+      known.some((line) => line.step === step && isEqual(line.bytes, bytes));
+    const lost = (began?.inputs ?? []).filter((line) => !isKnown(line));
+    const told = lost.map(({ bytes }) => legible(new TextDecoder().decode(bytes).trimEnd()));
+    return told.length > 0 ? ` Not taken: ${told.join("; ")}.` : "";
   }
 
   // Shows the run before, after words that say why there is no other, or nothing.
@@ -221,12 +238,12 @@ export class Runs {
     if (focused() === byId("output")) byId("ending").querySelector("button")?.focus();
   }
 
-  // The lines of input that stay where other input is given at the cursor: at the end all, else those that the program
-  // has begun to read. It is asked first if others came; nothing if these are to stay.
+  // The lines of input that stay where other input is given at the cursor: at the end all, or while they are run still,
+  // else those that the program has begun to read. It is asked first if others came; nothing if these are to stay.
   /** @param {string} wish */
   async linesBefore(wish) {
     const { shownRun: run, cursor: { step, read } } = this.page;
-    if (step === run.end) return run.inputs;
+    if (this.began || step === run.end) return this.latest.inputs;
     const stay = linesBegun(run.inputs, read - run.program.length);
     const later = laterSaid(countOfLines(run.inputs) - countOfLines(stay), run.isClosed, step);
     const isWanted = !later || await ask(`${later} ${wish}`);
@@ -234,16 +251,21 @@ export class Runs {
   }
 
   // Takes a line of input at the step where the cursor is. It gets the ' that ends it, where it has none and is to be
-  // read up to that.
+  // read up to that. Returns whether it was taken.
   /** @param {string} line */
   async feed(line) {
     const { shownRun: run, cursor: { step } } = this.page;
     const before = await this.linesBefore("Take this line in place of that?");
-    if (!before) return;
+    if (!before) return false;
     const isEnded = needsEnd(run, line);
     const bytes = new TextEncoder().encode(`${line}${isEnded ? "'" : ""}\n`);
-    await this.performAgain({ inputs: [...before, { step, bytes }], isClosed: false });
+    const given = { step, bytes };
+    await this.performAgain({ inputs: [...before, given], isClosed: false });
+    // (it may have been stopped before anything was known of it)
+    const now = this.began ?? this.page.run;
+    if (now && !now.inputs.includes(given)) return false;
     if (isEnded) this.page.view.note("' was put at its end, since it is read up to that");
+    return true;
   }
 
   // Lets more of the program be typed, after its end.
@@ -260,7 +282,7 @@ export class Runs {
   feedEnd(end) {
     const { shownRun: run } = this.page;
     const bytes = new TextEncoder().encode(`${end}\n`);
-    return this.performAgain({ inputs: [...run.inputs, { step: run.end, bytes }], isClosed: false });
+    return this.performAgain({ inputs: [...this.latest.inputs, { step: run.end, bytes }], isClosed: false });
   }
 
   async endInput() {

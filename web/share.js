@@ -29,7 +29,7 @@ function heldByPage(page) {
 // program is opened before that is wanted.
 /** @param {Page} page @param {Linked} held */
 async function openHeld(page, held) {
-  page.open("shared.trac", held.program, false);
+  page.open({ name: "shared.trac", bytes: held.program }, true);
   const { opened } = page;
   if (held.step === null) return;
   const steps = Math.min(held.step, MOST_LINK_STEPS);
@@ -43,12 +43,12 @@ async function openHeld(page, held) {
 export async function openAddress(page, address) {
   if (address.length < 2) return;
   let run = Promise.resolve();
-  await inTurn(async () => {
+  await inTurn(page, async () => {
     try {
       run = openHeld(page, await openedLink(address));
     } catch (fault) {
       if (!(fault instanceof WrongLink)) throw fault;
-      page.open("program.trac", new Uint8Array(0), false);
+      page.open({ name: "program.trac", bytes: new Uint8Array(0) }, true);
       page.view.showWords(fault.message);
       page.announcer.say("ending", fault.message);
     }
@@ -101,7 +101,7 @@ async function copyLink() {
 async function openPasted(page) {
   const box = byId("open-box"), text = byId("paste").value;
   let run = Promise.resolve();
-  await inTurn(async () => {
+  await inTurn(page, async () => {
     try {
       const held = await openedLink(text);
       if (!box.open) return;

@@ -4,6 +4,7 @@ import { bytesOfSigns, textOf } from "./bytes.js";
 import { buttonOf, byId, make, textIn } from "./elements.js";
 import { startList } from "./lists.js";
 import { inTurn } from "./programs.js";
+import { Yours } from "./yours.js";
 
 // What is there at first, and what else is offered beside that.
 const FIRST = "wrong-factorial.trac";
@@ -22,7 +23,7 @@ export class Library {
     /** @type {Program[]} */
     this.programs = JSON.parse(textIn("library-data"));
     const list = byId("library");
-    list.append(new Option("Examples", ""));
+    list.append(new Option("Programs", ""));
     for (const group of new Set(this.programs.map((program) => program.group))) {
       const part = make("optgroup");
       part.label = group;
@@ -34,13 +35,14 @@ export class Library {
       });
       list.append(part);
     }
-    startList(list, (index) => this.open(this.programs[Number(index)]));
+    this.yours = new Yours(page, list);
+    startList(list, (choice) => this.yours.take(choice) || this.open(this.programs[Number(choice)]));
   }
 
   /** @param {Program} program */
   open(program) {
-    inTurn(async () => {
-      this.page.open(program.name, bytesOfSigns(program.text));
+    inTurn(this.page, async () => {
+      this.page.open({ name: program.name, bytes: bytesOfSigns(program.text) });
       this.page.view.showWords(`${program.title}: ${program.line}. Press Run.`);
     });
   }

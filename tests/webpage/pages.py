@@ -160,7 +160,11 @@ def ready(page: Deeds) -> None:
 
 
 # Forgets what the browser keeps of the page, and says whether that was something.
-FORGET = "(() => { const is = localStorage.length > 0; localStorage.clear(); return is; })()"
+FORGET = """(() => {
+  const is = [localStorage, sessionStorage].some((one) => one.length);
+  [localStorage, sessionStorage].forEach((one) => one.clear());
+  return is;
+})()"""
 
 
 @contextlib.contextmanager

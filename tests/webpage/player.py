@@ -98,14 +98,16 @@ def check_input(page: Deeds) -> None:
     for name, yes in (("Ann", None), ("Bob", "no"), ("Bob", "yes")):
         if yes:
             page.go(20)
-        page.script("document.getElementById('input').focus()")
+        page.script("(document.getElementById('input').focus(), document.getElementById('input').select())")
         page.insert(name + "'")
         page.click("document.querySelector('#input-form button')")
         if yes:
             page.until("document.getElementById('question').open", "it asks first")
             page.click("document.getElementById('question-{}')".format(yes))
             page.until("!document.getElementById('question').open", "the question is answered")
-        if yes != "no":
+        if yes == "no":
+            page.until("document.getElementById('input').value === 'Bob\\''", "the line stays")
+        else:
             page.until("document.getElementById('output').textContent.endsWith('Hello {}')".format(name),
                        "it reads " + name)
     page.script("document.getElementById('end-input').click()")
