@@ -62,7 +62,9 @@ made() {
 }
 
 # What release/ says of itself: the sum of a file, or those of the sources.
-in_contents() { [ -f "$release/contents.txt" ] && [ -r "$release/contents.txt" ] && sed -n "$1" "$release/contents.txt"; }
+in_contents() {
+    [ -f "$release/contents.txt" ] && [ -r "$release/contents.txt" ] && sed -n "$1" "$release/contents.txt"
+}
 released_sum() { in_contents "s/^\([0-9a-f]\{64\}\)  $1\$/\1/p"; }
 released_sums() { in_contents '/^[0-9a-f]\{64\}  crates/p'; }
 sum_of() {

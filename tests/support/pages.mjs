@@ -81,6 +81,7 @@ const opened = []
 class Shown {
     constructor(engine) {
         Object.assign(this, { engine, ahead: engine, run: null, isStale: false, editor: { fixed: null }, notes: [] })
+        this.draft = { mayGo: async () => true }
         this.view = { note: (words) => this.notes.push(words) }
         this.cursor = { step: 0, passed: null, visit: async (step) => this.visit(step) }
         this.runs = new Runs(this)
@@ -91,7 +92,7 @@ class Shown {
         return this.run
     }
 
-    open(name, bytes) {
+    open({ name, bytes }) {
         opened.push({ name, bytes })
     }
 
