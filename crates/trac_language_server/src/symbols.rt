@@ -50,7 +50,11 @@ fn symbol_of(
     let len = call_len(after(text, call.place));
     let start = call.moved(text, encoding, call.place.saturating_add(DEFINES.len()));
     let end = start.moved(text, encoding, start.place.saturating_add(name.len()));
-    let whole = end.moved(text, encoding, call.place.saturating_add(len).max(end.place));
+    let whole = end.moved(
+        text,
+        encoding,
+        call.place.saturating_add(len).max(end.place),
+    );
     let range = range_between(alloc, call.position, whole.position)?;
     let selected = range_between(alloc, start.position, end.position)?;
     json!(in alloc; {
