@@ -66,6 +66,10 @@ pub enum Stop {
     ShortArgument(u64, u64),
     /// The call is the idle program's.
     Idle,
+    /// There is no file to read.
+    NoFile,
+    /// No calls have this number, at which it stops.
+    NoBreak,
 }
 
 // What may have been meant if there is no form of a name.
@@ -180,6 +184,8 @@ fn reason(stop: Stop) -> &'static [u8] {
         Stop::NoSuchForm => b"there is no form of this name",
         Stop::NoArgument(_) => b"this call has no argument ",
         Stop::WhichByte(_, _) | Stop::ShortArgument(_, _) => b"argument ",
+        Stop::NoFile => b"this file cannot be read",
+        Stop::NoBreak => b"there is no break of this number; breaks lists them",
         Stop::Idle => b"this call is the idle program's: it is written nowhere in FILE",
     }
 }

@@ -1,5 +1,6 @@
 //! Who replies to the lines of a person.
 
+use crate::programs::Program;
 use crate::replying::Memo;
 use crate::telling::Telling;
 use crate::walks::Walks;
@@ -21,7 +22,7 @@ impl<'p, W: Walks<A>, A: Allocator + Copy> Guide<'p, W, A> {
             telling: Telling {
                 alloc,
                 walker,
-                program,
+                program: Program::Lent(program),
                 recalled: None,
                 out: Vec::new(alloc),
             },

@@ -2,12 +2,14 @@
 //! that of `trac lint`, which looks for doubts, with --lsp that of `trac lsp`, a language server.
 #![tactic(auto)]
 
+mod files;
 mod linting;
 mod naming;
 mod serving;
 
 ghost use Rattle.std.specs.Prelude.{◌≤◌};
 
+use files::Files;
 use linting::lint_by;
 use serving::serve_by;
 use std::alloc::{AllocError, Global};
@@ -17,7 +19,7 @@ use std::{env, io};
 use trac_memory::{Limited, limit_in, tape_in};
 use trac_rules::limit::JOURNAL_LIMIT;
 use trac_streams::{Ending, say};
-use trac_walk::{Settings, walk};
+use trac_walk::{Settings, walk_among};
 use trac_words::help::NOT_TEXT;
 use trac_words::names;
 use trac_words::walk_words::{WalkLine, read_walk_line};
@@ -109,8 +111,9 @@ fn walk_file(rt: &HostRuntime, path: &str, settings: Settings, memory: Option<u6
 {
     let memory = Limited::new(rt.alloc(), limit_in(rt, memory));
     match tape_in(rt, &memory, path) {
-        Ok(tape) => walk(
+        Ok(tape) => walk_among(
             &memory,
+            Files::new(rt, path),
             tape.as_slice(),
             &mut rt.stdin(),
             &mut rt.stdout(),
