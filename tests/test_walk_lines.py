@@ -25,6 +25,7 @@ REFUSED = (
      (b"t x", b"t 0", b"t all", b"t 0 all", b"t 1 x")),
     (b"a call is named by its first arguments, and stands on both sides of |",
      (b"u |", b"u cl |", b"r | cl", b"u cl | | ds", b"break", b"break |")),
+    (b'u set takes NAME; a NAME with blanks stands in quotes: u set "a b"', (b"u set", b"u set a b", b"until set a b")),
     (b"unbreak takes the number of a call that breaks lists", (b"unbreak", b"unbreak x", b"unbreak 1 2")),
     (b"restart takes FILE, or nothing", (b"restart a b",)),
     (b'w takes NAME, set "NAME", #K or "TEXT"', (b"w", b"w a b", b"w #", b"w #x", b"w set a b")),

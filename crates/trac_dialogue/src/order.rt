@@ -195,10 +195,12 @@ fn meant(word: &[u8]) -> &[u8] {
 
 /// What is said of words that ask for nothing, in a line: what their command takes, if it is one.
 pub fn misunderstood(words: &[&[u8]]) -> &'static [u8] {
-    let Some((command, _)) = words.split_first() else {
+    let Some((command, rest)) = words.split_first() else {
         return NOT_UNDERSTOOD;
     };
     match meant(command) {
+        b"u" if matches!(rest, [b"set", ..]) =>
+            b"not understood; u set takes NAME; a NAME with blanks stands in quotes: u set \"a b\"\n",
         b"s" => b"not understood; s takes a number of 12 digits at most, end, or nothing\n",
         b"b" => b"not understood; b takes a number of 12 digits at most, start, or nothing\n",
         b"g" => b"not understood; g takes a number of 12 digits at most\n",
@@ -227,6 +229,7 @@ pub fn misunderstood(words: &[&[u8]]) -> &'static [u8] {
 fn call_move_of<'a>(command: &[u8], calls: Calls<'a>, quoted: bool) -> Option<Move<'a>> {
     match (command, calls.texts) {
         (b"u", [b"set", name]) if !quoted => Some(Move::UntilSet(*name)),
+        (b"u", [b"set", ..]) if !quoted => None,
         (b"u", _) if calls.is_whole() => Some(Move::Until(calls)),
         (b"r", _) if calls.is_whole() => Some(Move::Return(calls)),
         _ => None,

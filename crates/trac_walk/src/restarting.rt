@@ -40,8 +40,9 @@ pub(crate) fn begun<A: Allocator + Copy>(
         return Err(Ending::Memory);
     };
     let mut walker = Walker::new(alloc, input.as_slice(), kept.journal, kept.keep, kept.width)?;
-    if has_ended {
-        walker.end_input();
+    if !has_ended {
+        return Ok(walker);
     }
+    walker.end_input();
     Ok(walker)
 }
