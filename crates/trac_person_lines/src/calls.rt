@@ -28,7 +28,8 @@ pub fn call_into<A: Allocator + Copy>(
     }
 }
 
-/// Puts blanks at the end of a line, so that what follows begins beneath the call of this step in a line of `call_into`.
+/// Puts blanks at the end of a line, so that what follows begins beneath the call of this step in a line of
+/// `call_into`.
 pub fn beneath_into<A: Allocator + Copy>(step: u64, depth: usize, line: &mut ScreenLine<A>) {
     let digits = step.checked_ilog10().unwrap_or(0).saturating_add(1);
     for _ in 0..digits {
@@ -58,8 +59,8 @@ pub enum Gave {
     Refused,
 }
 
-/// Puts what the call gave at the end of a line, and returns it: its value, and whether that is its default argument, or
-/// why it was refused.
+/// Puts what the call gave at the end of a line, and returns it: its value, and whether that is its default argument,
+/// or why it was refused.
 pub fn outcome_into<A: Allocator + Copy>(
     before: Before,
     why: Option<Refusal>,

@@ -11,9 +11,9 @@ use trac_rules::refusal::Refusal;
 const CHANGED: &[u8] = b"FILE has changed, and is read anew\n";
 
 impl<W: Walks<A>, A: Allocator + Copy> Telling<'_, W, A> {
-    /// Begins anew at the first step, over the same input: with the program in the file at this path, or in the same one
-    /// if none is given, as it is now. It says if the program is another one, and where it stands; whether it has begun.
-    /// If it has not, it says why, and nothing is changed. The error is that memory was refused, here and below.
+    /// Begins anew at the first step, over the same input: with the program in the file at this path, or in the same
+    /// one if none is given, as it is now. It says if the program is another one, and where it stands; whether it has
+    /// begun. If it has not, it says why, and nothing is changed. The error is that memory was refused, here and below.
     pub(crate) fn restart(&mut self, path: Option<&[u8]>) -> Result<bool, AllocError> {
         let begun = match self.walker.read_program(self.alloc, path) {
             Ok(None) => self.begin_same(),

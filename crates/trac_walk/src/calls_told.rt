@@ -201,8 +201,8 @@ pub(crate) fn told_way<A: Allocator + Copy>(
     (way, found)
 }
 
-/// Says of the last call on a way from where it had the byte, if that is known only now. The walker stands where the way
-/// ended so, and comes back there.
+/// Says of the last call on a way from where it had the byte, if that is known only now. The walker stands where the
+/// way ended so, and comes back there.
 pub(crate) fn end_way<A: Allocator + Copy>(walker: &mut Walker<A>, way: &mut Way<A>, end: End) {
     if !is_found(end) {
         return;
