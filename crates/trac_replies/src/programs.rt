@@ -14,10 +14,10 @@ pub enum Unread {
 }
 
 /// Who has the programs that a person walks through.
-pub trait Programs<A: Allocator + Copy>: Drop {
-    /// Reads the program anew, from the file at this path, or if none is given from the one that was read last. None if
-    /// there is nothing to read it from: then it is as it was.
-    fn read(&mut self, alloc: A, path: Option<&[u8]>) -> Result<Option<Vec<u8, A>>, Unread>;
+pub trait Programs<A: Allocator + Copy> {
+    /// Reads the program in the file at this path, or if none is given the first one, as that is now. None if it is in
+    /// no file.
+    fn read(&self, alloc: A, path: Option<&[u8]>) -> Result<Option<Vec<u8, A>>, Unread>;
 }
 
 /// One program, which is in no file.
@@ -25,7 +25,7 @@ pub trait Programs<A: Allocator + Copy>: Drop {
 pub struct OneProgram;
 
 impl<A: Allocator + Copy> Programs<A> for OneProgram {
-    fn read(&mut self, _: A, path: Option<&[u8]>) -> Result<Option<Vec<u8, A>>, Unread> {
+    fn read(&self, _: A, path: Option<&[u8]>) -> Result<Option<Vec<u8, A>>, Unread> {
         match path {
             None => Ok(None),
             Some(_) => Err(Unread::NoFile),

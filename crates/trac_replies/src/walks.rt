@@ -76,7 +76,8 @@ pub trait Walks<A: Allocator + Copy>: Sized + Drop {
     /// The doubts of the next step. The error is that memory was refused.
     fn doubts(&self, alloc: A) -> Result<Vec<Doubt, A>, AllocError>;
 
-    /// Reads the program anew, as `Programs::read` says.
+    /// Reads the program anew, from the file at this path, or if none is given from the one that was read last. None if
+    /// there is nothing to read it from: then it is as it was.
     fn read_program(&mut self, alloc: A, path: Option<&[u8]>) -> Result<Option<Vec<u8, A>>, Unread>;
 
     /// Goes to the first step of this program, over the input that was typed so far. What is refused is returned, and

@@ -53,14 +53,14 @@ pub fn walk<R: Read, W: Write, A: Allocator + Copy>(
     ensures unread { result ≡ Ending.Limit → Keeps (R.remaining input.old) (R.remaining input.new) }
     ensures unwritten { result ≡ Ending.Limit → Keeps (W.contents output.old) (W.contents output.new) }
 {
-    walk_among(alloc, OneProgram, tape, input, output, settings)
+    walk_among(alloc, &OneProgram, tape, input, output, settings)
 }
 
 /// The same through a program that is read anew where the person asks for it.
 #[tactic(auto, using(crate::proofs::Ended::for_walk))]
 pub fn walk_among<P: Programs<A>, R: Read, W: Write, A: Allocator + Copy>(
     alloc: A,
-    programs: P,
+    programs: &P,
     tape: &[u8],
     input: &mut R,
     output: &mut W,
@@ -98,7 +98,7 @@ pub fn walk_among<P: Programs<A>, R: Read, W: Write, A: Allocator + Copy>(
 // Replies to a person who walks through this program with a walker that stands at its start.
 fn talk<P: Programs<A>, R: Read, W: Write, A: Allocator + Copy>(
     alloc: A,
-    walked: Walked<P, A>,
+    walked: Walked<'_, P, A>,
     program: &[u8],
     prompt: bool,
     input: &mut R,

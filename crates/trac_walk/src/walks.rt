@@ -18,18 +18,20 @@ use trac_streams::Ending;
 
 /// A walker of which the replies are made.
 #[derive(Drop)]
-pub(crate) struct Walked<P: Programs<A>, A: Allocator + Copy> {
+pub(crate) struct Walked<'w, P: Programs<A>, A: Allocator + Copy> {
     alloc: A,
     walker: Walker<A>,
     // what was typed as input after the program, and whether that has ended
     typed: Vec<u8, A>,
     has_ended: bool,
-    // where the program is read anew
-    programs: P,
+    // where programs are read anew
+    programs: &'w P,
+    // the path of the one that was read last, if that is not the first one
+    path: Option<Vec<u8, A>>,
     kept: Kept,
 }
 
-impl<P: Programs<A>, A: Allocator + Copy> Walked<P, A> {
+impl<'w, P: Programs<A>, A: Allocator + Copy> Walked<'w, P, A> {
     // Runs the program anew up to this step, which is kept no more, and stands there. Returns what was refused on the
     // way, and then nothing is changed.
     fn come_back(&mut self, program: &[u8], step: u64) -> Option<Stop> {
@@ -45,19 +47,36 @@ impl<P: Programs<A>, A: Allocator + Copy> Walked<P, A> {
     }
 
     /// Before anything is typed.
-    pub(crate) fn new(alloc: A, walker: Walker<A>, programs: P, kept: Kept) -> Self {
+    pub(crate) fn new(alloc: A, walker: Walker<A>, programs: &'w P, kept: Kept) -> Self {
         Walked {
             alloc,
             walker,
             typed: Vec::new(alloc),
             has_ended: false,
             programs,
+            path: None,
             kept,
         }
     }
+
+    // Reads the program anew that was read last. A pipe that was read gives nothing more: so a program stays as it was,
+    // if its file is empty now.
+    fn read_again(&self, alloc: A) -> Result<Option<Vec<u8, A>>, Unread> {
+        let path = match &self.path {
+            Some(path) => Some(path.as_slice()),
+            None => None,
+        };
+        let Some(program) = self.programs.read(alloc, path)? else {
+            return Ok(None);
+        };
+        if program.is_empty() {
+            return Ok(None);
+        }
+        Ok(Some(program))
+    }
 }
 
-impl<P: Programs<A>, A: Allocator + Copy> Walks<A> for Walked<P, A> {
+impl<P: Programs<A>, A: Allocator + Copy> Walks<A> for Walked<'_, P, A> {
     type Way = Way<A>;
 
     fn step(&self) -> u64 {
@@ -121,7 +140,15 @@ impl<P: Programs<A>, A: Allocator + Copy> Walks<A> for Walked<P, A> {
         alloc: A,
         path: Option<&[u8]>,
     ) -> Result<Option<Vec<u8, A>>, Unread> {
-        self.programs.read(alloc, path)
+        let Some(path) = path else {
+            return self.read_again(alloc);
+        };
+        let Ok(kept) = Vec::from_slice(alloc, path) else {
+            return Err(Unread::Memory);
+        };
+        let program = self.programs.read(alloc, Some(path))?;
+        self.path = Some(kept);
+        Ok(program)
     }
 
     fn begin_anew(&mut self, alloc: A, program: &[u8]) -> Option<Refusal> {

@@ -5,62 +5,30 @@ use trac_memory::tape_in;
 use trac_streams::Ending;
 use trac_walk::{Programs, Unread};
 
-/// The file that a walk is through, which may become another one.
-#[derive(Drop)]
+/// The files that a walk may be through.
+#[derive(Clone, Copy)]
 pub(crate) struct Files<'r> {
     rt: &'r HostRuntime,
-    // the path that was given at first
+    // the path of the one that it is through at first
     first: &'r str,
-    // the one that was read since then
-    other: Option<String>,
 }
 
 impl<'r> Files<'r> {
-    /// The file at this path.
+    /// At first the file at this path.
     pub(crate) fn new(rt: &'r HostRuntime, path: &'r str) -> Self {
-        Files {
-            rt,
-            first: path,
-            other: None,
-        }
-    }
-
-    // The path of the file that was read last.
-    fn path(&self) -> &str {
-        match &self.other {
-            Some(path) => path.as_str(),
-            None => self.first,
-        }
-    }
-
-    // The path that is given, kept.
-    fn path_given(&self, path: &[u8]) -> Result<String, Unread> {
-        let Ok(path) = str::from_utf8(path) else {
-            return Err(Unread::NoFile);
-        };
-        let mut kept = String::new(self.rt.alloc());
-        match kept.push_str(path) {
-            Ok(()) => Ok(kept),
-            Err(_) => Err(Unread::Memory),
-        }
+        Files { rt, first: path }
     }
 }
 
 impl<A: Allocator + Copy> Programs<A> for Files<'_> {
-    // A pipe that was read gives nothing more: so a program is kept as it was, if its file is empty now.
-    fn read(&mut self, alloc: A, path: Option<&[u8]>) -> Result<Option<Vec<u8, A>>, Unread> {
+    fn read(&self, alloc: A, path: Option<&[u8]>) -> Result<Option<Vec<u8, A>>, Unread> {
         let Some(path) = path else {
-            let program = program_at(self.rt, alloc, self.path())?;
-            return Ok(if program.is_empty() {
-                None
-            } else {
-                Some(program)
-            });
+            return Ok(Some(program_at(self.rt, alloc, self.first)?));
         };
-        let path = self.path_given(path)?;
-        let program = program_at(self.rt, alloc, path.as_str())?;
-        self.other = Some(path);
-        Ok(Some(program))
+        let Ok(path) = str::from_utf8(path) else {
+            return Err(Unread::NoFile);
+        };
+        Ok(Some(program_at(self.rt, alloc, path)?))
     }
 }
 

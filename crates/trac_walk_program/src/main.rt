@@ -113,7 +113,7 @@ fn walk_file(rt: &HostRuntime, path: &str, settings: Settings, memory: Option<u6
     match tape_in(rt, &memory, path) {
         Ok(tape) => walk_among(
             &memory,
-            Files::new(rt, path),
+            &Files::new(rt, path),
             tape.as_slice(),
             &mut rt.stdin(),
             &mut rt.stdout(),
