@@ -16,7 +16,7 @@ from support.terminals import ending_of
 LAUNCHER = TOP / "trac"
 TEXTS = DATA / "texts"
 FIRST = EXAMPLES / "first.trac"
-COMMANDS = "run", "play", "walk", "debug", "lint", "lsp", "page", "course"
+COMMANDS = "run", "play", "walk", "debug", "lint", "lsp", "dap", "page", "course"
 # Texts, and what a run of them prints.
 PRINTED = (
     (FIRST.read_bytes(), b"Hello, world.\n"), (b"AB'", b"AB"), (b"", b""), (b"a#b##c'", b"a#b##c"),
@@ -24,8 +24,9 @@ PRINTED = (
     (b"#(ds,F,abc)#(ss,F,b)#(pf,F)#(cl,F,b)'", b"<^>a<1>cabc"),
 )
 # Commands that there are not, each with the one that was meant.
-NEAR = (("walk", "wlak wak walk\x1b"), ("lint", "lynt linter"), ("lsp", "lps ls lisp Lsp"), ("play", "paly plai"),
-        ("page", "pages"), ("course", "coruse cours"), ("debug", "debgu bug"), ("run", "rnu ru Run"))
+NEAR = (("walk", "wlak wak walk\x1b"), ("lint", "lynt linter"), ("lsp", "lps ls lisp Lsp"), ("dap", "adp dpa"),
+        ("play", "paly plai"), ("page", "pages"), ("course", "coruse cours"), ("debug", "debgu bug"),
+        ("run", "rnu ru Run"))
 # Lines on standard error.
 SPENT, LIMIT, MEMORY = b"trac: budget spent\n", b"trac: limit passed\n", b"trac: no memory\n"
 READ, WRITE = b"trac: read fault\n", b"trac: write fault\n"
@@ -135,7 +136,7 @@ class Texts(Said):
     def test_text(self, name: str) -> None:
         first, *words = (TEXTS / (name + ".words")).read_text(encoding="utf-8").split()
         program: list[Word] = [TOP / "out" / first]
-        if first in ("trac-lint", "trac-lsp"):
+        if first in ("trac-lint", "trac-lsp", "trac-dap"):
             program = [TOP / "out" / "trac-walk", first.replace("trac-", "--")]
         run, wrong = ran([*program, *words]), TEXTS / (name + ".err")
         place = Place(near(wrong if wrong.exists() else TEXTS / (name + ".out")))
@@ -149,7 +150,7 @@ class Texts(Said):
             listed = re.findall("^  ([a-z]+) ", text, re.M)
             self.same("trac {} lists".format(words), "\n".join(listed), "\n".join(COMMANDS))
             self.holds("trac {} has room on one screen".format(words),
-                       text.count("\n") == 13 and max(map(len, text.split("\n"))) <= 80)
+                       text.count("\n") == 14 and max(map(len, text.split("\n"))) <= 80)
         self.ends("without a command", launched(""), b"", 2, launched("--help").output)
 
     def test_help_of_each_command(self) -> None:
@@ -162,7 +163,7 @@ class Texts(Said):
         self.holds("the help of debug has its commands, and no budget",
                    len(re.findall("^  [sbu] .*COUNT", text, re.M)) == 3 and "--budget" not in text)
         self.holds("it names the debugger for a terminal", "trac walk FILE" in text)
-        for name in "walk", "lint", "lsp", "play", "page", "course":
+        for name in "walk", "lint", "lsp", "dap", "play", "page", "course":
             first = usage(launched(name + " --help").output)
             self.is_help("help " + name, first)
             self.holds("the help of {} says how it is used: {!r}".format(name, first),

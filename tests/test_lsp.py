@@ -5,7 +5,8 @@ by hand. All exchanges end by `exit`. Then messages that come in pieces, headers
 for."""
 from __future__ import annotations
 
-from support.cases import DATA, WALK, Case, Place, Ran, each, near, ran, stems, tests
+from support.cases import DATA, Case, each, stems, tests
+from support.exchanges import exchange, framed, is_stored
 
 HERE = DATA / "lsp"
 INVALID = b'{"error":{"code":-32600,"message":"%s"},"id":null,"jsonrpc":"2.0"}'
@@ -18,16 +19,6 @@ HOSTILE = (
 )
 
 
-def framed(message: bytes) -> bytes:
-    """A message in its frame."""
-    return b"Content-Length: %d\r\n\r\n%s" % (len(message), message)
-
-
-def exchange(given: bytes, piece: int = 65536) -> Ran:
-    """What the server does with these bytes, as they come in pieces."""
-    return ran([WALK, "--lsp"], given, piece)
-
-
 @tests
 class Stored(Case):
     """The stored exchanges."""
@@ -36,13 +27,9 @@ class Stored(Case):
 
     @each(stems(HERE, ".in"))
     def test(self, name: str) -> None:
-        given = b"".join(map(framed, (HERE / (name + ".in")).read_bytes().splitlines()))
-        wanted = HERE / (name + ".out")
-        output = b"".join(map(framed, wanted.read_bytes().splitlines()))
-        for piece in 65536, 7:
-            self.ends(name, exchange(given, piece), output, 0, place=Place(near(wanted)))
+        is_stored(self, "lsp", HERE, name)
 
     def test_hostile(self) -> None:
         """Bytes that are no messages, or none that are understood."""
         for given, replies in HOSTILE:
-            self.ends(repr(given), exchange(given), b"".join(map(framed, replies)), 1)
+            self.ends(repr(given), exchange("lsp", given), b"".join(map(framed, replies)), 1)

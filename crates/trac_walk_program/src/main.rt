@@ -1,13 +1,16 @@
 //! The program of `trac walk`: a debugger of TRAC T-64 for a person at a terminal. With the first word --lint it is
-//! that of `trac lint`, which looks for doubts, with --lsp that of `trac lsp`, a language server.
+//! that of `trac lint`, which looks for doubts, with --lsp that of `trac lsp`, a language server, with --dap that of
+//! `trac dap`, a debug adapter.
 #![tactic(auto)]
 
+mod debugging;
 mod linting;
 mod naming;
 mod serving;
 
 ghost use Rattle.std.specs.Prelude.{◌≤◌};
 
+use debugging::debug_by;
 use linting::lint_by;
 use serving::serve_by;
 use std::alloc::{AllocError, Global};
@@ -33,6 +36,9 @@ const LINT: &str = "--lint";
 
 /// The first word that asks for a language server, likewise.
 const LSP: &str = "--lsp";
+
+/// The first word that asks for a debug adapter, likewise.
+const DAP: &str = "--dap";
 
 fn main(rt: HostRuntime) -> ExitCode {
     match env::args(&rt) {
@@ -61,6 +67,7 @@ fn obey_texts(rt: &HostRuntime, words: &[String]) -> Result<ExitCode, AllocError
     match texts.as_slice() {
         [_, first, ..] if *first == LINT => Ok(lint_by(rt, texts.as_slice().split_at(1).1)),
         [_, first, ..] if *first == LSP => Ok(serve_by(rt, texts.split_at(2).1)),
+        [_, first, ..] if *first == DAP => Ok(debug_by(rt, texts.split_at(2).1)),
         texts => walk_by(rt, texts),
     }
 }

@@ -1,0 +1,194 @@
+//! Where a program is to stop.
+
+use crate::messages::{Request, number_at, text_at};
+use serde_json::{Value, json};
+use std::alloc::{AllocError, Allocator, Global};
+use trac_dialogue::{Word, words_of};
+
+/// A line of a file: the next call stops that was written there.
+#[derive(Drop)]
+pub(crate) struct LineBreak {
+    pub(crate) id: u64,
+    pub(crate) path: String,
+    /// Its number, counted from 0.
+    pub(crate) line: u64,
+}
+
+/// A call, by its first arguments.
+#[derive(Drop)]
+pub(crate) struct CallBreak<A: Allocator + Copy> {
+    pub(crate) id: u64,
+    pub(crate) words: Vec<Word<A>, A>,
+}
+
+/// What may be watched.
+#[derive(Drop)]
+pub(crate) enum Watched {
+    /// The form of this name.
+    Form(Vec<u8>),
+    /// The byte of this number of the output, the first being number 1.
+    Printed(u64),
+}
+
+/// A thing that is watched: a change stops.
+#[derive(Drop)]
+pub(crate) struct DataBreak {
+    pub(crate) id: u64,
+    pub(crate) watched: Watched,
+}
+
+/// All places where a program is to stop.
+#[derive(Drop)]
+pub(crate) struct Breakpoints<A: Allocator + Copy> {
+    alloc: A,
+    global: Global,
+    // how many were set so far
+    count: u64,
+    pub(crate) lines: Vec<LineBreak>,
+    pub(crate) calls: Vec<CallBreak<A>, A>,
+    pub(crate) watches: Vec<DataBreak>,
+    /// Whether it stops at each doubtful step.
+    pub(crate) doubts: bool,
+    /// Whether it is an exception that a limit is passed.
+    pub(crate) limit: bool,
+}
+
+// What an identifier of data begins with, before the name of a form.
+const FORM: &str = "form ";
+
+// And before the number of a byte of the output.
+const BYTE: &str = "byte ";
+
+impl<A: Allocator + Copy> Breakpoints<A> {
+    /// None. It takes no memory.
+    pub(crate) fn new(alloc: A, global: Global) -> Self {
+        Breakpoints {
+            alloc,
+            global,
+            count: 0,
+            lines: Vec::new(global),
+            calls: Vec::new(alloc),
+            watches: Vec::new(global),
+            doubts: false,
+            limit: false,
+        }
+    }
+
+    // The number of the next breakpoint.
+    fn number(&mut self) -> u64 {
+        self.count = self.count.saturating_add(1);
+        self.count
+    }
+
+    /// Sets those of the lines of a file, if the first line has this number, in place of those that were set there. The
+    /// body of the response says what became of each. The error is that memory was refused, here and below.
+    pub(crate) fn set_lines(
+        &mut self,
+        request: Request<'_>,
+        first: u64,
+    ) -> Result<Value, AllocError> {
+        let path = request.text("/source/path").unwrap_or("");
+        self.lines.retain(|line| line.path.as_str() != path);
+        let mut set = Vec::new(self.global);
+        for wanted in request.list("/breakpoints") {
+            let line = number_at(wanted, "/line").unwrap_or(first);
+            let id = self.number();
+            self.lines.push(LineBreak {
+                id,
+                path: String::from_str(self.global, path)?,
+                line: line.saturating_sub(first),
+            })?;
+            set.push(json!(in self.global; {"id": id, "verified": true, "line": line})?)?;
+        }
+        self.are_set(set)
+    }
+
+    /// Sets those of calls, in place of all that were set.
+    pub(crate) fn set_calls(&mut self, request: Request<'_>) -> Result<Value, AllocError> {
+        self.calls.clear();
+        let mut set = Vec::new(self.global);
+        for wanted in request.list("/breakpoints") {
+            let name = text_at(wanted, "/name").unwrap_or("");
+            let id = self.number();
+            match words_of(self.alloc, name.as_bytes())? {
+                Some(words) if !words.is_empty() => {
+                    self.calls.push(CallBreak { id, words })?;
+                    set.push(json!(in self.global; {"id": id, "verified": true})?)?;
+                }
+                _ => set.push(self.unset(id, "a call is named by its first arguments")?)?,
+            }
+        }
+        self.are_set(set)
+    }
+
+    /// Sets those of data, in place of all that were set.
+    pub(crate) fn set_watches(&mut self, request: Request<'_>) -> Result<Value, AllocError> {
+        self.watches.clear();
+        let mut set = Vec::new(self.global);
+        for wanted in request.list("/breakpoints") {
+            let id = self.number();
+            match watched_by(self.global, text_at(wanted, "/dataId").unwrap_or(""))? {
+                Some(watched) => {
+                    self.watches.push(DataBreak { id, watched })?;
+                    set.push(json!(in self.global; {"id": id, "verified": true})?)?;
+                }
+                None => set.push(self.unset(id, "there is no such thing to watch")?)?,
+            }
+        }
+        self.are_set(set)
+    }
+
+    /// Sets which exceptions stop, in place of all that were set.
+    pub(crate) fn set_exceptions(&mut self, request: Request<'_>) -> Result<Value, AllocError> {
+        let filters = request.list("/filters");
+        self.doubts = filters.iter().any(|filter| filter.as_str() == Some("doubts"));
+        self.limit = filters.iter().any(|filter| filter.as_str() == Some("limit"));
+        json!(in self.global; {"breakpoints": []})
+    }
+
+    // What became of a breakpoint that is not set.
+    fn unset(&self, id: u64, why: &str) -> Result<Value, AllocError> {
+        json!(in self.global; {"id": id, "verified": false, "message": why})
+    }
+
+    // What became of several.
+    fn are_set(&self, set: Vec<Value>) -> Result<Value, AllocError> {
+        let set = Value::Array(set);
+        json!(in self.global; {"breakpoints": set})
+    }
+
+    /// Whether nothing stops but what cannot go on.
+    pub(crate) fn is_empty(&self) -> bool {
+        self.lines.is_empty() && self.calls.is_empty() && self.watches.is_empty() && !self.doubts
+    }
+}
+
+/// What can be watched of this name: the byte of the output of this number, after `#`, or a form.
+pub(crate) fn watchable(alloc: Global, name: &str) -> Result<Value, AllocError> {
+    let number = name.strip_prefix("#").and_then(|rest| rest.parse::<u64>().ok());
+    let (id, words) = match number {
+        Some(number) => (
+            format!(in alloc; "{BYTE}{number}")?,
+            format!(in alloc; "byte {number} of the output")?,
+        ),
+        None => (
+            format!(in alloc; "{FORM}{name}")?,
+            format!(in alloc; "the form {name}")?,
+        ),
+    };
+    json!(in alloc; {
+        "dataId": id.as_str(),
+        "description": words.as_str(),
+        "accessTypes": ["write"],
+        "canPersist": true
+    })
+}
+
+// What an identifier of data means.
+fn watched_by(alloc: Global, id: &str) -> Result<Option<Watched>, AllocError> {
+    if let Some(name) = id.strip_prefix(FORM) {
+        return Ok(Some(Watched::Form(Vec::from_slice(alloc, name.as_bytes())?)));
+    }
+    let number = id.strip_prefix(BYTE).and_then(|rest| rest.parse::<u64>().ok());
+    Ok(number.map(|number| Watched::Printed(number)))
+}
