@@ -151,7 +151,7 @@ impl<'p, P: Programs<A>, A: Allocator + Copy> Adapter<'p, P, A> {
         let Some(debuggee) = self.debuggee.take() else {
             return outbox.refuse(request, "no program is launched");
         };
-        self.start_as(request, debuggee.launch, outbox)
+        self.start_as(request, debuggee.into_launch(), outbox)
     }
 
     // Launches the program that these arguments ask for.
@@ -246,7 +246,10 @@ impl<'p, P: Programs<A>, A: Allocator + Copy> Adapter<'p, P, A> {
     // Responds to a request about a program that is launched.
     fn show(&mut self, request: Request<'_>, outbox: &mut Outbox) -> Result<(), AllocError> {
         let Some(mut debuggee) = self.debuggee.take() else {
-            return outbox.refuse(request, "no program is launched, or there is no such request");
+            return outbox.refuse(
+                request,
+                "no program is launched, or there is no such request",
+            );
         };
         let shown = self.show_of(&mut debuggee, request, outbox);
         self.debuggee = Some(debuggee);
@@ -278,7 +281,10 @@ impl<'p, P: Programs<A>, A: Allocator + Copy> Adapter<'p, P, A> {
         request: Request<'_>,
         outbox: &mut Outbox,
     ) -> Result<(), AllocError> {
-        outbox.respond(request, json!(in self.global; {"allThreadsContinued": true})?)?;
+        outbox.respond(
+            request,
+            json!(in self.global; {"allThreadsContinued": true})?,
+        )?;
         match moved(debuggee, &self.breakpoints, request)? {
             Some(halt) => self.stop(debuggee, halt, outbox),
             None => Ok(()),

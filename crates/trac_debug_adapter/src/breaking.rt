@@ -14,8 +14,8 @@ use trac_sight::performed_in;
 pub(crate) struct Seen<A: Allocator + Copy> {
     // the form of each watch of one, in their order
     forms: Vec<Option<Form<A>>, A>,
-    // how much was printed
-    printed: u64,
+    /// How much was printed.
+    pub(crate) printed: u64,
 }
 
 // The steps gone back over to find out where calls were written, beside those of a run, are so many at most.
@@ -44,13 +44,11 @@ impl<A: Allocator + Copy> Debuggee<A> {
         copy.transpose().map_err(|_| AllocError)
     }
 
-    /// Why the program is to stop at the call that comes next, if it is. So many steps were gone back over so far to
-    /// find out where calls were written.
+    /// Why the program is to stop at the call that comes next, if it is.
     pub(crate) fn stop_here(
         &mut self,
         breakpoints: &Breakpoints<A>,
         seen: &Seen<A>,
-        work: &mut u64,
     ) -> Option<Halt> {
         if let Some(id) = self.call_met(breakpoints) {
             return Some(Halt::Call(id));
@@ -58,29 +56,30 @@ impl<A: Allocator + Copy> Debuggee<A> {
         if let Some(id) = self.change_met(breakpoints, seen) {
             return Some(Halt::Change(id));
         }
-        if *work > WORK_LIMIT {
+        if self.followed > WORK_LIMIT {
             return Some(Halt::Spent);
         }
-        Some(Halt::Line(self.line_met(breakpoints, work)?))
+        Some(Halt::Line(self.line_met(breakpoints)?))
     }
 
     // The breakpoint of the call that comes next, if it has one.
     fn call_met(&self, breakpoints: &Breakpoints<A>) -> Option<u64> {
         let sight = self.walker.sight();
         let arguments = performed_in(&sight)?;
-        let met = breakpoints.calls.iter().find(|wanted| begin_with(arguments, wanted))?;
+        let met = breakpoints
+            .calls
+            .iter()
+            .find(|wanted| begin_with(arguments, wanted))?;
         Some(met.id)
     }
 
-    // The breakpoint that watches what has changed since this was seen, if there is one.
+    // The breakpoint that watches a form that has changed since this was seen, if there is one.
     fn change_met(&self, breakpoints: &Breakpoints<A>, seen: &Seen<A>) -> Option<u64> {
         let session = &self.walker.window.session;
         for (watch, form) in breakpoints.watches.iter().zip(seen.forms.iter()) {
             let is_changed = match &watch.watched {
                 Watched::Form(name) => session.meets(&Goal::OtherForm(name.as_slice(), form)),
-                Watched::Printed(number) => {
-                    (self.printed() < *number) != (seen.printed < *number)
-                }
+                Watched::Printed(_) => false,
             };
             if is_changed {
                 return Some(watch.id);
@@ -91,14 +90,18 @@ impl<A: Allocator + Copy> Debuggee<A> {
 
     // The breakpoint of the line in which the name of the call that comes next was written, if there is one. It is
     // looked for only if the name stands whole in the line of one.
-    fn line_met(&mut self, breakpoints: &Breakpoints<A>, work: &mut u64) -> Option<u64> {
+    fn line_met(&mut self, breakpoints: &Breakpoints<A>) -> Option<u64> {
         if !self.may_be_in_lines(breakpoints) {
             return None;
         }
         let depth = self.walker.glance().depth;
-        *work = work.saturating_add(self.walker.steps_back() as u64);
-        let number = self.written(depth.checked_sub(1)?)?;
-        let spot = self.spot(number)?;
+        let written = self.written(depth.checked_sub(1)?);
+        self.line_at(breakpoints, written)
+    }
+
+    // The breakpoint of the line where the byte of this number of all input was written, if there is one.
+    fn line_at(&self, breakpoints: &Breakpoints<A>, written: Option<u64>) -> Option<u64> {
+        let spot = self.spot(written)?;
         let met = breakpoints.lines.iter().find(|wanted| {
             wanted.line == spot.position.line && wanted.path.as_str() == spot.path
         })?;
@@ -112,10 +115,10 @@ impl<A: Allocator + Copy> Debuggee<A> {
             return false;
         };
         let name = arguments.get(0);
-        breakpoints
-            .lines
-            .iter()
-            .any(|wanted| memmem::find(self.line(wanted.path.as_str(), wanted.line), name).is_some())
+        breakpoints.lines.iter().any(|wanted| memmem::find(
+            self.line(wanted.path.as_str(), wanted.line),
+            name,
+        ).is_some())
     }
 
     // A line of the program, or of its input; empty, if the path is that of neither.

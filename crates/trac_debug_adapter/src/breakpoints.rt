@@ -141,8 +141,12 @@ impl<A: Allocator + Copy> Breakpoints<A> {
     /// Sets which exceptions stop, in place of all that were set.
     pub(crate) fn set_exceptions(&mut self, request: Request<'_>) -> Result<Value, AllocError> {
         let filters = request.list("/filters");
-        self.doubts = filters.iter().any(|filter| filter.as_str() == Some("doubts"));
-        self.limit = filters.iter().any(|filter| filter.as_str() == Some("limit"));
+        self.doubts = filters
+            .iter()
+            .any(|filter| filter.as_str() == Some("doubts"));
+        self.limit = filters
+            .iter()
+            .any(|filter| filter.as_str() == Some("limit"));
         json!(in self.global; {"breakpoints": []})
     }
 
@@ -157,6 +161,24 @@ impl<A: Allocator + Copy> Breakpoints<A> {
         json!(in self.global; {"breakpoints": set})
     }
 
+    /// Of the bytes of the output that are watched after so many, up to so many, the first or the last: its number, and
+    /// that of its breakpoint.
+    pub(crate) fn byte_between(&self, from: u64, to: u64, is_first: bool) -> Option<(u64, u64)> {
+        let mut found = None;
+        for watch in self.watches.iter() {
+            if let Watched::Printed(number) = watch.watched
+                && from < number
+                && number <= to
+            {
+                found = match found {
+                    Some((other, id)) if (other < number) == is_first => Some((other, id)),
+                    _ => Some((number, watch.id)),
+                };
+            }
+        }
+        found
+    }
+
     /// Whether nothing stops but what cannot go on.
     pub(crate) fn is_empty(&self) -> bool {
         self.lines.is_empty() && self.calls.is_empty() && self.watches.is_empty() && !self.doubts
@@ -165,7 +187,9 @@ impl<A: Allocator + Copy> Breakpoints<A> {
 
 /// What can be watched of this name: the byte of the output of this number, after `#`, or a form.
 pub(crate) fn watchable(alloc: Global, name: &str) -> Result<Value, AllocError> {
-    let number = name.strip_prefix("#").and_then(|rest| rest.parse::<u64>().ok());
+    let number = name
+        .strip_prefix("#")
+        .and_then(|rest| rest.parse::<u64>().ok());
     let (id, words) = match number {
         Some(number) => (
             format!(in alloc; "{BYTE}{number}")?,
@@ -189,6 +213,8 @@ fn watched_by(alloc: Global, id: &str) -> Result<Option<Watched>, AllocError> {
     if let Some(name) = id.strip_prefix(FORM) {
         return Ok(Some(Watched::Form(Vec::from_slice(alloc, name.as_bytes())?)));
     }
-    let number = id.strip_prefix(BYTE).and_then(|rest| rest.parse::<u64>().ok());
+    let number = id
+        .strip_prefix(BYTE)
+        .and_then(|rest| rest.parse::<u64>().ok());
     Ok(number.map(|number| Watched::Printed(number)))
 }

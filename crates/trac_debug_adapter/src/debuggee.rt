@@ -42,6 +42,8 @@ pub(crate) struct Debuggee<A: Allocator + Copy> {
     pub(crate) typed: Vec<u8, A>,
     /// Whether the input has ended.
     pub(crate) has_ended: bool,
+    /// Over how many steps it went back to find out where calls were written.
+    pub(crate) followed: u64,
 }
 
 /// Where something was written.
@@ -81,7 +83,24 @@ impl<A: Allocator + Copy> Debuggee<A> {
             told: 0,
             typed: Vec::new(alloc),
             has_ended: false,
+            followed: 0,
         })
+    }
+
+    /// How it was launched.
+    pub(crate) fn into_launch(self) -> Launch {
+        let Debuggee {
+            alloc: _,
+            walker: _,
+            launch,
+            tape: _,
+            len: _,
+            told: _,
+            typed: _,
+            has_ended: _,
+            followed: _,
+        } = self;
+        launch
     }
 
     /// The program.
@@ -112,13 +131,15 @@ impl<A: Allocator + Copy> Debuggee<A> {
             End::Read(byte) => Some(self.walker.input_number(byte)),
             _ => None,
         };
-        let source = self.walker.step();
-        let _ = self.walker.forward(start.saturating_sub(source));
+        let steps = start.saturating_sub(self.walker.step());
+        self.followed = self.followed.saturating_add(steps);
+        let _ = self.walker.forward(steps);
         read
     }
 
-    /// Where the byte of this number of all input was written; none, if in no file.
-    pub(crate) fn spot(&self, number: u64) -> Option<Spot<'_>> {
+    /// Where the byte of this number of all input was written; none, if in no file, or if there is no number.
+    pub(crate) fn spot(&self, number: Option<u64>) -> Option<Spot<'_>> {
+        let number = number?;
         let program = self.program();
         if number < program.len() as u64 {
             return Some(Spot {

@@ -106,7 +106,13 @@ impl<A: Allocator + Copy> Debuggee<A> {
         };
         let mut rest = lines;
         // It ends where the lines do: whatever became of it, what it wrote is there.
-        let _ = walk(self.alloc, self.tape.as_slice(), &mut rest, &mut said, settings);
+        let _ = walk(
+            self.alloc,
+            self.tape.as_slice(),
+            &mut rest,
+            &mut said,
+            settings,
+        );
         said
     }
 
@@ -174,6 +180,8 @@ fn replied(said: &[u8]) -> (&[u8], Option<u64>) {
     let digits = asked.iter().rev().position(|byte| !byte.is_ascii_digit());
     let start = asked.len().saturating_sub(digits.unwrap_or(asked.len()));
     let (reply, number) = asked.split_at(start.min(asked.len()));
-    let step = str::from_utf8(number).ok().and_then(|number| number.parse::<u64>().ok());
+    let step = str::from_utf8(number)
+        .ok()
+        .and_then(|number| number.parse::<u64>().ok());
     (reply, step)
 }

@@ -80,7 +80,10 @@ impl<A: Allocator + Copy> Debuggee<A> {
             return None;
         }
         let depth = self.walker.glance().depth;
-        let written = depth.checked_sub(1).and_then(|number| self.written(number));
+        let written = match depth.checked_sub(1) {
+            Some(number) => self.written(number),
+            None => None,
+        };
         Some(Piece {
             start,
             end,
@@ -101,7 +104,7 @@ impl<A: Allocator + Copy> Debuggee<A> {
         let end = (piece.end.saturating_sub(released) as usize).min(pending.len());
         let start = (piece.start.saturating_sub(released) as usize).min(end);
         let text = shown(global, pending.split_at(end).0.split_at(start).1)?;
-        let body = match piece.written.and_then(|number| self.spot(number)) {
+        let body = match self.spot(piece.written) {
             None => json!(in global; {"category": "stdout", "output": text.as_str()})?,
             Some(spot) => {
                 let source = source_of(global, spot.path)?;

@@ -28,22 +28,41 @@ impl<A: Allocator + Copy> Debuggee<A> {
     // The same, call by call.
     fn run_to_stop(&mut self, breakpoints: &Breakpoints<A>, seen: &Seen<A>) -> Halt {
         let start = self.walker.step();
-        let mut work = 0;
+        self.followed = 0;
         for _ in 0..BUDGET {
             let here = self.walker.step();
             let left = BUDGET.saturating_sub(here.saturating_sub(start));
             let stopped = self.walker.forward_to(Aim::OwnCall, left);
-            if breakpoints.doubts && self.is_doubtful_since(here) {
-                return Halt::Doubt;
+            if let Some(halt) = self.passed(breakpoints, seen, here) {
+                return halt;
             }
             if let Some(refusal) = stopped {
                 return halt_of(refusal);
             }
-            if let Some(halt) = self.stop_here(breakpoints, seen, &mut work) {
+            if let Some(halt) = self.stop_here(breakpoints, seen) {
                 return halt;
             }
         }
         Halt::Spent
+    }
+
+    // What stops between two calls, of which the walker has passed one at this step: it goes back to it.
+    fn passed(&mut self, breakpoints: &Breakpoints<A>, seen: &Seen<A>, step: u64) -> Option<Halt> {
+        let is_doubtful = breakpoints.doubts && self.is_doubtful_since(step);
+        if let Some((number, id)) = breakpoints.byte_between(seen.printed, self.printed(), true) {
+            self.return_to_byte(number);
+            let _ = self.walker.forward(1);
+            return Some(Halt::Change(id));
+        }
+        is_doubtful.then_some(Halt::Doubt)
+    }
+
+    // Goes back to the call that printed the byte of this number of the output, the first being number 1.
+    fn return_to_byte(&mut self, number: u64) {
+        let before = number
+            .saturating_sub(1)
+            .saturating_sub(self.walker.released());
+        let _ = self.walker.return_to(Aim::Unprinted(before as usize));
     }
 
     // Whether there was a doubt after this step, to which the walker goes back then.
@@ -61,41 +80,64 @@ impl<A: Allocator + Copy> Debuggee<A> {
             return Ok(Halt::First);
         }
         let seen = self.seen(breakpoints)?;
-        let doubtful = if breakpoints.doubts {
-            self.last_doubt()
-        } else {
-            None
-        };
-        Ok(self.run_back_to_stop(breakpoints, &seen, doubtful))
+        let last = self.last_between(breakpoints);
+        Ok(self.run_back_to_stop(breakpoints, &seen, last))
     }
 
-    // The same, call by call; the last doubtful step before here is this.
+    // The same, call by call. The last step before here that stops as none of a call is this, and why.
     fn run_back_to_stop(
         &mut self,
         breakpoints: &Breakpoints<A>,
         seen: &Seen<A>,
-        doubtful: Option<u64>,
+        last: Option<(u64, Halt)>,
     ) -> Halt {
-        let mut work = 0;
+        self.followed = 0;
         for _ in 0..BUDGET {
             let met = self.walker.return_to(Aim::OwnCall).is_none();
             if !met {
                 let _ = self.walker.back(u64::MAX);
             }
-            if let Some(step) = doubtful
+            if let Some((step, halt)) = last
                 && self.walker.step() <= step
             {
                 let _ = self.walker.go_to(step);
-                return Halt::Doubt;
+                return halt;
             }
             if !met {
                 return Halt::First;
             }
-            if let Some(halt) = self.stop_here(breakpoints, seen, &mut work) {
+            if let Some(halt) = self.stop_here(breakpoints, seen) {
                 return halt;
             }
         }
         Halt::Spent
+    }
+
+    // The last step before here that is doubtful or printed a byte that is watched, and why it stops.
+    fn last_between(&mut self, breakpoints: &Breakpoints<A>) -> Option<(u64, Halt)> {
+        let doubtful = if breakpoints.doubts {
+            self.last_doubt()
+        } else {
+            None
+        };
+        let printing = self.last_byte(breakpoints);
+        match (doubtful, printing) {
+            (Some(step), Some((other, id))) if other > step => Some((other, Halt::Change(id))),
+            (Some(step), _) => Some((step, Halt::Doubt)),
+            (None, Some((step, id))) => Some((step, Halt::Change(id))),
+            (None, None) => None,
+        }
+    }
+
+    // The last step before here that printed a byte that is watched, and its breakpoint.
+    fn last_byte(&mut self, breakpoints: &Breakpoints<A>) -> Option<(u64, u64)> {
+        let released = self.walker.released();
+        let (number, id) = breakpoints.byte_between(released, self.printed(), false)?;
+        let here = self.walker.step();
+        self.return_to_byte(number);
+        let step = self.walker.step();
+        let _ = self.walker.go_to(here);
+        (step < here).then_some((step, id))
     }
 
     // The last doubtful step before here, if one is kept.

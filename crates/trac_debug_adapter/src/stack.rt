@@ -46,12 +46,23 @@ impl<A: Allocator + Copy> Debuggee<A> {
         &mut self,
         global: Global,
         number: usize,
+        firsts: (u64, u64),
+    ) -> Result<Value, AllocError> {
+        let written = self.written(number);
+        self.frame_at(global, number, written, firsts)
+    }
+
+    // The same, if the first byte of its name is that of this number of all input.
+    fn frame_at(
+        &self,
+        global: Global,
+        number: usize,
+        written: Option<u64>,
         (first_line, first_column): (u64, u64),
     ) -> Result<Value, AllocError> {
         let name = self.call(global, number)?;
         let id = (number as u64).saturating_add(1);
-        let written = self.written(number);
-        match written.and_then(|number| self.spot(number)) {
+        match self.spot(written) {
             None => json!(in global; {
                 "id": id, "name": name.as_str(), "line": 0, "column": 0, "presentationHint": "subtle"
             }),
@@ -74,7 +85,11 @@ impl<A: Allocator + Copy> Debuggee<A> {
         line.check()?;
         let bytes = line.bytes();
         let call = bytes.split_at(bytes.len().min(LABEL)).1;
-        let blanks = call.iter().rev().position(|byte| *byte != b' ').unwrap_or(0);
+        let blanks = call
+            .iter()
+            .rev()
+            .position(|byte| *byte != b' ')
+            .unwrap_or(0);
         let mut name = shown(global, call.split_at(call.len().saturating_sub(blanks)).0)?;
         if is_innermost && here.performs {
             name.push_str(")")?;

@@ -8,9 +8,13 @@ use trac_person_lines::form_into;
 
 // The numbers by which the editor asks for what is seen; those of arguments are this and the number of the frame.
 const FORMS: u64 = 1;
+
 const BLOCKS: u64 = 2;
+
 const MACHINE: u64 = 3;
+
 const OUTPUT: u64 = 4;
+
 const ARGUMENTS: u64 = 8;
 
 // Of a long text so many bytes are shown, at its front, or at its end if it is the output.
