@@ -16,6 +16,17 @@ def messages_in(file: pathlib.Path) -> bytes:
     return b"".join(map(framed, file.read_bytes().splitlines()))
 
 
+def unframed(text: bytes) -> list[bytes]:
+    """The messages in frames."""
+    found = []
+    while text:
+        head, _, text = text.partition(b"\r\n\r\n")
+        size = int(head.rpartition(b" ")[2])
+        found.append(text[:size])
+        text = text[size:]
+    return found
+
+
 def exchange(server: str, given: bytes, piece: int = 65536) -> Ran:
     """What a server does with these bytes, as they come in pieces."""
     return ran([WALK, "--" + server], given, piece)
