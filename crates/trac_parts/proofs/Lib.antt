@@ -1,5 +1,1 @@
-pub mod Sets
-pub mod Added
-pub mod Stepped
-pub mod Parted
-pub mod Back
+pub mod Through

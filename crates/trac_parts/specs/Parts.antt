@@ -46,3 +46,10 @@ IsPart counting environment [] place leaf = leaf ≡ Left place
 IsPart counting environment (s ∷ earlier) place leaf =
     ((n : ℕ) × (origin environment s place ≡ Read n) × (leaf ≡ OnTape n))
     ⊎ ((q : Place) × IsPartBefore counting environment s place q × IsPart counting environment earlier q leaf)
+
+-- the same over more steps: what the later of them read is a part, and so are the parts over the earlier ones of what is
+-- left by the later ones
+abbrev pub IsPartThrough : Counting → Environment → List State → List State → Place → Leaf → Type 0
+IsPartThrough counting environment later earlier place leaf =
+    ((n : ℕ) × (leaf ≡ OnTape n) × IsPart counting environment later place leaf)
+    ⊎ ((q : Place) × IsPart counting environment later place (Left q) × IsPart counting environment earlier q leaf)

@@ -1,14 +1,11 @@
-//! What a byte is made of: the bytes of the input from which it was carried and calculated. All of it is this project's
-//! profile.
+//! What a byte is made of: definitions, and which bytes of a call's arguments are its operands. All of it is this
+//! project's profile.
 #![tactic(auto)]
 
 pub mod counting;
-mod following;
-mod operands;
-pub mod parts;
+pub mod laws;
+pub mod operands;
 pub mod rows;
-pub mod spots;
 
 pub use counting::Counting;
-pub use parts::{End, Parts, parts};
-pub use spots::{Making, Spot};
+pub use operands::{Operands, operands_of};

@@ -10,15 +10,17 @@ use trac_num::{octal_tail, read_tail};
 use trac_prims::{Args, primitive_named};
 use trac_rules::primitive::{Computation, FormAction, FormReading, Primitive};
 
-// How many bytes at the end of argument 1 and of argument 2 are operands.
+/// How many bytes at the end of argument 1 and of argument 2 are operands of a call.
 #[derive(Clone, Copy)]
-pub(crate) struct Operands {
+pub struct Operands {
+    /// Of argument 1.
     pub first: usize,
+    /// Of argument 2.
     pub second: usize,
 }
 
-// Those of a call with these arguments.
-pub(crate) fn operands_of(arguments: &Args<'_>) -> Operands
+/// The operands of a call with these arguments, its name first. It takes time for these arguments.
+pub fn operands_of(arguments: &Args<'_>) -> Operands
     ensures { result ≡ operands (primitive_of (argument 0 arguments.now))
         (argument 1 arguments.now) (argument 2 arguments.now) }
 {
