@@ -1,5 +1,5 @@
 """What a byte is made of: the model with each byte carrying the places of FILE that are its parts. It is written from
-the definition in words (crates/trac_parts/README.md), and shares nothing with trac."""
+the definition in words (crates/trac_parts), and shares nothing with trac."""
 from __future__ import annotations
 
 from collections.abc import Iterable
@@ -71,7 +71,7 @@ class Parted(Machine):
 
 
 def lines(tape: bytes, choices: bool, steps: int) -> list[str]:
-    """For each byte of the output after at most so many steps the numbers of the bytes of the tape that are parts of it."""
+    """For each byte that at most so many steps print, the numbers of the bytes of the tape that are its parts."""
     model = Parted(tape, choices)
     model.run(steps)
     return [" ".join(map(str, sorted(parts))) for _, parts in model.output]

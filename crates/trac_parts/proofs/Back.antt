@@ -22,10 +22,8 @@ use Rattle.trac_parts.specs.Following.{IsBefore, IsStep}
 use Rattle.trac_parts.specs.Found.{AreAllParts, AreParts, IsEnd, IsFound}
 use Rattle.trac_parts.specs.Parts.{IsPart, Leaf}
 use Rattle.trac_parts.specs.Spots.{AreSpots, spot_place}
+use Rattle.trac_parts.proofs.Sets.{if_and_if}
 use Rattle.trac_parts.proofs.Parted.{IsAhead, first_ahead, last_ahead, step_on}
-
-if_and_if : {A B C : Type 0} → A ↔ B → B ↔ C → A ↔ C
-if_and_if ab bc = (λ a. bc.0 (ab.0 a), λ c. ab.1 (bc.1 c))
 
 -- what is known on the way of a session whose states are steps of one another
 pub record Stood {A : Type 0} (counting : Counting) (old cur : PlainSession) (place : Place) (steps : ℕ) (spots : Spots A) : Type 0 where

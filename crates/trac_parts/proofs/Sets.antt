@@ -1,5 +1,6 @@
 -- Things that hold of one of a list.
 use Rattle.std.proofs.Common.{◌≡◌, ◌⊎◌, ℕ, zero, suc, ◌<◌, List, [], ◌∷◌, ◌++◌, length, get_or, inl, inr, refl, sym, subst, ⊎_elim, arith}
+use Rattle.std.specs.Prelude.{◌↔◌}
 use Rattle.std.specs.List.{All}
 use Rattle.std.proofs.lemmas.List.Elements.{All-nil, All-cons, All-head, All-tail}
 use Rattle.trac_parts.specs.Spots.{OneOf}
@@ -52,3 +53,8 @@ all_front P (x ∷ xs) ys all = All-cons P x xs (All-head P x (xs ++ ys) all) (a
 pub all_last : {X : Type 0} (P : X → Type 0) (xs : List X) (x : X) → All P (xs ++ x ∷ []) → P x
 all_last P [] x all = All-head P x [] all
 all_last P (y ∷ xs) x all = all_last P xs x (All-tail P y (xs ++ x ∷ []) all)
+
+-- ---- both ways
+
+pub if_and_if : {A B C : Type 0} → A ↔ B → B ↔ C → A ↔ C
+if_and_if ab bc = (λ a. bc.0 (ab.0 a), λ c. ab.1 (bc.1 c))

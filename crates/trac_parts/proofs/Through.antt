@@ -1,5 +1,5 @@
 -- Parts over some steps, and over more.
-use Rattle.std.proofs.Common.{◌≡◌, ◌⊎◌, ℕ, List, [], ◌∷◌, ◌++◌, inl, inr, refl, sym, subst, ◌∙◌, ⊎_elim, true, false}
+use Rattle.std.proofs.Common.{◌≡◌, ℕ, List, [], ◌∷◌, ◌++◌, inl, inr, refl, sym, subst, ◌∙◌, ⊎_elim, true, false}
 use Rattle.trac_rules.specs.State.{Environment, State}
 use Rattle.trac_origins.specs.Places.{Place, Origin, Carried, Read, Made}
 use Rattle.trac_origins.specs.Stepping.{origin}

@@ -51,5 +51,5 @@ IsAmong o function arguments q = IsAtEnd function 1 o.first (argument 1 argument
 -- the step from a state performs a call, of whose operands a place is one
 abbrev pub IsOperand : State → Place → Type 0
 IsOperand s q = (call : Call) × (scan s ≡ Calls call)
-    × IsAmong (operands (primitive_of (argument 0 call.arguments)) (argument 1 call.arguments) (argument 2 call.arguments))
-    (length call.state.frames) call.arguments q
+    × IsAmong (operands (primitive_of (argument 0 call.arguments)) (argument 1 call.arguments)
+    (argument 2 call.arguments)) (length call.state.frames) call.arguments q

@@ -16,13 +16,13 @@ abbrev pub is_of_operands : Place → Bool
 is_of_operands (InArgument function k i) = nat_le k 2
 is_of_operands place = false
 
--- whether the step's call passed a byte on, from there, where its operands choose what is passed on; and choices count
+-- whether choices count, and the step's call passed a byte on from there, where its operands choose what is passed on
 abbrev pub is_chosen : Counting → State → Place → Place → Bool
 is_chosen Data s here there = false
 is_chosen DataAndChoices s here there = is_passed s here there && not (is_of_operands there)
 
--- a place before the step is a part of what stands here after it, which has this origin: it was carried from that place;
--- or that is an operand of the call that made it, as its value, or, if choices count, of the one that chose it
+-- a place before the step is a part of what stands here after it, which has this origin: it was carried from there; or
+-- that place is an operand of the call that made it, as its value, or, if choices count, of the one that chose it
 abbrev pub IsPartBy : Counting → State → Place → Origin → Place → Type 0
 IsPartBy counting s here (Carried there) q = (q ≡ there) ⊎ ((is_chosen counting s here there ≡ true) × IsOperand s q)
 IsPartBy counting s here (Read n) q = ⊥
@@ -38,17 +38,17 @@ pub data Leaf : Type 0 where
   OnTape : ℕ → Leaf
   Left : Place → Leaf
 
--- of what stands at a place after the steps from these states, the newest first: a byte of the tape is a part of it if the
--- last step read it there. What is a part, over the steps before, of a part of it before the last step is a part of it.
--- Over no steps it is itself what is left
+-- of what stands at a place after the steps from these states, the newest first: a byte of the tape is a part of it if
+-- the last step read it there. So is what is a part, over the steps before, of a part of it before the last step. Over
+-- no steps it is itself what is left
 abbrev pub IsPart : Counting → Environment → List State → Place → Leaf → Type 0
 IsPart counting environment [] place leaf = leaf ≡ Left place
 IsPart counting environment (s ∷ earlier) place leaf =
     ((n : ℕ) × (origin environment s place ≡ Read n) × (leaf ≡ OnTape n))
     ⊎ ((q : Place) × IsPartBefore counting environment s place q × IsPart counting environment earlier q leaf)
 
--- the same over more steps: what the later of them read is a part, and so are the parts over the earlier ones of what is
--- left by the later ones
+-- the same over more steps: what the later of them read is a part, and so are the parts, over the earlier ones, of what
+-- the later ones leave
 abbrev pub IsPartThrough : Counting → Environment → List State → List State → Place → Leaf → Type 0
 IsPartThrough counting environment later earlier place leaf =
     ((n : ℕ) × (leaf ≡ OnTape n) × IsPart counting environment later place leaf)

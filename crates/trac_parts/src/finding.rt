@@ -48,7 +48,6 @@ pub struct PartsFound<A: Allocator> {
 ///
 /// It takes memory for the places that it follows, with the names of their forms, and for what it finds. If that is
 /// refused, it ends as `End::Memory`.
-#[tactic(none)]
 pub fn find_parts<A: Allocator + Copy>(
     alloc: A,
     session: &mut Session<A>,
@@ -91,7 +90,6 @@ pub fn find_parts<A: Allocator + Copy>(
 }
 
 // What the caller is given at the end: each byte of the tape once.
-#[tactic(none)]
 fn found<A: Allocator>(steps: u64, spots: Spots<A>) -> PartsFound<A>
     ensures steps { result.steps ≡ steps }
     ensures end { result.end ≡ Whole }

@@ -41,7 +41,6 @@ pub(crate) struct Seen {
 }
 
 // A place after a step, with what is known of it, goes to its parts before the step, which a machine shows.
-#[tactic(none)]
 fn follow_spot<E: TwoEnds<u8, A>, M: TwoEnds<Mark, A>, A: Allocator + Copy>(
     alloc: A,
     machine: &Core<E, M, A>,
@@ -78,7 +77,6 @@ fn follow_spot<E: TwoEnds<u8, A>, M: TwoEnds<Mark, A>, A: Allocator + Copy>(
 }
 
 // The parts of what stands here after the step, by its origin.
-#[tactic(none)]
 fn add_parts<E: TwoEnds<u8, A>, M: TwoEnds<Mark, A>, A: Allocator + Copy>(
     alloc: A,
     machine: &Core<E, M, A>,
@@ -166,7 +164,6 @@ fn is_chosen<E: TwoEnds<u8, A>, M: TwoEnds<Mark, A>, A: Allocator + Copy>(
 }
 
 // A place before the step is followed.
-#[tactic(none)]
 fn add_place<E: TwoEnds<u8, A>, M: TwoEnds<Mark, A>, A: Allocator + Copy>(
     alloc: A,
     machine: &Core<E, M, A>,
@@ -201,7 +198,6 @@ pub(crate) struct End {
 }
 
 // They are followed.
-#[tactic(none)]
 fn add_end<E: TwoEnds<u8, A>, M: TwoEnds<Mark, A>, A: Allocator + Copy>(
     alloc: A,
     machine: &Core<E, M, A>,
@@ -227,7 +223,6 @@ fn add_end<E: TwoEnds<u8, A>, M: TwoEnds<Mark, A>, A: Allocator + Copy>(
 }
 
 // The operands of the next call are followed, if there is one.
-#[tactic(none)]
 fn add_operands<E: TwoEnds<u8, A>, M: TwoEnds<Mark, A>, A: Allocator + Copy>(
     alloc: A,
     machine: &Core<E, M, A>,
@@ -316,7 +311,6 @@ fn measured_in<E: TwoEnds<u8, A>, M: TwoEnds<Mark, A>, A: Allocator + Copy>(
 
 // The parts before a step, which a machine shows, of what stands at all places that are kept; all others stay, as they
 // stand before it.
-#[tactic(none)]
 pub(crate) fn before_step<E: TwoEnds<u8, A>, M: TwoEnds<Mark, A>, A: Allocator + Copy>(
     alloc: A,
     machine: &Core<E, M, A>,

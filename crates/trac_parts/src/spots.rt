@@ -141,7 +141,6 @@ pub(crate) struct Spots<A: Allocator> {
 }
 
 // Whether a place is told to be among those of some spots.
-#[tactic(none)]
 fn has_place<A: Allocator>(spots: &[Spot<A>], place: Place<'_>) -> bool
     ensures { IsTrue result → IsPlaceOf spots.now (place_of place.entry) }
 {
@@ -154,7 +153,6 @@ fn has_place<A: Allocator>(spots: &[Spot<A>], place: Place<'_>) -> bool
 }
 
 // Puts the fresh ones among the others, each place once.
-#[tactic(none)]
 pub(crate) fn merge<A: Allocator>(spots: &mut Spots<A>) -> Result<(), AllocError>
     ensures places { OnOk result ((q : SeenPlace) → HasPlace spots.old q ↔ HasPlace spots.new q) }
     ensures known { OnOk result ((s : State) → AreSpots s spots.old → AreSpots s spots.new) }
