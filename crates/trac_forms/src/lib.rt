@@ -8,6 +8,7 @@ pub mod cut;
 pub mod error;
 mod filling;
 pub mod form;
+mod hints;
 mod name;
 mod packing;
 pub mod piece;

@@ -25,6 +25,7 @@ use crate::block::Block;
 use crate::cut::Cut;
 use crate::error::FormError;
 use crate::form::Form;
+use crate::hints::{Hints, place_of};
 use crate::name::Name;
 use indexmap::IndexMap;
 use std::alloc::{Allocator, Global};
@@ -46,6 +47,7 @@ pub(crate) type Table<A> = IndexMap<Name<A>, Option<Form<A>>, BuildHasherDefault
 #[derive(Drop)]
 pub struct Store<A: Allocator + Copy = Global> {
     pub(crate) table: Table<A>,
+    hints: Hints,
     // How many entries have a form: a commit then looks at no name that stays.
     live: usize,
     // How many entries are of recent names.
@@ -73,6 +75,7 @@ impl<A: Allocator + Copy> Store<A> {
     {
         Store {
             table: IndexMap::new(alloc),
+            hints: Hints::new(),
             live: 0,
             recent: 0,
             blocks: Vec::new(alloc),
@@ -114,7 +117,8 @@ impl<A: Allocator + Copy> Store<A> {
         // The name of each form is known.
         ensures known { KnowsAll self.now.known self.now.forms }
     {
-        let form = self.table.get(name)?.as_ref()?;
+        let place = place_of(&self.table, &self.hints, name)?;
+        let form = self.table[place].as_ref()?;
         // For the clause `sound`: what is true of the items of every form.
         let _ = &form.items;
         Some(form)
@@ -144,7 +148,7 @@ impl<A: Allocator + Copy> Store<A> {
         // Of a name that is known already nothing is asked of the allocator.
         ensures again { IsTrue (set.contains self.old.known name.now) → IsOk result }
     {
-        know_at(&mut self.table, &mut self.recent, name)?;
+        know_at(&mut self.table, &self.hints, &mut self.recent, name)?;
         Ok(())
     }
 
@@ -158,7 +162,7 @@ impl<A: Allocator + Copy> Store<A> {
           recent = set.insert self.old.recent name.now;
         } }
     {
-        let i = self.table.get_index_of(name)?;
+        let i = place_of(&self.table, &self.hints, name)?;
         let place = make_recent(&mut self.table, &mut self.recent, i);
         put_at(&mut self.table, &mut self.live, place, form)
     }
@@ -179,7 +183,7 @@ impl<A: Allocator + Copy> Store<A> {
         // Of a name that is known already nothing is asked of the allocator.
         ensures again { IsTrue (set.contains self.old.known name.now) → IsOk result }
     {
-        let place = know_at(&mut self.table, &mut self.recent, name)?;
+        let place = know_at(&mut self.table, &self.hints, &mut self.recent, name)?;
         Ok(put_at(&mut self.table, &mut self.live, place, form))
     }
 
@@ -188,7 +192,7 @@ impl<A: Allocator + Copy> Store<A> {
         ensures taken { result ≡ finite.get self.old.forms name.now }
         ensures gone { self.new ≡ record self.old { forms = finite.remove self.old.forms name.now } }
     {
-        match self.table.get_index_of(name) {
+        match place_of(&self.table, &self.hints, name) {
             Some(i) => take_at(&mut self.table, &mut self.live, i),
             None => return None,
         }
@@ -202,7 +206,7 @@ impl<A: Allocator + Copy> Store<A> {
           forms = changed_at name.now (λ form. pointed_at place (all_items form)) self.old.forms;
         } }
     {
-        let i = self.table.get_index_of(name)?;
+        let i = place_of(&self.table, &self.hints, name)?;
         point_at(&mut self.table, i, place)
     }
 
@@ -216,7 +220,7 @@ impl<A: Allocator + Copy> Store<A> {
           forms = changed_at name.now (λ form. segmented (T.texts texts.now) form) self.old.forms;
         } }
     {
-        let i = self.table.get_index_of(name)?;
+        let i = place_of(&self.table, &self.hints, name)?;
         segment_at(&mut self.table, i, cut, texts)
     }
 
@@ -230,7 +234,7 @@ impl<A: Allocator + Copy> Store<A> {
           forms = changed_at name.now (λ form. unsegmented (T.texts texts.now) cut pointer form) self.old.forms;
         } }
     {
-        let Some(i) = self.table.get_index_of(name) else {
+        let Some(i) = place_of(&self.table, &self.hints, name) else {
             return;
         };
         unsegment_at(&mut self.table, i, cut, texts, pointer);
@@ -355,6 +359,7 @@ fn add_name<A: Allocator + Copy>(table: &mut Table<A>, name: &[u8]) -> Result<()
 // The place of the entry of this name, which is recent then. A name that has no entry gets one without a form.
 fn know_at<A: Allocator + Copy>(
     table: &mut Table<A>,
+    hints: &Hints,
     recent: &mut usize,
     name: &[u8],
 ) -> Result<usize, FormError>
@@ -370,7 +375,7 @@ fn know_at<A: Allocator + Copy>(
     ensures again { IsTrue (is_some (get_by (λ k. bytes_eq name.now k) table.old)) → IsOk result }
 {
     // A known name is looked up once, and a new one twice.
-    if let Some(i) = table.get_index_of(name) {
+    if let Some(i) = place_of(table, hints, name) {
         return Ok(make_recent(table, recent, i));
     }
     add_name(table, name)?;
