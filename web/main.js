@@ -1,6 +1,6 @@
 // Begins the page: what buttons, keys, files and the mouse do.
 import { startAnnouncing } from "./announce.js";
-import { engineOfPage } from "./engine.js";
+import { engineOfPage, Stopped } from "./engine.js";
 import { startLights } from "./lights.js";
 import { keepText, kept, THEME } from "./stored.js";
 import { startChoosing } from "./choosing.js";
@@ -112,7 +112,8 @@ engineOfPage(DECIMALS).then(async (engine) => {
   const given = givenToPage();
   // (what is kept stands there before anything can be typed, though the processor may take long to come)
   welcome(page, given !== null);
-  await engine.ready?.catch((fault) => goWithout(page, fault));
+  // (one that was stopped before it was ready is no fault of the browser: the next request begins another)
+  await engine.ready?.catch((fault) => fault instanceof Stopped || goWithout(page, fault));
   // (a link to the page of a program says more than that)
   if (given && location.hash.length < 2) await openGiven(page, given);
   else await openAddress(page, location.hash);

@@ -377,6 +377,10 @@ def check_not_ready(page: Deeds, file: str) -> None:
         page.until(NAME + " === 'hello.trac'", "a program is opened")
         typed(page, "early")
         check(page.script(TEXTS) == ["#(ps,before)'", "#(ps,early)'"], "both are kept: {}".format(page.script(TEXTS)))
+        page.script("for (const _ of [1, 2]) document.getElementById('run').click()")
+        page.rest(500)
+        words = page.script("document.body.innerText")
+        check("not run in this browser" not in words, "who presses Run twice is not told that nothing runs")
 
 
 def check_typed_before_a_link(page: Deeds) -> None:
