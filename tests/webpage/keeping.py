@@ -377,7 +377,7 @@ def check_not_ready(page: Deeds, file: str) -> None:
         page.until(NAME + " === 'hello.trac'", "a program is opened")
         typed(page, "early")
         check(page.script(TEXTS) == ["#(ps,before)'", "#(ps,early)'"], "both are kept: {}".format(page.script(TEXTS)))
-        page.script("for (const _ of [1, 2]) document.getElementById('run').click()")
+        page.script("[1, 2].forEach(() => document.getElementById('run').click())")
         page.rest(500)
         words = page.script("document.body.innerText")
         check("not run in this browser" not in words, "who presses Run twice is not told that nothing runs")
