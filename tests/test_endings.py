@@ -330,11 +330,12 @@ class Endings(Case):
         self.ends("nothing to print", self.redirected('"$1" run >&-'))
         self.ends("no standard error", self.redirected('"$1" run 2>&-', b"AB'"), b"AB")
 
-    @each(TOOLS)
-    def test_tool(self, name: str) -> None:
-        run = ran([TOP / "tools" / name, *TOOLS[name].split()])
-        self.holds("status {} of {}".format(run.status, run.command), run.status in (1, 2))
-        self.holds("a line, and no traceback: {!r}".format(run.error), run.error and b"Traceback" not in run.error)
+    def test_tools(self) -> None:
+        """Those for who changes the code say in a line what is wrong with their words."""
+        for name, words in TOOLS.items():
+            run = ran([TOP / "tools" / name, *words.split()])
+            self.holds("status {} of {}".format(run.status, run.command), run.status in (1, 2))
+            self.holds("a line, and no traceback: {!r}".format(run.error), run.error and b"Traceback" not in run.error)
 
     def test_pipe_that_nobody_reads_any_more(self) -> None:
         ours, theirs = os.pipe()
