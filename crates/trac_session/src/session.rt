@@ -24,7 +24,7 @@ use trac_rules::refusal::Refusal;
 use trac_rules::width::Width;
 use trac_step::{Core, Machine, Mark, Tape};
 
-/// How many bytes a record takes at most for each that it weighs. An item of a form takes 8 bytes in a record and weighs
+/// How many bytes a record takes at most for each that it weighs. An item of a form takes 8 bytes in it, and weighs
 /// one, and lists may have as much room again as they need.
 pub const WEIGHED_BYTES: u64 = 12;
 

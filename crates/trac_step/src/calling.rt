@@ -63,7 +63,7 @@ fn put_printed<A: Allocator>(output: &mut SlidingBuf<u8, A>, printed: &[u8])
 
 impl<E: TwoEnds<u8, A>, M: TwoEnds<Mark, A>, A: Allocator + Copy> Core<E, M, A> {
     // Plans the call of the innermost function: its texts are made, and what becomes of forms and blocks is put in
-    // place of a change that keeps them. Returns where the function begins, and what else is done. Or why it is refused.
+    // place of a change that keeps them. Returns where the function begins and what else is done. Or why it is refused.
     fn planned(
         &self,
         tape: Tape<'_>,
