@@ -67,7 +67,8 @@ def check_stopped(page: Deeds) -> None:
 
 
 def check_before(page: Deeds) -> None:
-    """Where a line of input leads to no end, the run before stays, and is asked over its own input."""
+    """Where a line of input leads to no end, the run before stays, and is asked over its own input. The line is in its
+    box again."""
     page.type(PERHAPS)
     page.run()
     check(page.text("ending") == WAITED, "it waits: " + page.text("ending"))
@@ -83,13 +84,15 @@ def check_before(page: Deeds) -> None:
     })()""")
     give(page, "x'")
     page.until("document.getElementById('ending').textContent.startsWith('The run was stopped')", "it is stopped")
-    check(page.text("ending") == "The run was stopped. The run before is shown. " + WAITED,
+    check(page.text("ending") == "The run was stopped. Not taken: x'. The run before is shown. " + WAITED,
           "it is stopped: " + page.text("ending"))
     check(page.text("output") == "go" and page.script("document.getElementById('given').hidden"),
           "what stays: " + page.text("output"))
     page.until(COUNT + " === '2'", "its calls are listed")
     follow(page, "g", "line 1, column 24")
     check(page.script(LIT) == "23,g", "the byte that is lit: {}".format(page.script(LIT)))
+    check(page.script("document.getElementById('input').value") == "x'", "the line is in its box")
+    page.script("document.getElementById('input').value = ''")
     give(page, "y'")
     page.until("document.getElementById('output').textContent === 'gone'", "it takes another line")
     check(page.text("given") == "Input: y'LF", "what was given: " + page.text("given"))
