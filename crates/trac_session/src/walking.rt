@@ -180,7 +180,7 @@ impl<A: Allocator + Copy> Session<A> {
     /// Goes forward as `forward` does, and stops also after a step after which the records weigh more than `most`
     /// (`Session::weight`). Then no refusal is answered, and fewer than `n` steps may be done. So whoever never goes
     /// back can commit before the records hold much memory.
-    // Inlined into what else a run does, it takes three instructions in a thousand more.
+    // Inlined into what else a run does, it takes more instructions.
     #[inline(never)]
     pub fn forward_within(&mut self, n: u64, most: u64) -> Walk
         ensures { IsWalkWithin most no_goal n self.old result.done result.why self.new }
