@@ -1,8 +1,7 @@
 -- Machines of which forms and blocks alone are changed, and the call at which they stand.
 use Rattle.std.proofs.Common.{◌≡◌, ℕ, List, [], ◌∷◌, refl, sym, ap, ◌∙◌, subst, arith, Bool}
-use Rattle.std.specs.Prelude.{Option, None, Some, IsSomeAnd, Result, Ok, Err, OnOk, OnErr}
+use Rattle.std.specs.Prelude.{Option, None, Some, IsSomeAnd}
 use Rattle.trac_gap.specs.Window.{Window}
-use Rattle.trac_rules.specs.declared.refusal.Refusal.{Refusal}
 use Rattle.trac_rules.specs.declared.scan.Front.TheVariants.{Closing}
 use Rattle.trac_rules.specs.declared.width.Width.{Width}
 use Rattle.trac_rules.specs.Performing.{changed_by}
@@ -40,14 +39,6 @@ module _ {texts : ShownTexts} {store : Stored} {meta : ℕ} {trace : Bool} {posi
   pub no_less_store : AreAmong store.known after.known → AreAmong store.recent after.recent → IsNoLess m (shown_by texts after meta trace position output width)
   no_less_store names recent = subst (λ (n : Shown). IsNoLess n (shown_by texts after meta trace position output width)) view
       (record { width = refl; text = omega arith; marks = omega arith; output = omega arith; names = names; recent = recent })
-
--- ---- forms and blocks are changed, or are refused to
-
--- they are proper then
-pub proper_either : {T : Type 0} (outcome : Result T Refusal) (before after made : Storage) → OnOk outcome (after ≡ made) → OnErr outcome (after ≡ before) →
-    IsProperStorage before → IsProperStorage made → IsProperStorage after
-proper_either (Ok t) before after made done same proper proper_made = subst IsProperStorage (sym done) proper_made
-proper_either (Err e) before after made done same proper proper_made = subst IsProperStorage (sym same) proper
 
 -- ---- forms and blocks before
 
