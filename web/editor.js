@@ -1,7 +1,7 @@
 // The program: a box of text over the same text, on which places are lit. Bytes are the truth: what the box cannot give
 // back as it was is shown for reading only.
 import { grouped, textOf } from "./bytes.js";
-import { fixedOf, isWide, unitOfFixed } from "./fixed.js";
+import { fixedOf, isOfWide, unitOfFixed, whyWide } from "./fixed.js";
 import { setLight } from "./lights.js";
 import { isLong, Paint, pairAround } from "./paint.js";
 import { byId, focused } from "./elements.js";
@@ -14,7 +14,6 @@ const MOST_EDITED = 1 << 21;
 // Why a program is for reading only.
 const NO_TEXT = "it has bytes that are no text";
 const TWO_ENDS = "its line ends are of two kinds, CR LF and LF";
-const WIDE = "a line is too long for signs that join";
 
 /**
  * A stretch of a program: from a byte to before another.
@@ -28,7 +27,7 @@ const WIDE = "a line is too long for signs that join";
  * Whether a text is more than a box can hold for writing.
  * @param {string} text
  */
-const isTooMuch = (text) => text.length > MOST_EDITED || isWide(text);
+const isTooMuch = (text) => text.length > MOST_EDITED || whyWide(text) !== null;
 
 export class Editor {
   /** @param {() => void} changed */
@@ -98,21 +97,21 @@ export class Editor {
   typed() {
     clearTimeout(this.later);
     const { name, work, box: { value } } = this;
-    if (value.length > MOST_EDITED) return this.put({ name, bytes: this.encoded(value), work });
+    if (isTooMuch(value)) return this.put({ name, bytes: this.encoded(value), work });
     if (this.fixed) this.free();
     if (!isLong(value)) this.repaint();
     else this.later = setTimeout(() => this.repaint(), 150);
     return undefined;
   }
 
-  // A long or wide text that is pasted never comes into the box. Whether it was one.
+  // What is pasted never comes into the box if that makes the program long or wide. Whether it does.
   /** @param {ClipboardEvent} event */
   pasted(event) {
     const text = event.clipboardData?.getData("text/plain") ?? "";
-    if (!isTooMuch(text) || this.box.readOnly) return false;
-    event.preventDefault();
-    const { value, selectionStart, selectionEnd } = this.box;
+    const { value, selectionStart, selectionEnd, readOnly } = this.box;
     const whole = value.slice(0, selectionStart) + text.replaceAll("\r\n", "\n") + value.slice(selectionEnd);
+    if (readOnly || !isTooMuch(whole)) return false;
+    event.preventDefault();
     this.open({ name: this.name, bytes: this.encoded(whole) });
     return true;
   }
@@ -134,14 +133,14 @@ export class Editor {
     const text = bytes.length > MOST_EDITED ? null : textOf(bytes);
     const plain = text === null ? null : text.replaceAll("\r\n", "\n");
     this.eol = text !== null && text !== plain ? "\r\n" : "\n";
-    const wide = plain !== null && isWide(plain);
+    const wide = plain === null ? null : whyWide(plain);
     if (plain !== null && !wide) this.box.value = plain;
     const isSame = plain !== null && !wide && this.box.value === plain && plain.replaceAll("\n", this.eol) === text;
     // (other carriage returns are bytes that the box would change)
     const areEnds = !isSame && !wide && text !== null && !/\r(?!\n)|\0/.test(text);
     byId("mend").hidden = !areEnds;
     if (isSame) this.free();
-    else this.fix(fixedOf(bytes, wide ? WIDE : areEnds ? TWO_ENDS : NO_TEXT));
+    else this.fix(fixedOf(bytes, wide ?? (areEnds ? TWO_ENDS : NO_TEXT)));
     this.isTouched = this.isUndone = false;
     this.asOpened = this.box.value;
     this.repaint();
@@ -180,7 +179,7 @@ export class Editor {
     this.kept = null;
     const [one, last, all] = [fixed.from + 1, fixed.to, fixed.bytes.length].map(grouped);
     const part = `bytes ${one} to ${last} of ${all} are shown`;
-    const said = fixed.isWhole ? fixed.why : fixed.why === WIDE ? `${part}: ${WIDE}` : part;
+    const said = fixed.isWhole ? fixed.why : isOfWide(fixed.why) ? `${part}: ${fixed.why}` : part;
     byId("program-name").textContent = `${legible(this.name)} (for reading only: ${said})`;
   }
 

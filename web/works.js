@@ -4,7 +4,7 @@
 import { keepText, kept, keptKeys } from "./stored.js";
 
 const KEY = "trac.work.";
-// If there are more entries, the oldest go whose programs are in files, or that someone has replaced by others.
+// If there are more entries, the oldest go whose programs are in files.
 export const MOST_WORKS = 50;
 // Within so many milliseconds two pages may write one entry, and not see each other do so.
 const RACE_TIME = 2000;

@@ -197,6 +197,13 @@ class Words(argparse.ArgumentParser):
         write(message, 2 if file is not None and file is sys.stderr else 1)
 
 
+class Parser(argparse.ArgumentParser):
+    """The same for a tool of who changes the code, which ends as Python does."""
+
+    def _print_message(self, message: str, file: IO[str] | None = None) -> None:
+        super()._print_message(printable(message), file)
+
+
 def hold_streams() -> None:
     """Has each standard stream that is closed be one of which each use fails: else the next file would take its
     place. (It is the name of a folder alone: a device could be opened anew, as /dev/stdin.)"""

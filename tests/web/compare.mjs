@@ -208,10 +208,11 @@ function dialogues() {
 }
 
 const DEEDS = {
-    'prints it': 'prints', 'sets it': 'sets', 'gives it': 'gives', 'makes it': 'made', 'it is there already': 'earlier',
+    'prints it': 'prints', 'sets it': 'sets', 'gives it': 'gives', 'fills gap': 'gives', 'gives its default': 'gives',
+    'makes it': 'made', 'it is there already': 'earlier',
 }
-const ROW = new RegExp('^(\\d+) .*? {2,}(prints it|sets it|gives it|makes it|it is there already'
-    + '|reads it: line (\\d+), column (\\d+)|reads it: byte (\\d+) after FILE)$')
+const ROW = new RegExp('^(\\d+) .*? {2,}(?:(prints it|sets it|gives it|fills gap|gives its default|makes it'
+    + '|it is there already)(?:: .*| \\d+)?|reads it: line (\\d+), column (\\d+)|reads it: byte (\\d+) after FILE)$')
 
 // What a line of `y` says: the step, and what it did, with line and column.
 function said(line) {
@@ -228,8 +229,8 @@ function told(row) {
 }
 
 // What is said to one `y`, up to where it stands then.
-const REPLY = new RegExp('(?:^\\d+  .*  (?:prints|sets|gives|makes|reads) it.*\\n|^\\.\\. \\d+ more \\.\\.\\n'
-    + '|^FILE    .*\\n *\\^\\n)*^here: .*\\n', 'gm')
+const REPLY = new RegExp('(?:^\\d+  .*  (?:(?:prints|sets|gives|makes|reads) it|fills gap|gives its default).*\\n'
+    + '|^\\.\\. \\d+ more \\.\\.\\n|^(?:FILE|    )    .*\\n)*^here: .*\\n', 'gm')
 
 // Each byte that the programs print: its way, as `y` says it.
 function ways() {

@@ -194,13 +194,24 @@ def check_files(page: Deeds) -> None:
 
 
 def check_wide(page: Deeds) -> None:
-    """A line of many signs that join, with which a browser would be busy for minutes, is shown in a part; many short
-    lines of them, or a long one of letters, can be edited."""
+    """A line of many signs that join, or a long one in which scripts alternate, with which a browser would be busy for
+    minutes, is shown in a part; many short lines of them, or a long one of letters, can be edited."""
     name, hebrew = "document.getElementById('program-name').textContent", "a\u05d0"
     for text, is_fixed in ((hebrew * 40000, True), ("\u0e01\u0e33" * 40000, True), ("e\u0301" * 40000, True),
                            ("a\uaa60\uaa7b" * 20000, True), ("\U00010900" * 20000, True),
                            ("\U00013000\U00013430" * 10000, True), ("\u2d30\u2d7f" * 10000, True),
                            ((hebrew * 500 + "\n") * 80, False), ("\u00e9\u0416\u2019" * 20000, False),
+                           ("a\u0416 " * 15000, True), ("a\u4e2d" * 15000, True), ("\u4e2d\u3042" * 15000, True),
+                           ("a \U0001f600\u2713" * 10000, True),
+                           ("word \u0441\u043b\u043e\u0432\u043e " * 8000, True),
+                           ("a\ua500\ua501" * 10000, True), ("\U0001d400\U0001d434" * 15000, True),
+                           (("a\u0416 " * 1000 + "\n") * 60, True), ("a\ue000" * 5000, False),
+                           ("a\u0416\u4e2d\u3042\uac00\u03b1\U0001f600\u2211 " * 1000, False),
+                           ("word \u0441\u043b\u043e\u0432\u043e " * 2000, False),
+                           ("\u0441\u043b\u043e\u0432\u043e, 12 " * 20000, False),
+                           ("a\x85b\x90" * 10000, True), ("a\t" * 20000, True),
+                           ("\u4e2d\u2014" * 15000, True), ("\u4e2d\u2014" * 2000, False),
+                           ("\uff21\uff71" * 15000, True), ("\u03b1\u03e3" * 30000, True),
                            ("y" * 9000 + "\u05d0\U0001f600", False)):
         with tempfile.TemporaryDirectory(prefix="trac-webpage-test-") as room:
             path = os.path.join(room, "wide.trac")
@@ -218,6 +229,9 @@ def check_wide(page: Deeds) -> None:
                        "return paste.clipboardData.getData('text/plain').length; })()")
     want = "bytes 1 to 4,096 of 129,006 are shown: a line is too long for signs that join"
     check(not held or want in page.script(name), "a paste of them is shown in a part: " + page.script(name))
+    page.put("a\u4e2d" * 15000)
+    want = "bytes 1 to 4,096 of 60,000 are shown: lines are too long for their mixed scripts"
+    check(want in page.script(name), "what is typed is shown in a part: " + page.script(name))
     with tempfile.TemporaryDirectory(prefix="trac-webpage-test-") as room:
         path = os.path.join(room, "bytes.trac")
         with open(path, "wb") as data:
