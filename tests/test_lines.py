@@ -22,7 +22,9 @@ FORMS = ["again", "all"]
 # A beginning of a line of the walk, and the words that may stand there.
 COMPLETED: dict[str, tuple[str, list[str]]] = {
     "nothing": ("", walk.COMMANDS), "w": ("w ", FORMS), "y": ("y ", FORMS), "f": ("f ", FORMS), "f-all": ("f all ", []),
-    "u": ("u ", walk.PRIMITIVES), "r": ("r ", walk.PRIMITIVES), "r-cl": ("r cl ", FORMS), "r-CL": ("r CL ", FORMS),
+    "u": ("u ", [*walk.PRIMITIVES, "set"]), "u-set": ("u set ", FORMS), "u-or": ("u ds a | ", walk.PRIMITIVES),
+    "u-or-cl": ("u ds a | cl ", FORMS), "u-ds-cl": ("u ds cl ", []), "break": ("break ", walk.PRIMITIVES),
+    "r": ("r ", walk.PRIMITIVES), "r-cl": ("r cl ", FORMS), "r-CL": ("r CL ", FORMS),
     "r-ad": ("r ad ", []), "r-cl-again": ("r cl again ", []), "s": ("s ", ["end"]), "b": ("b ", ["start"]),
     "p": ("p ", ["all"]), "q": ("q ", []), "g": ("g ", []), "i": ("i ", []),
 }

@@ -19,22 +19,28 @@ REFUSED = (
     (rb'quotes end with ", and \ in them begins \n, \xHH, \" or \\', (b'"s', rb'"\q"', rb'"\x4"', b'u "', b's "\\')),
     (b"s takes a number of 12 digits at most, end, or nothing",
      (b"s -1", b"s 1 2", b"s 1234567890123", b"s start", b"s end 1")),
-    (b"b takes a number of 12 digits at most, start, or nothing", (b"b x", b"b 1 2", b"b end")),
+    (b"b takes a number of 12 digits at most, start, or nothing; break stops at a call", (b"b x", b"b 1 2", b"b end")),
     (b"g takes a number of 12 digits at most", (b"g", b"g x")),
     (b"t takes a number from 1 on, of 12 digits at most, and all after it, or nothing",
      (b"t x", b"t 0", b"t all", b"t 0 all", b"t 1 x")),
+    (b"a call is named by its first arguments, and stands on both sides of |",
+     (b"u |", b"u cl |", b"r | cl", b"u cl | | ds", b"break", b"break |")),
+    (b'u set takes NAME; a NAME with blanks stands in quotes: u set "a b"',
+     (b"u set", b"u set a b", b"until set a b", b"watch", b"watch a b")),
+    (b"unbreak takes the number of a call that breaks lists", (b"unbreak", b"unbreak x", b"unbreak 1 2", b"delete")),
+    (b"restart takes FILE, or nothing", (b"restart a b",)),
     (b'w takes NAME, set "NAME", #K or "TEXT"', (b"w", b"w a b", b"w #", b"w #x", b"w set a b")),
     (b'y takes "TEXT", #K, #, NAME K, . A K, . A, or nothing', (b"y x", b"y #x", b"y . 1 x", b"y a 1 2", b"y 1 2 3 4")),
     (b"i takes TEXT, or one word in quotes, or nothing", (b'i "a" b',)),
-    (b"p takes all, or nothing", (b"p x", b"p all x")),
+    (b"p takes all, or nothing; f NAME shows a form", (b"p x", b"p all x")),
     (b'f takes NAME, or nothing; a NAME with blanks stands in quotes: f "a b"', (b"f a b", b"print a b")),
     (b"where lists the begun calls; O goes back to where one began, o on to its end", (b"up", b"down", b"up 1")),
     (b"this command takes no words after it",
      (b"n 1", b"N 1", b"o 1", b"O 1", b"d 1", b"D 1", b"l 1", b"m 1", b"e 1", b"q 1", b"quit 1", b"h 1", b"help x",
-      b"? 1", b"where 1", b"bt 1")),
+      b"? 1", b"where 1", b"bt 1", b"breaks 1", b"c 1")),
 )
 COMMANDS = ("s", "b", "s end", "b start", "n", "N", "o", "O", "u", "r", "d", "D", "m", "w", "y", "l", "g", "i", "e",
-            "p all", "f", "t", "h", "q", "where")
+            "p all", "f", "t", "h", "q", "where", "break", "restart", "u set")
 
 
 class Lines(Walker):
@@ -173,6 +179,59 @@ class Lines(Walker):
 
     def test_long_line_of_a_program(self) -> None:
         self.fits("a line of 1 MiB", b"#(ps," + b"," * 1048576 + b")'\n", 500000)
+
+
+class Restarts(Walker):
+    """Walks that begin anew."""
+
+    suite = "walk-lines"
+
+    def test_over_what_was_typed(self) -> None:
+        """The program reads what was typed again, and an end of the input stays one. No place from before is kept."""
+        run = self.walk(b"#(ps,[#(rs)])'", b"s end\ni ab'\ns end\nrestart\nm\ns end\ne\nrestart\ni c'\n")
+        wanted = re.sub(rb"(?m)^.*waits.*\n", b"", run.output)
+        first = re.findall(rb"(?m)^([0-9]+)  ", wanted)
+        self.holds("it begins anew at step 0: {}".format(first), first[3:5] == [b"0", b"0"])
+        self.holds("and comes as far as before: {}".format(first), first[2] == first[5])
+        self.holds("no earlier place is kept", NO_EARLIER in run.output)
+        self.holds("the input has ended", run.output.endswith(b"the input has ended\n"))
+
+    def test_file_that_changed(self) -> None:
+        """FILE is read anew, and the walk says if it changed; a file that is not there is said, and changes
+        nothing."""
+        file, other = self.file(AB), self.room / "other program"
+        other.write_bytes(b"C'")
+        pipe = subprocess.PIPE
+        with subprocess.Popen([WALK, file], stdin=pipe, stdout=pipe, cwd=self.room) as walk:
+            assert walk.stdin and walk.stdout
+            typed, replied = walk.stdin, walk.stdout
+
+            def says(line: bytes, replies: bytes) -> None:
+                """This line is replied to so."""
+                typed.write(line + b"\n")
+                typed.flush()
+                said = b"".join(replied.readline() for _ in replies.splitlines())
+                self.same("the line {}".format(line), said, replies)
+
+            at_a, at_b = (b'8  "%s" is taken as it is: %s)\n' % (it[:1], it) for it in (b"AB", b"BA"))
+            says(b"s 8", at_a)
+            says(b"restart", START)
+            file.write_bytes(b"BA'")
+            says(b"s 8", at_a)
+            says(b"restart", b"FILE has changed, and is read anew\n" + START)
+            says(b"s 8", at_b)
+            says(b"restart", START)
+            says(b'restart "other program"', b"FILE is other program\n" + START)
+            says(b"s 8", b'8  "C" is taken as it is: C)\n')
+            other.write_bytes(b"D'")
+            says(b"restart", b"FILE has changed, and is read anew\n" + START)
+            says(b"s 8", b'8  "D" is taken as it is: D)\n')
+            for name in b"none", bytes(self.room), b'"\\xff"':
+                says(b"restart " + name, b"this file cannot be read\n" + b'8  "D" is taken as it is: D)\n')
+            other.write_bytes(bytes(33554433))
+            says(b"restart", b"a limit is passed: too much text, or too many arguments, forms or blocks\n"
+                 b'8  "D" is taken as it is: D)\n')
+            typed.close()
 
 
 class Endings(Walker):

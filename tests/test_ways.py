@@ -25,8 +25,8 @@ DIGITS = {"ad", "su", "ml"}
 BY_NAME = {"sb", "fb"}
 DEED = re.compile(r"^(\d+)  (?:##?\(([^,()]*)(.*?)\)?|.*?) +(prints|sets|gives|makes) it$")
 READ = re.compile(r"^\d+  ##?\([rR][sScC].* +reads it: line (\d+), column (\d+)$")
-WAY = re.compile(r"((?:^\d+  .*  (?:prints|sets|gives|makes|reads) it.*\n|^\.\. \d+ more \.\.\n|^FILE    .*\n *\^\n)*"
-                 r"^here: .*)\n", re.M)
+WAY = re.compile(r"((?:^\d+  .*  (?:(?:prints|sets|gives|makes|reads) it|fills gap|gives its default).*\n"
+                 r"|^\.\. \d+ more \.\.\n|^(?:FILE|    )    .*\n)*^here: .*)\n", re.M)
 # So many random programs of this seed are tried, in so many tests; one is passed over that takes more steps.
 COUNT, SEED, PARTS, STEPS = 400, 1, 4, 3000
 
@@ -54,6 +54,8 @@ def wrong(file: bytes, printed: bytes, number: int, reply: str) -> str:
         lines = lines[:-3] + lines[-1:]
         if not piece.startswith("FILE    ") or not shows(byte, piece[len(mark) - 1:]):
             return "{} does not stand under it in {}".format(mark, piece)
+    # (why a call gave its default, or what it compared)
+    lines = [line for line in lines if not line.startswith(" " * 8)]
     read = re.search(r"  reads it: line (\d+), column (\d+)$", lines[-2])
     if read:
         return "" if byte_at(file, read) == byte else "{} is read".format(byte_at(file, read))
@@ -211,8 +213,8 @@ class Ways(Walker):
     def test_a_line_too_many(self) -> None:
         """And by `eq`. The latest 28 calls are shown, how many are left out, and the one that read it."""
         self.handed("a way of 31 lines", 13, "#(eq,1,1,##(cl,f13))",
-                    ["#(ps,x) prints it", "#(eq,1,1,x) gives it", *self.handing(13, 1), ".. 2 more ..",
-                     "#(rs) reads it: line 1, column 9"])
+                    ["#(ps,x) prints it", "#(eq,1,1,x) gives it: 1 and 1 are the same", *self.handing(13, 1),
+                     ".. 2 more ..", "#(rs) reads it: line 1, column 9"])
 
     def test_a_long_way(self) -> None:
         """By 21 forms: 43 calls carried it."""

@@ -17,13 +17,13 @@ PROMPT, MAY_BE = re.compile(rb"([0-9]{1,20})> "), re.compile(rb"[0-9]{0,20}>? ?"
 # A line, with its end, if it has one.
 LINE = re.compile(rb"[^\n]*\n|[^\n]+")
 # What a line of the walk may begin with, and the primitives.
-COMMANDS = "s b n N o O u r d D m w y l g i e p f t h q where bt help quit exit".split()
+COMMANDS = "s b n N o O u r d D m w y l g i e p f t h q where bt break breaks unbreak restart help quit exit".split()
 PRIMITIVES = (
     "ad bc bi br bs bu cc cl cm cn cr cs da dd ds dv eb eq fb gr hl in ln ml pf ps rc rs sb ss su tf tn"
 ).split()
 # What may stand after a command: names of forms, calls, or these words.
 AFTER = {"s": ["end"], "b": ["start"], "p": ["all"]}
-OF_FORMS, OF_CALLS = ("w", "y", "f"), ("u", "r")
+OF_FORMS, OF_CALLS = ("w", "y", "f"), ("u", "r", "break")
 # Where a program names a form that is to be, by a name that can be typed as it is.
 NAMED = re.compile(rb'#\(ds,([^\x00-\x20\x7f-\xff,()#"\\]+),', re.I)
 # The options that take a word.
@@ -64,7 +64,10 @@ def completed(front: str, forms: list[str]) -> list[str]:
     if words[0] in OF_FORMS and len(words) == 1:
         return forms
     if words[0] in OF_CALLS:
-        return PRIMITIVES if len(words) == 1 else forms if words[1].lower() == "cl" and len(words) == 2 else []
+        if len(words) == 1 or words[-1] == "|":
+            return PRIMITIVES if words[0] != "u" or len(words) > 1 else [*PRIMITIVES, "set"]
+        calls = words[-1].lower() == "cl" and (len(words) == 2 or words[-2] == "|")
+        return forms if calls or words == ["u", "set"] else []
     return AFTER.get(words[0], []) if len(words) == 1 else []
 
 

@@ -134,6 +134,14 @@ class Machine:
         """Bytes that a call passes on: it `gives`, `sets` or `prints` them."""
         return list(text)
 
+    def compared(self, call: Call) -> str:
+        """What a call does that gives the argument which its comparison chooses."""
+        return "gives it"
+
+    def defaulted(self, call: Call) -> str:
+        """What a call does that gives its default argument."""
+        return "gives its default"
+
     # ---- and what it is told
 
     def meets_unended(self) -> None:
@@ -240,13 +248,13 @@ class Machine:
         """The same, where there is one."""
         return self.forms[call.text(1)]
 
-    def given(self, call: Call, place: int) -> Text:
+    def given(self, call: Call, place: int, what: str = "gives it") -> Text:
         """An argument, as the value."""
-        return self.moved(call.argument(place), call, "gives it")
+        return self.moved(call.argument(place), call, what)
 
     def default(self, call: Call, place: int) -> Done:
         """An argument that is scanned whatever the kind of the call."""
-        return self.given(call, place), True
+        return self.given(call, place, self.defaulted(call)), True
 
     def fits(self, value: int) -> bool:
         """Whether a number fits."""
@@ -288,10 +296,10 @@ class Machine:
     # ---- decisions, numbers and bits
 
     def do_eq(self, call: Call) -> Text:
-        return self.given(call, 3 if call.text(1) == call.text(2) else 4)
+        return self.given(call, 3 if call.text(1) == call.text(2) else 4, self.compared(call))
 
     def do_gr(self, call: Call) -> Text:
-        return self.given(call, 3 if number(call.text(1)) > number(call.text(2)) else 4)
+        return self.given(call, 3 if number(call.text(1)) > number(call.text(2)) else 4, self.compared(call))
 
     def result(self, call: Call) -> int | None:
         """The result of an operation on decimals; None where it does not fit, or an operand does not."""
@@ -380,8 +388,10 @@ class Machine:
     def do_cl(self, call: Call) -> Text:
         form, value = self.known(call), []
         for item in form.items[form.pointer:]:
-            value += call.argument(1 + item[0] - GAP) if item[0] >= GAP else [item]
-        return self.moved(value, call, "gives it")
+            gap = item[0] - GAP
+            value += (self.given(call, 1 + gap, "fills gap {}".format(gap)) if gap > 0
+                      else self.moved([item], call, "gives it"))
+        return value
 
     def do_cr(self, call: Call) -> None:
         self.known(call).pointer = 0

@@ -8,7 +8,8 @@ from __future__ import annotations
 from collections.abc import Iterable
 from typing import Union
 
-from model.machine import IDLE, Byte, Call, Machine, Text, plain
+from model.doubts import shown
+from model.machine import IDLE, Byte, Call, Machine, Text, number, numeral, plain
 
 LOADED = "nothing is left: the idle program is loaded"
 # The number of a step, what it does, and what it did with the byte, or which it read; and a way.
@@ -33,6 +34,52 @@ class Follower(Machine):
 
     def __init__(self, tape: bytes, bits: int = 128) -> None:
         super().__init__(tape, bits, may_go_on=True)
+        # by which step each form is as it is, and in which line that step's call was written
+        self.changed: dict[bytes, tuple[int, int | None]] = {}
+
+    def states(self) -> dict[bytes, tuple[list[int], int]]:
+        """The forms without what their bytes carry."""
+        return {name: ([value for value, _ in form.items], form.pointer) for name, form in self.forms.items()}
+
+    def call(self) -> None:
+        name, before, steps = self.frames[-1][1][0], self.states(), self.steps
+        source = name[0][1][-1][2] if name and name[0][1] else None
+        row = self.tape[:source].count(10) + 1 if isinstance(source, int) else None
+        super().call()
+        now = self.states()
+        for it in before.keys() | now.keys():
+            if before.get(it) != now.get(it):
+                self.changed[it] = steps, row
+
+    def compared(self, call: Call) -> str:
+        one, other = call.text(1), call.text(2)
+        if call.name == "eq":
+            words = "{} and {} are the same" if one == other else "{} and {} differ"
+            return "gives it: " + words.format(side(one), side(other))
+        words = "{} is greater than {}" if number(one) > number(other) else "{} is at most {}"
+        return "gives it: " + words.format(*(side(numeral(it) or b"0") for it in (one, other)))
+
+    def defaulted(self, call: Call) -> str:
+        return "gives its default\n" + self.lack(call)
+
+    def lack(self, call: Call) -> str:
+        """Why a call gives its default argument."""
+        if call.name not in ("cs", "cc", "cn", "in"):
+            is_zero = call.name == "dv" and number(call.text(2)) == 0
+            return "it divides by 0" if is_zero else "the result does not fit"
+        form, name = self.known(call), shown(call.text(1)).decode()
+        step, row = self.changed[call.text(1)]
+        since = " since step {}".format(step) + ("" if row is None else " (line {})".format(row))
+        if not form.items:
+            return "the form {} is empty".format(name) + since
+        if call.name == "cn" and number(call.text(2)) < 0:
+            return ("before the pointer of {} stand gaps alone".format(name) if form.pointer
+                    else "the pointer of {} is at its start".format(name) + since)
+        if form.pointer == len(form.items):
+            return "the pointer of {} is at its end".format(name) + since
+        if call.name == "in":
+            return "{} is nowhere after the pointer of {}".format(shown(call.text(2)).decode(), name)
+        return "after the pointer of {} stand gaps alone".format(name)
 
     def event(self, call: Call, what: str | int) -> Event:
         """That a call does this with a byte."""
@@ -55,6 +102,14 @@ class Follower(Machine):
 
 
 # ---- what is shown
+
+def side(text: bytes) -> str:
+    """A text that is compared."""
+    if not text.strip(b" "):
+        return "nothing" if not text else "a blank" if len(text) == 1 else "{} blanks".format(len(text))
+    words = shown(text).decode()
+    return '"{}"'.format(words) if text[:1] == b" " or text[-1:] == b" " else words
+
 
 def cut(text: str, columns: int) -> str:
     return text if len(text) <= columns else text[:columns - 2] + ".."
@@ -86,7 +141,10 @@ def lines_of(tape: bytes, step: int, call: str, what: str | int) -> list[str]:
     head = (cut(f"{step}  {seen(call)}", 48) + "  ").ljust(34)
     if isinstance(what, int):
         return [cut(head + "reads it: " + place_in(tape, what), 80)] + piece_in(tape, what)
-    return [cut(head + what, 80)]
+    deed, *reasons = what.split("\n")
+    if len(head + deed) > 80:
+        deed, *reasons = deed.split(": ", 1)
+    return [cut(head + deed, 80)] + [cut(" " * 8 + reason, 80) for reason in reasons]
 
 
 def way_of(machine: Machine, asked: str) -> Way:

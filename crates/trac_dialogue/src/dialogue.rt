@@ -4,6 +4,7 @@ ghost use Rattle.std.specs.Io.KnownBytes.{IsAtEnd};
 ghost use Rattle.trac_dialogue.specs.Talks.{Gives, IsFault, IsRestStop, IsStop, Takes, TakesFew};
 
 use crate::order::NOT_UNDERSTOOD;
+use crate::programs::Programs;
 use std::alloc::{AllocError, Allocator};
 use std::io::{Read, Write};
 use trac_streams::writing::{flush, write_whole};
@@ -15,10 +16,11 @@ pub trait Replier<A: Allocator + Copy> {
     fn number(&self) -> u64;
 
     /// Does what a line asks for, and puts what is to be said of it at the end of a text; whether the dialogue goes on.
-    /// The error is that memory was refused.
-    fn reply_into(
+    /// A program is read anew from these, if the line asks for that. The error is that memory was refused.
+    fn reply_into<P: Programs<A>>(
         &mut self,
         alloc: A,
+        programs: &P,
         line: &[u8],
         out: &mut Vec<u8, A>,
     ) -> Result<bool, AllocError>;
@@ -29,16 +31,17 @@ const ENDLESS: &[u8] = b"this line has more than 4,294,967,296 bytes: it ends th
 
 /// Reads lines, and writes the reply to each, which is flushed before more is read. A line of more than 4,096 bytes is
 /// said not to be understood, and passed over: nobody is asked. Before each line the replier's number is written if a
-/// prompt is wanted.
+/// prompt is wanted. A line may ask for a program to be read anew from these.
 ///
 /// It ends with `Ended` at the end of the lines, and if the replier ends it. It ends with `Read` if the reader fails,
 /// and with `Write` if the writer does. It ends with `Memory` if there is no memory for a line or for what is to be
 /// written. It ends with `Budget` at a line that goes on once 1,048,576 parts of it are passed over, of which each is
 /// longer than a line may be, and after as many lines as a number of 64 bits counts.
 #[tactic(auto, using(crate::proofs::Talked::for_converse))]
-pub fn converse<R: Read, W: Write, A: Allocator + Copy, T: Replier<A>>(
+pub fn converse<R: Read, W: Write, P: Programs<A>, A: Allocator + Copy, T: Replier<A>>(
     alloc: A,
     replier: &mut T,
+    programs: &P,
     prompt: bool,
     input: &mut R,
     output: &mut W,
@@ -49,7 +52,7 @@ pub fn converse<R: Read, W: Write, A: Allocator + Copy, T: Replier<A>>(
 {
     let mut lines = Lines::new(alloc);
     for turn in 0..u64::MAX {
-        match take_line(alloc, replier, prompt, &mut lines, input, output) {
+        match take_line(alloc, replier, programs, prompt, &mut lines, input, output) {
             Ok(()) => {}
             Err(ending) => return ending,
         }
@@ -59,9 +62,10 @@ pub fn converse<R: Read, W: Write, A: Allocator + Copy, T: Replier<A>>(
 
 // Takes a line.
 #[tactic(auto, using(crate::proofs::Talked::for_take_line))]
-fn take_line<R: Read, W: Write, A: Allocator + Copy, T: Replier<A>>(
+fn take_line<R: Read, W: Write, P: Programs<A>, A: Allocator + Copy, T: Replier<A>>(
     alloc: A,
     replier: &mut T,
+    programs: &P,
     prompt: bool,
     lines: &mut Lines<A>,
     input: &mut R,
@@ -81,7 +85,7 @@ fn take_line<R: Read, W: Write, A: Allocator + Copy, T: Replier<A>>(
         Ok(NextLine::End) => Err(Ending::Ended),
         Ok(NextLine::TooLong) => pass_line(lines, input, output),
         Ok(NextLine::Line { len, whole }) => {
-            let replied = answer(alloc, replier, lines.front(len), output);
+            let replied = answer(alloc, replier, programs, lines.front(len), output);
             lines.pass(whole);
             replied
         }
@@ -193,16 +197,17 @@ fn prompt_of<A: Allocator + Copy>(alloc: A, number: u64) -> Result<Vec<u8, A>, A
 
 // Does what a line asks for, and writes what is to be said of it.
 #[tactic(auto, using(crate::proofs::Talked::faults_stop, crate::proofs::Talked::gives_none))]
-fn answer<W: Write, A: Allocator + Copy, T: Replier<A>>(
+fn answer<W: Write, P: Programs<A>, A: Allocator + Copy, T: Replier<A>>(
     alloc: A,
     replier: &mut T,
+    programs: &P,
     line: &[u8],
     output: &mut W,
 ) -> Result<(), Ending>
     ensures gave { Gives (W.contents output.old) (W.contents output.new) }
     ensures stopped { IfErr result IsStop }
 {
-    match reply_to(alloc, replier, line) {
+    match reply_to(alloc, replier, programs, line) {
         Ok(Some(text)) => write_text(output, Ok(text)),
         Ok(None) => Err(Ending::Ended),
         Err(AllocError) => Err(Ending::Memory),
@@ -211,9 +216,10 @@ fn answer<W: Write, A: Allocator + Copy, T: Replier<A>>(
 
 // What is to be said of a line, once what it asks for is done; none if it asks for the end. The error is that memory
 // was refused.
-fn reply_to<A: Allocator + Copy, T: Replier<A>>(
+fn reply_to<P: Programs<A>, A: Allocator + Copy, T: Replier<A>>(
     alloc: A,
     replier: &mut T,
+    programs: &P,
     line: &[u8],
 ) -> Result<Option<Vec<u8, A>>, AllocError> {
     let mut text = Vec::new(alloc);
@@ -221,6 +227,6 @@ fn reply_to<A: Allocator + Copy, T: Replier<A>>(
         text.extend_from_slice(NOT_UNDERSTOOD)?;
         return Ok(Some(text));
     }
-    let goes_on = replier.reply_into(alloc, line, &mut text)?;
+    let goes_on = replier.reply_into(alloc, programs, line, &mut text)?;
     Ok(if goes_on { Some(text) } else { None })
 }

@@ -1,5 +1,7 @@
 //! What the words of a line ask for.
 
+use crate::calls::Calls;
+
 /// A count has at most so many digits.
 pub const DIGIT_LIMIT: usize = 12;
 
@@ -16,32 +18,36 @@ pub const NOT_UNDERSTOOD: &[u8] = b"not understood; h lists the commands\n";
 // What is said of a command that stands alone, with other words after it.
 const STANDS_ALONE: &[u8] = b"not understood; this command takes no words after it\n";
 
+// What is said of `u set` with other words than a name after it.
+const NO_SET: &[u8] =
+    b"not understood; u set takes NAME; a NAME with blanks stands in quotes: u set \"a b\"\n";
+
 /// The commands, on one screen.
 pub const HELP: &[u8] = b"\
 s [N]      N steps forward, or 1         b [N]      N steps back, or 1
 s end      until it waits or ends        b start    to the first step kept
-n          over this call, until its value is scanned too
-N          back to before the call that gave what stands here
+n          over this call and its value  N          back over what gave this
 o          out of the begun call         O          back to where it began
 u CALL..   forward to a call             r CALL..   back to a call
-           (CALL..: its first arguments, as u cl hanoi; none: any call)
+           (CALL..: its first arguments, as u cl hanoi; none: any call;
+           * is any argument, >9 and <9 are numbers; | stands between calls)
+u set NAME to the next change of a form  w NAME     back to its last change
+break CALL..   s end and b start stop there too     breaks, unbreak N
 d          to the next doubtful step     D          back to the last one
 m          back to where a command of these or y began, and again further
-w NAME     back to the call that changed the form NAME last; or w set \"NAME\"
-w #K       back to the call that printed byte K of the output
-w \"TEXT\"   back to the call that printed the last TEXT
+w #K       to what printed byte K        w \"TEXT\"   to what printed TEXT last
 y \"TEXT\"   to where the last TEXT comes from    y #[K]   byte K printed, or last
 y NAME K   to where byte K of a form comes from    y . A K   of argument A
 y          to where the next call was written      l      says where that is
-g N        to step N
+g N        to step N                     restart    anew, with FILE as it is now
 i TEXT     a line of input               e          the input ends
 p          the state on one screen       p all      all of it
 where      the begun calls, and where each was written; or bt
 f          the forms                     f NAME     one form
-t [N]      the last N calls, or 10, with values or defaults; t N all: uncut
+t [N]      the last N calls, or 10, with values and why; t N all: uncut
 h          this list; or help, ?         q          the end; or quit, exit
 An empty line repeats the last move or y; after y \"TEXT\" it goes further back.
-Words with blanks stand in quotes; in those \\n is a line feed, \\xHH that byte.
+Words with blanks stand in quotes: w set \"a b\"; \\n in them is a line feed.
 ";
 
 /// A way to another state.
@@ -63,10 +69,16 @@ pub enum Move<'a> {
     Out,
     /// Back to where the innermost begun function was begun.
     OutBack,
-    /// Forward to a call whose first arguments are these; without any, to a call of the program's own.
-    Until(&'a [&'a [u8]]),
+    /// Forward to one of these calls; without any, to a call of the program's own.
+    Until(Calls<'a>),
     /// The same back.
-    Return(&'a [&'a [u8]]),
+    Return(Calls<'a>),
+    /// Forward to the call that changes the form of this name next.
+    UntilSet(&'a [u8]),
+    /// Forward until a step is refused, or to one of these calls.
+    ToEndOr(Calls<'a>),
+    /// Back to one of these calls, or to the first step that is kept.
+    ToStartOr(Calls<'a>),
     /// Back to the call that changed the form of this name last.
     Changed(&'a [u8]),
     /// Back to the call that printed this byte of the output, the first being number 1.
@@ -125,6 +137,14 @@ pub enum Order<'a> {
     Locate,
     /// To list the begun calls, and where each was written.
     Where,
+    /// To stop at these calls too.
+    Break,
+    /// To list the calls at which it stops.
+    Breaks,
+    /// To stop no more at the calls of this number.
+    Unbreak(u64),
+    /// To begin anew, with the program in this file or in the same one.
+    Restart(Option<&'a [u8]>),
     /// To list the commands.
     Help,
     /// To end.
@@ -133,9 +153,12 @@ pub enum Order<'a> {
 
 /// What the words of a line ask for, the first being the command; `quoted` says whether the second stood in quotes.
 /// None if they are not understood. It takes no memory.
-pub fn order_of<'a>(words: &'a [&'a [u8]], quoted: bool) -> Option<Order<'a>> {
-    let (command, rest) = words.split_first()?;
+pub fn order_of<'a>(words: Calls<'a>, quoted: bool) -> Option<Order<'a>> {
+    let (command, rest) = words.texts.split_first()?;
     let command = meant(command);
+    if let Some(way) = call_move_of(command, words.rest(), quoted) {
+        return Some(Order::Go(way));
+    }
     if let Some(way) = move_of(command, rest, quoted) {
         return Some(Order::Go(way));
     }
@@ -148,6 +171,11 @@ pub fn order_of<'a>(words: &'a [&'a [u8]], quoted: bool) -> Option<Order<'a>> {
         b"y" => Some(Order::Follow(spot_of(rest, quoted)?)),
         b"l" => alone(rest, Order::Locate),
         b"where" | b"bt" => alone(rest, Order::Where),
+        b"break" if !rest.is_empty() && words.rest().is_whole() => Some(Order::Break),
+        b"breaks" => alone(rest, Order::Breaks),
+        b"unbreak" => Some(Order::Unbreak(number(one_in(rest)?)?)),
+        b"restart" if rest.is_empty() => Some(Order::Restart(None)),
+        b"restart" => Some(Order::Restart(Some(one_in(rest)?))),
         b"m" => alone(rest, Order::Recall),
         b"e" => alone(rest, Order::EndInput),
         b"h" | b"help" | b"?" => alone(rest, Order::Help),
@@ -163,6 +191,8 @@ fn meant(word: &[u8]) -> &[u8] {
         b"next" => b"n",
         b"finish" => b"o",
         b"until" => b"u",
+        b"c" | b"run" => b"continue",
+        b"delete" => b"unbreak",
         b"back" => b"b",
         b"list" => b"l",
         word => word,
@@ -171,27 +201,46 @@ fn meant(word: &[u8]) -> &[u8] {
 
 /// What is said of words that ask for nothing, in a line: what their command takes, if it is one.
 pub fn misunderstood(words: &[&[u8]]) -> &'static [u8] {
-    let Some((command, _)) = words.split_first() else {
+    let Some((command, rest)) = words.split_first() else {
         return NOT_UNDERSTOOD;
     };
     match meant(command) {
+        b"u" if matches!(rest, [b"set", ..]) => NO_SET,
+        b"watch" => NO_SET,
         b"s" => b"not understood; s takes a number of 12 digits at most, end, or nothing\n",
-        b"b" => b"not understood; b takes a number of 12 digits at most, start, or nothing\n",
+        b"b" =>
+            b"not understood; b takes a number of 12 digits at most, start, or nothing; break stops at a call\n",
         b"g" => b"not understood; g takes a number of 12 digits at most\n",
         b"t" =>
             b"not understood; t takes a number from 1 on, of 12 digits at most, and all after it, or nothing\n",
         b"w" => b"not understood; w takes NAME, set \"NAME\", #K or \"TEXT\"\n",
         b"y" => b"not understood; y takes \"TEXT\", #K, #, NAME K, . A K, . A, or nothing\n",
         b"i" => b"not understood; i takes TEXT, or one word in quotes, or nothing\n",
-        b"p" => b"not understood; p takes all, or nothing\n",
+        b"p" => b"not understood; p takes all, or nothing; f NAME shows a form\n",
         b"f" | b"print" =>
             b"not understood; f takes NAME, or nothing; a NAME with blanks stands in quotes: f \"a b\"\n",
+        b"u" | b"r" | b"break" =>
+            b"not understood; a call is named by its first arguments, and stands on both sides of |\n",
+        b"unbreak" => b"not understood; unbreak takes the number of a call that breaks lists\n",
+        b"restart" => b"not understood; restart takes FILE, or nothing\n",
         b"up" | b"down" =>
             b"not understood; where lists the begun calls; O goes back to where one began, o on to its end\n",
         b"n" | b"N" | b"o" | b"O" | b"d" | b"D" | b"l" | b"m" | b"e" => STANDS_ALONE,
         b"h" | b"help" | b"?" | b"q" | b"quit" | b"exit" => STANDS_ALONE,
-        b"continue" | b"run" | b"where" | b"bt" => STANDS_ALONE,
+        b"continue" | b"where" | b"bt" | b"breaks" => STANDS_ALONE,
         _ => NOT_UNDERSTOOD,
+    }
+}
+
+// The move to one of these calls that a command says, if it says one.
+fn call_move_of<'a>(command: &[u8], calls: Calls<'a>, quoted: bool) -> Option<Move<'a>> {
+    match (command, calls.texts) {
+        (b"u", [b"set", name]) if !quoted => Some(Move::UntilSet(*name)),
+        (b"watch", [name]) => Some(Move::UntilSet(*name)),
+        (b"u", [b"set", ..]) if !quoted => None,
+        (b"u", _) if calls.is_whole() => Some(Move::Until(calls)),
+        (b"r", _) if calls.is_whole() => Some(Move::Return(calls)),
+        _ => None,
     }
 }
 
@@ -199,7 +248,7 @@ pub fn misunderstood(words: &[&[u8]]) -> &'static [u8] {
 fn move_of<'a>(command: &[u8], rest: &'a [&'a [u8]], quoted: bool) -> Option<Move<'a>> {
     match command {
         b"s" => forward_of(rest),
-        b"continue" | b"run" => alone(rest, Move::ToEnd),
+        b"continue" => alone(rest, Move::ToEnd),
         b"b" => back_of(rest),
         b"n" => alone(rest, Move::Over),
         b"N" => alone(rest, Move::OverBack),
@@ -207,8 +256,6 @@ fn move_of<'a>(command: &[u8], rest: &'a [&'a [u8]], quoted: bool) -> Option<Mov
         b"O" => alone(rest, Move::OutBack),
         b"d" => alone(rest, Move::ToDoubt),
         b"D" => alone(rest, Move::BackToDoubt),
-        b"u" => Some(Move::Until(rest)),
-        b"r" => Some(Move::Return(rest)),
         b"w" => looked_for(rest, quoted),
         b"g" => Some(Move::To(number(one_in(rest)?)?)),
         _ => None,

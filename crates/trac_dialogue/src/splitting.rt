@@ -45,6 +45,15 @@ pub fn has_words(line: &[u8]) -> bool {
     !without_blanks(line).is_empty()
 }
 
+/// What stands in a line after its first word and the blanks behind that.
+pub fn after_first(line: &[u8]) -> &[u8] {
+    let line = without_blanks(line);
+    if line.is_empty() {
+        return line;
+    }
+    without_blanks(line.split_at(plain_len(line)).1)
+}
+
 /// The bytes of words. The error is that memory was refused.
 pub fn texts_of<'w, A: Allocator + Copy>(
     alloc: A,

@@ -22,25 +22,63 @@ pub fn call_into<A: Allocator + Copy>(
     line: &mut ScreenLine<A>,
 ) {
     line.put(&[Number(step), Words(b"  ")]);
-    for _ in 0..depth.saturating_sub(2).min(MOST_INDENTS) {
-        line.say(INDENT);
-    }
+    indent_into(depth, line);
     if let Some((kind, arguments)) = &sight.begun {
         shown_into(*kind, arguments, line);
     }
 }
 
-/// Puts what the call gave at the end of a line: its value, and whether that is its default argument, or why it was
-/// refused.
+/// Puts blanks at the end of a line, so that what follows begins beneath the call of this step in a line of
+/// `call_into`.
+pub fn beneath_into<A: Allocator + Copy>(step: u64, depth: usize, line: &mut ScreenLine<A>) {
+    let digits = step.checked_ilog10().unwrap_or(0).saturating_add(1);
+    for _ in 0..digits {
+        line.say(b" ");
+    }
+    line.say(b"  ");
+    indent_into(depth, line)
+}
+
+// Sets a line in, for so many calls that are begun.
+fn indent_into<A: Allocator + Copy>(depth: usize, line: &mut ScreenLine<A>) {
+    for _ in 0..depth.saturating_sub(2).min(MOST_INDENTS) {
+        line.say(INDENT);
+    }
+}
+
+/// What a call gave.
+#[derive(Clone, Copy, PartialEq, Eq)]
+pub enum Gave {
+    /// An empty value.
+    Nothing,
+    /// A value that is its default argument.
+    Default,
+    /// Another value.
+    Value,
+    /// It was refused.
+    Refused,
+}
+
+/// Puts what the call gave at the end of a line, and returns it: its value, and whether that is its default argument,
+/// or why it was refused.
 pub fn outcome_into<A: Allocator + Copy>(
     before: Before,
     why: Option<Refusal>,
     sight: &Sight<'_, A>,
     line: &mut ScreenLine<A>,
-) {
-    match why {
-        None => value_into(before.value(sight), before, line),
-        Some(refusal) => line.put(&[Words(b": "), Words(refused(refusal))]),
+) -> Gave {
+    if let Some(refusal) = why {
+        line.put(&[Words(b": "), Words(refused(refusal))]);
+        return Gave::Refused;
+    }
+    let value = before.value(sight);
+    value_into(value, before, line);
+    if value.is_empty() {
+        Gave::Nothing
+    } else if before.takes_default {
+        Gave::Default
+    } else {
+        Gave::Value
     }
 }
 

@@ -69,8 +69,8 @@ fn argument_into<A: Allocator + Copy>(
     text_into(argument_of(sight, shown), line)
 }
 
-// The front of a text; of an empty one that it is empty.
-fn text_into<A: Allocator + Copy>(text: &[u8], line: &mut ScreenLine<A>) {
+/// The front of a text; of an empty one that it is empty.
+pub(crate) fn text_into<A: Allocator + Copy>(text: &[u8], line: &mut ScreenLine<A>) {
     if text.is_empty() {
         line.say(b"(an empty text)");
         return;

@@ -10,13 +10,15 @@ mod form_list;
 mod given;
 mod notes;
 mod piece;
+mod reason;
+mod reasons;
 mod screen;
 mod screen_line;
 mod standing_line;
 mod unseen;
 mod way;
 
-pub use calls::{Before, call_into, outcome_into};
+pub use calls::{Before, Gave, beneath_into, call_into, outcome_into};
 pub use changing::change_into;
 pub use doubting::doubt_into;
 pub use form_list::{form_into, list_into};
@@ -26,10 +28,13 @@ pub use notes::{
     recalled_into, refused, stop_into, window_into,
 };
 pub use piece::{piece_around_into, piece_into};
+pub use reason::{Lack, Reason, Relation, comparison_of, reason_of};
+pub use reasons::{are_plain, reason_into};
 pub use screen::screen_into;
 pub use screen_line::ScreenLine;
 pub use standing_line::standing_into;
 pub use unseen::is_seen;
 pub use way::{
-    Origin, Treatment, begun_line, left_out_into, origin_into, step_line, treatment_into,
+    Origin, Treatment, begun_line, left_out_into, origin_into, step_line, treated_into,
+    treatment_into,
 };

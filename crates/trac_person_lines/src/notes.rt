@@ -66,6 +66,10 @@ pub enum Stop {
     ShortArgument(u64, u64),
     /// The call is the idle program's.
     Idle,
+    /// There is no file to read.
+    NoFile,
+    /// No calls have this number, at which it stops.
+    NoBreak,
 }
 
 // What may have been meant if there is no form of a name.
@@ -166,7 +170,7 @@ fn reason(stop: Stop) -> &'static [u8] {
         Stop::Unended => b"the call has not ended after ",
         Stop::AtFirst => b"this is the first step that is kept, step ",
         Stop::NotMet | Stop::NoForm => b"not met since the first step that is kept, step ",
-        Stop::Outside => b"no call is begun here",
+        Stop::Outside => b"no call is begun here; u goes on to one, r back to one",
         Stop::Outermost => b"no call is begun around this one",
         Stop::NoValue => b"the value of no call ends here",
         Stop::NoValueSince => b"no value of a call since step ",
@@ -176,10 +180,12 @@ fn reason(stop: Stop) -> &'static [u8] {
         Stop::NotPrintedSince => b"that was not printed since the first step that is kept, step ",
         Stop::PrintedEarlier => b"that was printed before the first step that is kept, step ",
         Stop::NoByte => b"no byte stands there",
-        Stop::NoName => b"no byte of the name of this call is scanned",
-        Stop::NoSuchForm => b"there is no form of this name",
+        Stop::NoName => b"no byte of the name of this call is scanned; s goes on",
+        Stop::NoSuchForm => b"there is no form of this name; f lists the forms",
         Stop::NoArgument(_) => b"this call has no argument ",
         Stop::WhichByte(_, _) | Stop::ShortArgument(_, _) => b"argument ",
+        Stop::NoFile => b"this file cannot be read",
+        Stop::NoBreak => b"there is no break of this number; breaks lists them",
         Stop::Idle => b"this call is the idle program's: it is written nowhere in FILE",
     }
 }

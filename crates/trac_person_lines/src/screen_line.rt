@@ -69,6 +69,11 @@ impl<A: Allocator + Copy> ScreenLine<A> {
         self.columns
     }
 
+    /// Whether so many columns more are seen.
+    pub fn has_room(&self, columns: usize) -> bool {
+        self.columns.saturating_add(columns) <= self.width
+    }
+
     /// Puts words at the end, which are printable, or a text that is shown already.
     pub fn say(&mut self, words: &[u8]) {
         if !self.is_full() {

@@ -23,6 +23,10 @@ pub enum Treatment {
     Puts,
     /// A call gave it in its value.
     Gives,
+    /// A call gave it in its value, where it filled the gap of this number.
+    Fills(u64),
+    /// A call gave it in its value, which was its default argument.
+    Defaults,
     /// A call that stood there gave an empty value.
     GivesNothing,
     /// A call filled the gap of this number with nothing.
@@ -99,13 +103,19 @@ pub fn treatment_into<A: Allocator + Copy>(
     out: &mut Vec<u8, A>,
 ) -> Result<(), AllocError> {
     let mut line = step_line(alloc, step, sight);
+    treated_into(treatment, &mut line);
+    line.end_into(out)
+}
+
+/// Puts what a step did with a byte at the end of a line.
+pub fn treated_into<A: Allocator + Copy>(treatment: Treatment, line: &mut ScreenLine<A>) {
     line.say(words_of(treatment));
     match treatment {
-        Treatment::Ends(origin) => read_into(origin, &mut line),
+        Treatment::Ends(origin) => read_into(origin, line),
         Treatment::LeavesGap(number) => line.put(&[Number(number), Words(b" empty")]),
+        Treatment::Fills(number) => line.count(number),
         _ => {}
     }
-    line.end_into(out)
 }
 
 // The place of a byte that was read; nothing of another one.
@@ -141,6 +151,8 @@ fn words_of(treatment: Treatment) -> &'static [u8] {
         Treatment::Prints => b"prints it",
         Treatment::Puts => b"sets it",
         Treatment::Gives => b"gives it",
+        Treatment::Fills(_) => b"fills gap ",
+        Treatment::Defaults => b"gives its default",
         Treatment::GivesNothing => b"gives an empty value",
         Treatment::LeavesGap(_) => b"leaves gap ",
         Treatment::MakesGap => b"makes the gap",

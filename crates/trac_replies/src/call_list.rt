@@ -3,7 +3,7 @@
 use crate::telling::Telling;
 use crate::walks::Walks;
 use std::alloc::{AllocError, Allocator};
-use trac_person_lines::{Before, ScreenLine, Stop, call_into, outcome_into};
+use trac_person_lines::{Before, Gave, ScreenLine, Stop, beneath_into, call_into, outcome_into};
 use trac_rules::refusal::Refusal;
 use trac_sight::takes_default;
 
@@ -57,14 +57,34 @@ impl<W: Walks<A>, A: Allocator + Copy> Telling<'_, W, A> {
 
     // A line for the call that is performed next, which is performed.
     fn line_into(&mut self, is_whole: bool) -> Result<(), AllocError> {
+        let why = self.why()?;
+        let (step, depth) = (self.walker.step(), self.walker.glance().depth);
         let mut call = line_of(self.alloc, is_whole);
-        let depth = self.walker.glance().depth;
-        call_into(self.walker.step(), depth, &self.walker.sight(), &mut call);
+        call_into(step, depth, &self.walker.sight(), &mut call);
         let before = before_call(&self.walker)?;
-        let why = self.walker.forward(1);
+        let refused = self.walker.forward(1);
         let mut outcome = line_of(self.alloc, is_whole);
-        outcome_into(before, why, &self.walker.sight(), &mut outcome);
-        call.end_before(outcome, &mut self.out)
+        let gave = outcome_into(before, refused, &self.walker.sight(), &mut outcome);
+        let Some(why) = why else {
+            return call.end_before(outcome, &mut self.out);
+        };
+        if !why.is_said_of(gave) {
+            return call.end_before(outcome, &mut self.out);
+        }
+        let taken = outcome
+            .columns()
+            .saturating_add(2)
+            .saturating_add(why.columns());
+        if gave == Gave::Nothing && call.has_room(taken) {
+            outcome.say(b": ");
+            outcome.say(why.words());
+            return call.end_before(outcome, &mut self.out);
+        }
+        call.end_before(outcome, &mut self.out)?;
+        let mut line = line_of(self.alloc, is_whole);
+        beneath_into(step, depth, &mut line);
+        line.say(why.words());
+        line.end_into(&mut self.out)
     }
 }
 

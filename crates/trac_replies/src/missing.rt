@@ -30,7 +30,11 @@ impl<W: Walks<A>, A: Allocator + Copy> Telling<'_, W, A> {
     pub(crate) fn empty_argument_into(&mut self, argument: usize) -> Result<(), AllocError> {
         let start = self.walker.step();
         match back_into_argument(&mut self.walker, argument) {
-            Within::Call => self.tell_here(Treatment::GivesNothing),
+            Within::Call => {
+                self.tell(Treatment::GivesNothing)?;
+                self.why_into()?;
+                self.stand_here()
+            }
             Within::Beginning(place) => self.unwritten_into(place),
             Within::Unkept => match self.walker.go_to(start) {
                 None => self.stay(Stop::NotMet),

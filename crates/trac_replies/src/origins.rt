@@ -8,7 +8,7 @@ use std::alloc::{AllocError, Allocator};
 use trac_dialogue::Spot;
 use trac_follow_step::Place;
 use trac_person_lines::{
-    Origin, Stop, Treatment, origin_into, piece_around_into, piece_into, step_line,
+    Origin, Stop, Treatment, left_out_into, origin_into, piece_around_into, piece_into, step_line,
 };
 use trac_rules::byte::LINE_FEED;
 use trac_rules::refusal::Refusal;
@@ -89,17 +89,32 @@ impl<W: Walks<A>, A: Allocator + Copy> Telling<'_, W, A> {
             End::Memory => self.stay(Stop::Refused(Refusal::Memory)),
             End::Untold => Err(AllocError),
             end => {
-                W::way_into(self.alloc, way, &mut self.out)?;
+                self.calls_on_way_into(way)?;
                 self.end_into(end)
             }
         }
     }
 
+    // A line for each call on a way, and why a default argument was given; and how many are left out. The walk stands
+    // where the way ends.
+    fn calls_on_way_into(&mut self, way: &W::Way) -> Result<(), AllocError> {
+        for number in 0..W::told_count(way) {
+            if let Some(step) = W::told_into(way, number, &mut self.out)? {
+                self.why_of_into(step)?;
+            }
+        }
+        match W::left_out(way) {
+            0 => Ok(()),
+            others => left_out_into(self.alloc, others, &mut self.out),
+        }
+    }
+
     // What is said of the end of a way, where the byte was made or read.
     fn end_into(&mut self, end: End) -> Result<(), AllocError> {
-        self.tell(Treatment::Ends(origin_of(self.program, end)))?;
+        let origin = origin_of(self.program.bytes(), end);
+        self.tell(Treatment::Ends(origin))?;
         if let Some(number) = number_read(end) {
-            piece_into(self.alloc, self.program, number, &mut self.out)?;
+            piece_into(self.alloc, self.program.bytes(), number, &mut self.out)?;
         }
         self.stand_here()
     }
@@ -125,8 +140,31 @@ impl<W: Walks<A>, A: Allocator + Copy> Telling<'_, W, A> {
         origin_into(written.origin, written.source, &mut line);
         line.end_into(&mut self.out)?;
         match written.read {
-            Some(number) => piece_around_into(self.alloc, self.program, number, &mut self.out),
+            Some(number) => piece_around_into(
+                self.alloc,
+                self.program.bytes(),
+                number,
+                &mut self.out,
+            ),
             None => Ok(()),
+        }
+    }
+
+    /// The line of the program in which the name of the call that comes next was written; none if it is not known, or
+    /// was written elsewhere.
+    pub(crate) fn row_of_next(&mut self) -> Result<Option<u64>, AllocError> {
+        let Ok(place) = of_next(self.walker.glance()) else {
+            return Ok(None);
+        };
+        match self.written(place)? {
+            Ok(
+                Written {
+                    origin: Origin::Read(row, _),
+                    ..
+                },
+            ) => Ok(Some(row)),
+            Err(Stop::Refused(_)) => Err(AllocError),
+            _ => Ok(None),
         }
     }
 
@@ -149,7 +187,7 @@ impl<W: Walks<A>, A: Allocator + Copy> Telling<'_, W, A> {
             End::Untold => Err(AllocError),
             _ if is_idle => Ok(Err(Stop::Idle)),
             end => Ok(Ok(Written {
-                origin: origin_of(self.program, end),
+                origin: origin_of(self.program.bytes(), end),
                 source,
                 read: number_read(end),
             })),

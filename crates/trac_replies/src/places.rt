@@ -20,6 +20,13 @@ impl<A: Allocator + Copy> Places<A> {
         }
     }
 
+    /// Forgets all.
+    pub(crate) fn clear(&mut self)
+        ensures { self.new.steps.items ≡ [] }
+    {
+        self.steps.clear();
+    }
+
     /// Keeps a place, unless it is this step, at which the walk stands. The error is that memory was refused.
     pub(crate) fn keep(&mut self, place: u64, step: u64) -> Result<(), AllocError>
         ensures { OnOk result (self.new.steps.items ≡ with_place place step self.old.steps.items) }

@@ -1,13 +1,15 @@
 //! What a line asks for, done, and what is said of it.
 
+use crate::breaks::Breaks;
 use crate::doubts_told::doubts_into;
 use crate::places::Places;
+use crate::restarting::{Asked, asked_for};
 use crate::telling::Telling;
 use crate::walks::Walks;
 use std::alloc::{AllocError, Allocator};
 use trac_dialogue::{
-    HELP, Move, Order, Spot, UNQUOTED, Word, has_words, is_second_quoted, misunderstood, order_of,
-    texts_of, words_of,
+    Calls, HELP, Move, Order, Spot, UNQUOTED, Wanted, Word, after_first, has_words,
+    is_second_quoted, misunderstood, order_of, texts_of, wanted_of, words_of,
 };
 use trac_forms::Form;
 use trac_person_lines::{
@@ -30,6 +32,12 @@ pub(crate) struct Memo<A: Allocator + Copy> {
     places: Places<A>,
     // whether an empty line follows on from where a byte of the output came from
     follows_on: bool,
+    // the calls at which `s end` and `b start` stop too
+    breaks: Breaks<A>,
+    /// With which program it is asked to begin anew, if it is.
+    pub(crate) asked: Option<Asked<A>>,
+    /// The path of the file from which the program was read last; none of the first one.
+    pub(crate) file: Option<Vec<u8, A>>,
     // after so many steps the last move goes on, if its line comes again: a search whose steps were spent there
     searched: u64,
 }
@@ -41,6 +49,9 @@ impl<A: Allocator + Copy> Memo<A> {
             last: Vec::new(alloc),
             told: false,
             places: Places::new(alloc),
+            breaks: Breaks::new(alloc),
+            asked: None,
+            file: None,
             follows_on: false,
             searched: 0,
         }
@@ -49,6 +60,14 @@ impl<A: Allocator + Copy> Memo<A> {
     /// The step to which `m` goes, if it goes anywhere.
     pub(crate) fn recalled<W: Walks<A>>(&self, walker: &W) -> Option<u64> {
         self.places.latest(walker.step(), walker.first_step())
+    }
+
+    /// Forgets the steps at which moves began, since the walk begins anew.
+    pub(crate) fn begin_anew(&mut self) {
+        self.places.clear();
+        self.told = false;
+        self.follows_on = false;
+        self.searched = 0;
     }
 
     // Keeps a line that asks for a move, for an empty line to repeat, and returns after how many steps that goes on,
@@ -121,7 +140,12 @@ impl<W: Walks<A>, A: Allocator + Copy> Telling<'_, W, A> {
         words: &Vec<Word<A>, A>,
     ) -> Result<bool, AllocError> {
         let texts = texts_of(self.alloc, words)?;
-        match order_of(texts.as_slice(), is_second_quoted(words)) {
+        let wanted = wanted_of(self.alloc, words)?;
+        let calls = Calls {
+            texts: texts.as_slice(),
+            wanted: wanted.as_slice(),
+        };
+        match order_of(calls, is_second_quoted(words)) {
             Some(order) => self.obey(memo, line, order),
             None => self.go_on_after(misunderstood(texts.as_slice())),
         }
@@ -154,11 +178,28 @@ impl<W: Walks<A>, A: Allocator + Copy> Telling<'_, W, A> {
         match order {
             Order::Quit => Ok(()),
             Order::Go(Move::Changed(name)) => self.go_to_change(memo, line, name),
+            Order::Go(Move::UntilSet(name)) => self.go_to_next_change(memo, line, name),
+            Order::Go(Move::ToEnd) if !memo.breaks.is_empty() => {
+                self.go_to_break(memo, line, true)
+            }
+            Order::Go(Move::ToStart) if !memo.breaks.is_empty() => {
+                self.go_to_break(memo, line, false)
+            }
             Order::Go(way) => self.go(memo, line, way),
             Order::Recall => self.recall(memo, line),
             Order::Follow(spot) => self.follow(memo, line, spot),
             Order::Locate => self.written_into(),
             Order::Where => self.begun_calls_into(),
+            Order::Break => {
+                memo.breaks.add(self.alloc, after_first(line))?;
+                memo.breaks.list_into(self.alloc, &mut self.out)
+            }
+            Order::Breaks => memo.breaks.list_into(self.alloc, &mut self.out),
+            Order::Unbreak(number) => self.remove_break(memo, number),
+            Order::Restart(path) => {
+                memo.asked = Some(asked_for(self.alloc, path)?);
+                Ok(())
+            }
             Order::Feed(text) => self.feed(text),
             Order::EndInput => self.end_input(),
             Order::Calls(count, is_whole) => self.calls_into(count, is_whole),
@@ -197,7 +238,12 @@ impl<W: Walks<A>, A: Allocator + Copy> Telling<'_, W, A> {
         let stop = self.moved(memo, line, way)?;
         match (way, stop) {
             (Move::ToDoubt | Move::BackToDoubt, None) => {
-                doubts_into(self.alloc, &mut self.walker, self.program, &mut self.out)
+                doubts_into(
+                    self.alloc,
+                    &mut self.walker,
+                    self.program.bytes(),
+                    &mut self.out,
+                )
             }
             _ => Ok(()),
         }
@@ -231,6 +277,59 @@ impl<W: Walks<A>, A: Allocator + Copy> Telling<'_, W, A> {
         }
     }
 
+    // Goes forward to the call that changes the form of this name next, and says what that is before and after.
+    fn go_to_next_change(
+        &mut self,
+        memo: &mut Memo<A>,
+        line: &[u8],
+        name: &[u8],
+    ) -> Result<(), AllocError> {
+        if self.moved(memo, line, Move::UntilSet(name))?.is_some() {
+            return Ok(());
+        }
+        let before = form_of(&self.walker.sight(), name)?;
+        if self.walker.forward(1).is_some() {
+            return Err(AllocError);
+        }
+        let after = self.walker.sight().store.get(name);
+        change_into(self.alloc, before.as_ref(), after, &mut self.out)?;
+        self.walker.back(1);
+        Ok(())
+    }
+
+    // Goes on, or back, as far as it can or to one of the calls that `break` named.
+    fn go_to_break(
+        &mut self,
+        memo: &mut Memo<A>,
+        line: &[u8],
+        is_ahead: bool,
+    ) -> Result<(), AllocError> {
+        let all = memo.breaks.line(self.alloc)?;
+        let Some(words) = words_of(self.alloc, all.as_slice())? else {
+            return Ok(());
+        };
+        let texts = texts_of(self.alloc, &words)?;
+        let wanted = wanted_of(self.alloc, &words)?;
+        let calls = Calls {
+            texts: texts.as_slice(),
+            wanted: wanted.as_slice(),
+        };
+        let way = if is_ahead {
+            Move::ToEndOr(calls)
+        } else {
+            Move::ToStartOr(calls)
+        };
+        self.go(memo, line, way)
+    }
+
+    // Stops no more at the calls of this number, and says which are left.
+    fn remove_break(&mut self, memo: &mut Memo<A>, number: u64) -> Result<(), AllocError> {
+        if !memo.breaks.remove(number) {
+            return self.stop(Stop::NoBreak);
+        }
+        memo.breaks.list_into(self.alloc, &mut self.out)
+    }
+
     // Carries out a move, whose line is kept, and says where it has come to. Returns why it stopped before its goal, if
     // it did.
     fn moved(
@@ -241,7 +340,7 @@ impl<W: Walks<A>, A: Allocator + Copy> Telling<'_, W, A> {
     ) -> Result<Option<Stop>, AllocError> {
         let searched = memo.keep_line(self.alloc, line)?;
         let start = self.walker.step();
-        let stop = self.walker.carry_out(way, searched);
+        let stop = self.walker.carry_out(self.program.bytes(), way, searched);
         memo.keep_start(way, start, stop, self.walker.step())?;
         self.tell_moved(way, stop, &mut memo.told)?;
         Ok(stop)
@@ -271,7 +370,9 @@ impl<W: Walks<A>, A: Allocator + Copy> Telling<'_, W, A> {
         match memo.places.take(step, first_step) {
             None => self.say(NO_PLACE)?,
             Some(place) => {
-                let stop = self.walker.carry_out(Move::To(place), 0);
+                let stop = self
+                    .walker
+                    .carry_out(self.program.bytes(), Move::To(place), 0);
                 self.tell_stop(stop, &mut memo.told)?;
             }
         }
@@ -379,8 +480,16 @@ fn is_unmet(stop: Option<Stop>) -> bool {
 // Whether a move looks for a call whose first word is the name of no primitive.
 fn names_no_primitive(way: Move<'_>) -> bool {
     match way {
-        Move::Until([name, ..]) | Move::Return([name, ..]) => {
-            primitive_named(name) == Primitive::Unknown
+        Move::Until(calls) | Move::Return(calls) => names_unknown(calls),
+        _ => false,
+    }
+}
+
+// Whether one call is meant, by words alone, whose name is no primitive's.
+fn names_unknown(calls: Calls<'_>) -> bool {
+    match calls.wanted {
+        [Wanted::Text(name), ..] => {
+            calls.is_plain() && primitive_named(name) == Primitive::Unknown
         }
         _ => false,
     }

@@ -1,5 +1,6 @@
 //! What a reply is made with.
 
+use crate::programs::Program;
 use crate::walks::Walks;
 use std::alloc::{AllocError, Allocator};
 use trac_person_lines::{Stop, Treatment, recalled_into, standing_into, stop_into, treatment_into};
@@ -7,13 +8,16 @@ use trac_person_lines::{Stop, Treatment, recalled_into, standing_into, stop_into
 /// So many lines of a list are shown at most. A longer one says how many are left out.
 pub const LINE_COUNT: usize = 30;
 
+/// A line that says why begins in this column, from 0, so that it is not taken for one that begins with a step.
+pub const REASON_COLUMN: usize = 8;
+
 /// The walk that a reply is about, and the text at whose end it is put.
 #[derive(Drop)]
 pub(crate) struct Telling<'p, W: Walks<A>, A: Allocator + Copy> {
     pub(crate) alloc: A,
     pub(crate) walker: W,
     /// The program.
-    pub(crate) program: &'p [u8],
+    pub(crate) program: Program<'p, A>,
     /// The step to which `m` goes, if it goes anywhere.
     pub(crate) recalled: Option<u64>,
     pub(crate) out: Vec<u8, A>,

@@ -75,6 +75,10 @@ pub trait Walks<A: Allocator + Copy>: Sized + Drop {
     /// The doubts of the next step. The error is that memory was refused.
     fn doubts(&self, alloc: A) -> Result<Vec<Doubt, A>, AllocError>;
 
+    /// Goes to the first step of this program, over the input that was typed so far. What is refused is returned, and
+    /// then nothing is changed.
+    fn begin_anew(&mut self, alloc: A, program: &[u8]) -> Option<Refusal>;
+
     /// Adds a line to the input, or says why nothing was done.
     fn feed(&mut self, alloc: A, text: &[u8]) -> Result<(), Refusal>;
 
@@ -82,8 +86,8 @@ pub trait Walks<A: Allocator + Copy>: Sized + Drop {
     fn end_input(&mut self);
 
     /// Carries out a move, and says why it stopped before its goal, if it did. A search forward goes on after so many
-    /// steps on which it has met nothing.
-    fn carry_out(&mut self, way: Move<'_>, searched: u64) -> Option<Stop>;
+    /// steps on which it has met nothing. The walk is one through this program.
+    fn carry_out(&mut self, program: &[u8], way: Move<'_>, searched: u64) -> Option<Stop>;
 
     /// Goes forward by so many steps, until one is refused, which is returned.
     fn forward(&mut self, most: u64) -> Option<Refusal>;
@@ -117,8 +121,19 @@ pub trait Walks<A: Allocator + Copy>: Sized + Drop {
     /// The same, and keeps what is told of the calls on the way.
     fn tell_way(&mut self, alloc: A, place: Place<'_>) -> (Self::Way, End);
 
-    /// Puts what is told of a way at the end of a text. The error is that memory was refused.
-    fn way_into(alloc: A, way: &Self::Way, out: &mut Vec<u8, A>) -> Result<(), AllocError>;
+    /// Of how many calls on a way lines are shown.
+    fn told_count(way: &Self::Way) -> usize;
+
+    /// Puts the line of the call of this number at the end of a text. Returns the number of its step if it gave its
+    /// default argument. The error is that memory was refused.
+    fn told_into(
+        way: &Self::Way,
+        number: usize,
+        out: &mut Vec<u8, A>,
+    ) -> Result<Option<u64>, AllocError>;
+
+    /// Of how many calls on a way nothing is shown.
+    fn left_out(way: &Self::Way) -> usize;
 
     /// The same as `follow`, with where the byte stood in forms that calls gave it from, the latest first: how many
     /// steps back each call is, and which item of its form that was.

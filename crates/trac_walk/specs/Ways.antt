@@ -3,7 +3,7 @@ use Rattle.std.specs.Prelude.{◌≡◌, ◌≢◌, ◌+◌, ◌-◌, ◌^◌, �
 use Rattle.std.specs.Prelude.{if◌then◌else◌}
 use Rattle.trac_person_lines.specs.declared.way.Treatment.{Treatment}
 use Rattle.trac_person_lines.specs.declared.way.Treatment.TheVariants.{Prints, Puts, Gives}
-use Rattle.trac_origins.specs.Places.{Place, InForm, InHeld, InOutput}
+use Rattle.trac_origins.specs.Places.{Place, InArgument, InForm, InHeld, InOutput}
 use Rattle.trac_follow.specs.declared.tracing.End.{End}
 use Rattle.trac_follow.specs.declared.tracing.End.TheVariants.{Untold}
 use Rattle.trac_follow.specs.Passing.{Passing}
@@ -54,3 +54,10 @@ pub record HasTold {A : Type 0} (step : ℕ) (calls : List Passing) (way : Way A
 -- so it is after a trace, unless memory was refused to say more
 abbrev pub AreTold : {A : Type 0} → ℕ → List Passing → End → Way A → Type 0
 AreTold step calls end way = end ≢ Untold → HasTold step calls way
+
+-- ---- from where a call had a byte
+
+-- what stands at this place is of this argument of the innermost of so many begun functions
+abbrev pub IsOfArgument : ℕ → ℕ → Place → Type 0
+IsOfArgument depth argument (InArgument f a i) = (f + 1 ≡ depth) × (a ≡ argument)
+IsOfArgument depth argument place = ⊥

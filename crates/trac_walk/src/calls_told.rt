@@ -5,14 +5,17 @@ ghost use Rattle.trac_follow.specs.Tracing.{told_steps, way_of};
 ghost use Rattle.trac_moves.specs.Steps.{number_of_step};
 ghost use Rattle.trac_walk.specs.Ways.{AreTold, Tells, deed_at};
 
+use crate::manner::{Giver, Manner, Manners, TextPlace};
 use crate::tracing::traced;
 use std::alloc::{AllocError, Allocator};
-use trac_follow::{Place, Traced, Witness};
+use trac_follow::{End, Place, Source, Traced, Witness, follow};
 use trac_moves::Walker;
-use trac_person_lines::{Treatment, left_out_into, treatment_into};
-use trac_replies::LINE_COUNT;
+use trac_person_lines::{
+    ScreenLine, Treatment, comparison_of, reason_into, step_line, treated_into,
+};
+use trac_replies::{LINE_COUNT, REASON_COLUMN};
 use trac_session::Machine;
-use trac_sight::sight_of;
+use trac_sight::{Sight, sight_of};
 
 /// Of a longer way than `LINE_COUNT` so many calls are shown: two lines are left, for how many are left out, and for
 /// the end.
@@ -25,8 +28,10 @@ pub(crate) struct Told<A: Allocator + Copy> {
     pub(crate) step: u64,
     // what it did with the byte
     pub(crate) deed: Treatment,
-    // the line that says both, and shows the call
-    pub(crate) line: Vec<u8, A>,
+    // the beginning of its line, which shows the call
+    pub(crate) front: ScreenLine<A>,
+    // why it gave the argument that has the byte, if it compared others
+    pub(crate) reason: ScreenLine<A>,
 }
 
 /// What is said of the way of a byte.
@@ -37,6 +42,8 @@ pub(crate) struct Way<A: Allocator + Copy> {
     pub(crate) step: u64,
     // the calls that passed it on and are shown, the latest first
     pub(crate) told: Vec<Told<A>, A>,
+    // from where each of these had it
+    pub(crate) manners: Manners<A>,
     // how many calls passed it on so far
     pub(crate) count: usize,
 }
@@ -51,15 +58,39 @@ impl<A: Allocator + Copy> Way<A> {
         }
     }
 
-    /// Puts the lines of the calls that are shown at the end of a text, and how many are left out. The error is that
-    /// memory was refused.
-    pub(crate) fn lines_into(&self, out: &mut Vec<u8, A>) -> Result<(), AllocError> {
-        for told in self.told.iter() {
-            out.extend_from_slice(told.line.as_slice())?;
-        }
-        match self.left_out() {
-            0 => Ok(()),
-            others => left_out_into(self.alloc, others, out),
+    /// Of how many calls lines are shown.
+    pub(crate) fn told_count(&self) -> usize {
+        self.told.len()
+    }
+
+    /// Puts the line of the call of this number at the end of a text. Returns its step if it gave its default argument.
+    /// The error is that memory was refused.
+    pub(crate) fn told_into(
+        &self,
+        number: usize,
+        out: &mut Vec<u8, A>,
+    ) -> Result<Option<u64>, AllocError> {
+        let Some(told) = self.told.as_slice().get(number) else {
+            return Ok(None);
+        };
+        let manner = self.manners.of(number);
+        let mut line = ScreenLine::new(self.alloc);
+        line.say(told.front.bytes());
+        treated_into(manner.treatment(told.deed), &mut line);
+        told.front.check()?;
+        told.reason.check()?;
+        reason_after_into(self.alloc, line, &told.reason, out)?;
+        Ok(match manner {
+            Manner::Default => Some(told.step),
+            _ => None,
+        })
+    }
+
+    // The step from which the byte was followed to the call that was told last.
+    fn last_start(&self) -> u64 {
+        match self.told.as_slice() {
+            [.., before, _] => before.step,
+            _ => self.step,
         }
     }
 }
@@ -73,6 +104,7 @@ impl<A: Allocator + Copy> Witness<A> for Way<A> {
         steps: u64,
         from: Place<'_>,
     ) -> Result<(), AllocError> {
+        self.manners.hear(machine, from, self.count)?;
         let count = self.count.saturating_add(1);
         // The end takes a line too: so with this call the way is too long, and the line of the one
         // before is taken back.
@@ -83,12 +115,58 @@ impl<A: Allocator + Copy> Witness<A> for Way<A> {
         }
         let step = self.step.saturating_sub(steps);
         let deed = deed_at(from);
-        let mut line = Vec::new(self.alloc);
-        treatment_into(self.alloc, step, &sight_of(machine), deed, &mut line)?;
-        self.told.push(Told { step, deed, line })?;
+        let sight = sight_of(machine);
+        let front = step_line(self.alloc, step, &sight);
+        let reason = comparison_in(self.alloc, &sight, deed);
+        self.told.push(Told {
+            step,
+            deed,
+            front,
+            reason,
+        })?;
         self.count = count;
         Ok(())
     }
+}
+
+// Puts a line at the end of a text, and a reason after it, in a line of its own if there is no room. An empty one is
+// none.
+fn reason_after_into<A: Allocator + Copy>(
+    alloc: A,
+    mut line: ScreenLine<A>,
+    reason: &ScreenLine<A>,
+    out: &mut Vec<u8, A>,
+) -> Result<(), AllocError> {
+    let words = reason.bytes();
+    if words.is_empty() {
+        return line.end_into(out);
+    }
+    if line.has_room(reason.columns().saturating_add(2)) {
+        line.say(b": ");
+        line.say(words);
+        return line.end_into(out);
+    }
+    line.end_into(out)?;
+    let mut own = ScreenLine::new(alloc);
+    own.pad(REASON_COLUMN);
+    own.say(words);
+    own.end_into(out)
+}
+
+// What the call that comes next compares to choose the argument that it gives, in words; empty if it gives none so.
+fn comparison_in<A: Allocator + Copy>(
+    alloc: A,
+    sight: &Sight<'_, A>,
+    deed: Treatment,
+) -> ScreenLine<A> {
+    let mut line = ScreenLine::new(alloc);
+    if !matches!(deed, Treatment::Gives) {
+        return line;
+    }
+    if let Some(reason) = comparison_of(sight) {
+        reason_into(reason, &mut line);
+    }
+    line
 }
 
 // What a call did to a byte that is here after it.
@@ -116,8 +194,63 @@ pub(crate) fn told_way<A: Allocator + Copy>(
         alloc,
         step: walker.step(),
         told: Vec::new(alloc),
+        manners: Manners::new(alloc),
         count: 0,
     };
     let found = traced(alloc, walker, place, &mut way);
     (way, found)
+}
+
+/// Says of the last call on a way from where it had the byte, if that is known only now. The walker stands where the
+/// way ended so, and comes back there.
+pub(crate) fn end_way<A: Allocator + Copy>(
+    walker: &mut Walker<A>,
+    way: &mut Way<A>,
+    end: End,
+) -> Result<(), AllocError> {
+    if !is_found(end) {
+        return Ok(());
+    }
+    if let Some(from) = way.manners.last_from(way.count) {
+        let manner = last_manner(walker, way.manners.giver(), from, way.last_start())?;
+        way.manners.put_last(manner);
+    }
+    Ok(())
+}
+
+// Whether a way was told up to where the byte was read, was made or stands.
+fn is_found(end: End) -> bool {
+    matches!(end, End::Read(_) | End::Made | End::Earlier)
+}
+
+// From where the last call on a way had the byte, which is at this place at this step, further on. It goes there, and
+// comes back. The error is that memory was refused.
+fn last_manner<A: Allocator + Copy>(
+    walker: &mut Walker<A>,
+    giver: Giver,
+    from: TextPlace,
+    step: u64,
+) -> Result<Manner, AllocError> {
+    let end = walker.step();
+    let manner = match walker.go_to(step) {
+        Some(_) => Err(AllocError),
+        None => followed_manner(walker, giver, from),
+    };
+    let here = walker.step();
+    let _ = walker.back(here.saturating_sub(end));
+    manner
+}
+
+// The same from where the byte is followed to that call.
+fn followed_manner<A: Allocator + Copy>(
+    walker: &mut Walker<A>,
+    giver: Giver,
+    from: TextPlace,
+) -> Result<Manner, AllocError> {
+    let most = walker.window.session.len() as u64;
+    match follow(&mut walker.window.session, from.place(), most).source {
+        Source::Passed(place) => Ok(giver.manner_from(place)),
+        Source::Memory => Err(AllocError),
+        _ => Ok(Manner::Plain),
+    }
 }

@@ -1,6 +1,7 @@
 //! Moves, carried out.
 ghost use Rattle.trac_walk.specs.Stops.{IsAsToldOf};
 
+use crate::seeking::{Sought, seek_ahead, seek_back};
 use std::alloc::Allocator;
 use trac_dialogue::Move;
 use trac_moves::{Aim, Search, Walker};
@@ -22,13 +23,20 @@ pub(crate) fn carry_out<A: Allocator + Copy>(
         Move::Back(steps) => stop_back(walker.back(steps)),
         Move::ToEnd => to_end(walker),
         Move::ToStart => to_start(walker),
+        Move::ToEndOr(calls) => to_end_or(walker, Sought::Calls(calls.wanted)),
+        Move::ToStartOr(calls) => to_start_or(walker, Sought::Calls(calls.wanted)),
         Move::To(step) => stop_back(walker.go_to(step)),
         Move::Over => over(walker),
         Move::OverBack => over_back(walker),
         Move::Out => out(walker),
         Move::OutBack => out_back(walker),
-        Move::Until(call) => until(walker, call_aim(call), searched),
-        Move::Return(call) => stop_back(walker.return_to(call_aim(call))),
+        Move::Until(calls) if calls.is_plain() => until(walker, call_aim(calls.texts), searched),
+        Move::Until(calls) => seek(walker, Sought::Calls(calls.wanted), searched),
+        Move::UntilSet(name) => seek(walker, Sought::Change(name), searched),
+        Move::Return(calls) if calls.is_plain() => {
+            stop_back(walker.return_to(call_aim(calls.texts)))
+        }
+        Move::Return(calls) => seek_return(walker, Sought::Calls(calls.wanted)),
         Move::Changed(name) => to_change(walker, name),
         Move::Printed(number) => {
             to_unprinted(printed(walker.released(), walker.pending(), number), walker)
@@ -103,6 +111,56 @@ fn until<A: Allocator + Copy>(walker: &mut Walker<A>, aim: Aim<'_>, searched: u6
         Search::Unmet(refusal, done) => {
             Some(Stop::UnmetUpTo(refusal, start.saturating_add(done)))
         }
+    }
+}
+
+// Forward to what is sought, after so many steps on which it was not met. If it is not met before a step is refused, or
+// by the steps of a search, the walker goes back to where it was, or as far as steps are kept.
+fn seek<A: Allocator + Copy>(
+    walker: &mut Walker<A>,
+    sought: Sought<'_>,
+    searched: u64,
+) -> Option<Stop> {
+    let start = walker.step();
+    let found = match walker.forward(searched) {
+        None => seek_ahead(walker, sought, SEARCH_LIMIT),
+        refused => refused,
+    };
+    let why = found?;
+    let reached = walker.step();
+    let _ = walker.back(reached.saturating_sub(start));
+    Some(match why {
+        Refusal::NotMet => Stop::SpentUpTo(reached),
+        refusal if reached == start => Stop::Unmet(refusal),
+        refusal => Stop::UnmetUpTo(refusal, reached),
+    })
+}
+
+// Back to what is sought, and forward again if it is not met.
+fn seek_return<A: Allocator + Copy>(walker: &mut Walker<A>, sought: Sought<'_>) -> Option<Stop> {
+    let start = walker.step();
+    match seek_back(walker, sought) {
+        Some(Refusal::NotMet) => match walker.go_to(start) {
+            None => Some(Stop::NotMet),
+            refused => stop_ahead(refused),
+        },
+        found => stop_back(found),
+    }
+}
+
+// Forward until a step is refused, by as many steps at most as a search takes, or to what is sought.
+fn to_end_or<A: Allocator + Copy>(walker: &mut Walker<A>, sought: Sought<'_>) -> Option<Stop> {
+    match seek_ahead(walker, sought, SEARCH_LIMIT) {
+        Some(Refusal::NotMet) => Some(Stop::Going),
+        found => stop_ahead(found),
+    }
+}
+
+// Back to what is sought, or to the first step that is kept.
+fn to_start_or<A: Allocator + Copy>(walker: &mut Walker<A>, sought: Sought<'_>) -> Option<Stop> {
+    match seek_back(walker, sought) {
+        None => None,
+        Some(_) => to_start(walker),
     }
 }
 

@@ -5,8 +5,12 @@
 mod calls_told;
 mod carrying_out;
 mod following;
+mod manner;
+mod restarting;
+mod seeking;
 mod tracing;
 mod walking;
 mod walks;
 
-pub use walking::{Settings, walk};
+pub use trac_dialogue::{OneProgram, Programs, Unread};
+pub use walking::{Settings, walk, walk_among};

@@ -5,10 +5,11 @@ ghost use Rattle.trac_rules.specs.declared.limit.TheConstants.{JOURNAL_LIMIT, TA
 ghost use Rattle.trac_dialogue.specs.Talks.{Gives, IsStop, Takes};
 ghost use Rattle.trac_walk.specs.Ends.{MayEnd};
 
+use crate::restarting::Kept;
 use crate::walks::Walked;
 use std::alloc::Allocator;
 use std::io::{Read, Write};
-use trac_dialogue::converse;
+use trac_dialogue::{OneProgram, Programs, converse};
 use trac_moves::Walker;
 use trac_replies::Guide;
 use trac_rules::width::Width;
@@ -52,22 +53,53 @@ pub fn walk<R: Read, W: Write, A: Allocator + Copy>(
     ensures unread { result ≡ Ending.Limit → Keeps (R.remaining input.old) (R.remaining input.new) }
     ensures unwritten { result ≡ Ending.Limit → Keeps (W.contents output.old) (W.contents output.new) }
 {
-    match Walker::new(
-        alloc,
-        tape,
-        settings.journal,
-        settings.keep,
-        settings.decimals,
-    ) {
-        Ok(walker) => talk(alloc, walker, tape, settings.prompt, input, output),
+    walk_among(alloc, &OneProgram, tape, input, output, settings)
+}
+
+/// The same through a program that is read anew where the person asks for it.
+#[tactic(auto, using(crate::proofs::Ended::for_walk))]
+pub fn walk_among<P: Programs<A>, R: Read, W: Write, A: Allocator + Copy>(
+    alloc: A,
+    programs: &P,
+    tape: &[u8],
+    input: &mut R,
+    output: &mut W,
+    settings: Settings,
+) -> Ending
+    requires some_records { 1 ≤ settings.journal }
+    requires most_records { settings.journal ≤ JOURNAL_LIMIT }
+    ensures took { Takes (R.remaining input.old) (R.remaining input.new) }
+    ensures gave { Gives (W.contents output.old) (W.contents output.new) }
+    ensures ends { MayEnd result }
+    ensures too_long { (result ≡ Ending.Limit) ↔ (TAPE_LIMIT < length tape.now) }
+    ensures unread { result ≡ Ending.Limit → Keeps (R.remaining input.old) (R.remaining input.new) }
+    ensures unwritten { result ≡ Ending.Limit → Keeps (W.contents output.old) (W.contents output.new) }
+{
+    let Settings {
+        journal,
+        keep,
+        decimals,
+        prompt,
+    } = settings;
+    match Walker::new(alloc, tape, journal, keep, decimals) {
+        Ok(walker) => {
+            let kept = Kept {
+                journal,
+                keep,
+                width: decimals,
+            };
+            let walked = Walked::new(alloc, walker, kept);
+            talk(alloc, walked, programs, tape, prompt, input, output)
+        }
         Err(ending) => ending,
     }
 }
 
 // Replies to a person who walks through this program with a walker that stands at its start.
-fn talk<R: Read, W: Write, A: Allocator + Copy>(
+fn talk<P: Programs<A>, R: Read, W: Write, A: Allocator + Copy>(
     alloc: A,
-    walker: Walker<A>,
+    walked: Walked<A>,
+    programs: &P,
     program: &[u8],
     prompt: bool,
     input: &mut R,
@@ -77,6 +109,6 @@ fn talk<R: Read, W: Write, A: Allocator + Copy>(
     ensures gave { Gives (W.contents output.old) (W.contents output.new) }
     ensures ends { IsStop result }
 {
-    let mut guide = Guide::new(alloc, Walked { walker }, program);
-    converse(alloc, &mut guide, prompt, input, output)
+    let mut guide = Guide::new(alloc, walked, program);
+    converse(alloc, &mut guide, programs, prompt, input, output)
 }
