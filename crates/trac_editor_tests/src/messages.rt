@@ -186,3 +186,19 @@ fn writes(rt: HostRuntime) {
         assert!(rt; is_written(&rt, write, front, Some(Ending::Write)));
     }
 }
+
+// What was read is ready, and so is the end once it was seen.
+#[test]
+fn what_was_read_is_ready(rt: HostRuntime) {
+    let mut incoming = Incoming::new(rt.alloc());
+    let mut input = THREE;
+    assert!(rt; !incoming.is_ready());
+    for is_last in [false, false, true] {
+        let next = incoming.next(&mut input);
+        assert_eq!(rt; next, Ok(Next::Message));
+        assert_eq!(rt; incoming.is_ready(), !is_last);
+    }
+    let next = incoming.next(&mut input);
+    assert_eq!(rt; next, Ok(Next::End));
+    assert!(rt; incoming.is_ready());
+}

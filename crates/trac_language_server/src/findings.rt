@@ -1,13 +1,17 @@
 //! What is doubtful in a text, as the lines of `trac lint` tell it.
-use crate::json::range_of;
+use crate::codes::{UNUSED, code_of};
+use crate::marked::Marked;
 use crate::parts::after;
 use serde_json::{Value, json};
 use std::alloc::{AllocError, Global};
-use trac_documents::Encoding;
+use trac_mentions::Mentions;
 use trac_rules::byte::LINE_FEED;
 
 // The number that the protocol has for a warning.
 const WARNING: u64 = 2;
+
+// The number that the protocol has for what is not needed, which editors show in a paler colour.
+const UNNECESSARY: u64 = 1;
 
 // What the words of a note begin with.
 const NOTE: &str = "note: ";
@@ -19,113 +23,119 @@ struct Finding<'a> {
     words: &'a str,
 }
 
-/// Who says what is doubtful in a program.
+/// Who runs programs, and says what is doubtful in them and how they name their forms.
 pub trait Linter {
     /// Puts a line for each doubt of a text at the end of others: `:LINE:COLUMN: WORDS`, both counted from 1, columns
     /// by bytes. A line whose words begin with `note: ` belongs to the one before it. There are fewer lines if memory
     /// is refused.
     fn lint_into(&self, text: &[u8], lines: &mut Vec<u8>);
+
+    /// What a run of a text tells of its forms.
+    fn mentions(&self, alloc: Global, text: &[u8]) -> Mentions;
+
+    /// Whether two texts print the same, as far as they are run.
+    fn prints_alike(&self, one: &[u8], other: &[u8]) -> bool;
 }
 
-/// The doubts of a text, as the editor is told of them. The error is that memory was refused, here and below.
+/// The doubts of a text of this name, as the editor is told of them. The error is that memory was refused, here and
+/// below.
 pub(crate) fn findings_of<L: Linter>(
     alloc: Global,
     linter: &L,
-    (uri, text): (&str, &[u8]),
-    encoding: Encoding,
+    uri: &str,
+    marked: &Marked<'_>,
 ) -> Result<Value, AllocError> {
     let mut lines = Vec::new(alloc);
-    linter.lint_into(text, &mut lines);
+    linter.lint_into(marked.text, &mut lines);
+    let starts = line_starts(alloc, marked.text)?;
     let mut found = Vec::new(alloc);
     let mut notes = Vec::new(alloc);
     let mut last = None;
     for line in lines.as_slice().split(|byte| *byte == LINE_FEED) {
-        let Some(finding) = finding_of(text, line) else {
+        let Some(finding) = finding_of(starts.as_slice(), line) else {
             continue;
         };
         if let Some(words) = finding.words.strip_prefix(NOTE) {
-            notes.push(note(alloc, (uri, text), encoding, finding.offset, words)?)?;
+            notes.push(note(alloc, uri, marked, finding.offset, words)?)?;
             continue;
         }
         if let Some(finding) = last {
-            found.push(told(alloc, text, encoding, finding, notes)?)?;
+            found.push(told(alloc, marked, finding, notes)?)?;
             notes = Vec::new(alloc);
         }
         last = Some(finding);
     }
     if let Some(finding) = last {
-        found.push(told(alloc, text, encoding, finding, notes)?)?;
+        found.push(told(alloc, marked, finding, notes)?)?;
     }
     Ok(Value::Array(found))
 }
 
+// Where the lines of a text begin, as the lines of `trac lint` count them: after line feeds alone.
+fn line_starts(alloc: Global, text: &[u8]) -> Result<Vec<usize>, AllocError> {
+    let mut starts = Vec::new(alloc);
+    starts.push(0)?;
+    for (place, byte) in text.iter().enumerate() {
+        if *byte == LINE_FEED {
+            starts.push(place.saturating_add(1))?;
+        }
+    }
+    Ok(starts)
+}
+
 // What a line tells: `:LINE:COLUMN: WORDS`, both counted from 1, columns by bytes.
-fn finding_of<'a>(text: &[u8], line: &'a [u8]) -> Option<Finding<'a>> {
+fn finding_of<'a>(starts: &[usize], line: &'a [u8]) -> Option<Finding<'a>> {
     let line = str::from_utf8(line).ok()?;
     let (number, rest) = line.strip_prefix(":")?.split_once(":")?;
     let (column, words) = rest.split_once(": ")?;
-    let offset = offset_at(text, number.parse().ok()?, column.parse().ok()?);
+    let number = number.parse::<usize>().ok()?;
+    let column = column.parse::<usize>().ok()?;
+    let start = starts.get(number.checked_sub(1)?)?;
+    let offset = start.saturating_add(column.checked_sub(1)?);
     Some(Finding { offset, words })
-}
-
-// How many bytes of a text stand before this column of this line; all, if there are fewer.
-fn offset_at(text: &[u8], line: u64, column: u64) -> usize {
-    let mut line = line;
-    let mut column = column;
-    for (place, byte) in text.iter().enumerate() {
-        if line <= 1 {
-            if column <= 1 {
-                return place;
-            }
-            column = column.saturating_sub(1);
-        } else if *byte == LINE_FEED {
-            line = line.saturating_sub(1);
-        }
-    }
-    text.len()
 }
 
 // A finding, as the editor is told of it.
 fn told(
     alloc: Global,
-    text: &[u8],
-    encoding: Encoding,
+    marked: &Marked<'_>,
     finding: Finding<'_>,
     notes: Vec<Value>,
 ) -> Result<Value, AllocError> {
-    let range = word_at(alloc, text, encoding, finding.offset)?;
-    let notes = Value::Array(notes);
+    let range = word_at(alloc, marked, finding.offset)?;
+    let code = code_of(finding.words);
+    let mut tags = Vec::new(alloc);
+    if code == UNUSED {
+        tags.push(Value::from(UNNECESSARY))?;
+    }
     json!(in alloc; {
         "range": range,
         "severity": WARNING,
+        "code": code,
         "source": "trac",
         "message": finding.words,
-        "relatedInformation": notes
+        "tags": Value::Array(tags),
+        "relatedInformation": Value::Array(notes)
     })
 }
 
 // A note beside a finding.
 fn note(
     alloc: Global,
-    (uri, text): (&str, &[u8]),
-    encoding: Encoding,
+    uri: &str,
+    marked: &Marked<'_>,
     offset: usize,
     words: &str,
 ) -> Result<Value, AllocError> {
-    let range = word_at(alloc, text, encoding, offset)?;
+    let range = word_at(alloc, marked, offset)?;
     json!(in alloc; {"location": {"uri": uri, "range": range}, "message": words})
 }
 
 // The range of the word that begins at a byte: up to what ends an argument, or a blank; at least the byte.
-fn word_at(
-    alloc: Global,
-    text: &[u8],
-    encoding: Encoding,
-    offset: usize,
-) -> Result<Value, AllocError> {
-    let rest = after(text, offset);
+fn word_at(alloc: Global, marked: &Marked<'_>, offset: usize) -> Result<Value, AllocError> {
+    let rest = after(marked.text, offset);
     let len = rest.iter().position(|byte| byte.is_ascii_whitespace()
         || matches!(*byte, b',' | b'(' | b')'));
     let end = offset.saturating_add(len.unwrap_or(rest.len()).max(1));
-    range_of(alloc, text, encoding, (offset, end))
+    marked.range(alloc, (offset, end))
 }

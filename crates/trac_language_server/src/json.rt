@@ -2,7 +2,7 @@
 
 use serde_json::{Value, json};
 use std::alloc::{AllocError, Global};
-use trac_documents::{Encoding, Position, Range, position_of};
+use trac_documents::{Position, Range};
 
 /// The message is no JSON.
 pub(crate) const NO_JSON: i64 = -32700;
@@ -15,6 +15,12 @@ pub(crate) const NO_METHOD: i64 = -32601;
 
 /// The method takes other arguments.
 pub(crate) const NO_ARGUMENTS: i64 = -32602;
+
+/// The editor has cancelled the request.
+pub(crate) const CANCELLED: i64 = -32800;
+
+/// The request was understood, and is refused.
+pub(crate) const FAILED: i64 = -32803;
 
 /// `initialize` has to come first.
 pub(crate) const NOT_YET: i64 = -32002;
@@ -39,17 +45,6 @@ pub(crate) fn notice(alloc: Global, method: &str, params: Value) -> Result<Value
     json!(in alloc; {"jsonrpc": "2.0", "method": method, "params": params})
 }
 
-/// The bytes between two places of a text, as a range.
-pub(crate) fn range_of(
-    alloc: Global,
-    text: &[u8],
-    encoding: Encoding,
-    (start, end): (usize, usize),
-) -> Result<Value, AllocError> {
-    let start = position_of(text, encoding, start);
-    range_between(alloc, start, position_of(text, encoding, end))
-}
-
 /// What stands between two positions, as a range.
 pub(crate) fn range_between(
     alloc: Global,
@@ -69,6 +64,15 @@ fn place_of(alloc: Global, position: Position) -> Result<Value, AllocError> {
 /// The text at a path of a message.
 pub(crate) fn text_at<'a>(message: &'a Value, path: &str) -> Option<&'a str> {
     message.pointer(path).and_then(Value::as_str)
+}
+
+/// Whether two ids of requests are the same: both texts, or both numbers.
+pub(crate) fn is_same_id(one: &Value, other: &Value) -> bool {
+    match (one.as_str(), other.as_str()) {
+        (Some(one), Some(other)) => one == other,
+        (None, None) => one.as_i64().is_some() && one.as_i64() == other.as_i64(),
+        _ => false,
+    }
 }
 
 /// The position of a value.

@@ -13,6 +13,18 @@ pub(crate) struct Primitive {
     pub example: &'static str,
 }
 
+impl Primitive {
+    /// Whether this argument of a call of it names a form.
+    pub(crate) fn takes_form(&self, argument: usize) -> bool {
+        let takes_many = self.name == "dd" || self.name == "sb";
+        let names_form = self
+            .call
+            .split_once(",")
+            .is_some_and(|(_, arguments)| arguments.starts_with("N"));
+        names_form && (argument == 1 || takes_many && argument > 1)
+    }
+}
+
 /// All primitives, by their names.
 pub(crate) const PRIMITIVES: &[Primitive] = &[
     Primitive {

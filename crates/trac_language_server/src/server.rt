@@ -1,17 +1,22 @@
 //! The server: what it knows, and what it replies to each message.
 
-use crate::calls::{between, name_at};
+use crate::asked::Asked;
 use crate::documents::Documents;
 use crate::findings::{Linter, findings_of};
+use crate::folding::folds_of;
+use crate::forms::named_at;
 use crate::json::{
-    NO_ARGUMENTS, NO_JSON, NO_METHOD, NO_REQUEST, NOT_YET, notice, position_in, range_in, range_of,
-    refusal, reply, text_at,
+    CANCELLED, FAILED, NO_METHOD, NO_REQUEST, NOT_YET, notice, position_in, range_in, refusal,
+    reply, text_at,
 };
-use crate::primitives::{PRIMITIVES, Primitive, primitive_named};
+use crate::marked::Marked;
+use crate::renaming::{Renaming, renaming_of};
+use crate::selecting::selections_of;
 use crate::symbols::symbols_of;
+use crate::waiting::{Came, is_cancelled, is_changed};
 use serde_json::{Value, json};
 use std::alloc::{AllocError, Global};
-use trac_documents::{Encoding, changed, offset_of};
+use trac_documents::{Encoding, changed};
 
 // Where the name of a request's document stands.
 const URI: &str = "/params/textDocument/uri";
@@ -26,7 +31,7 @@ enum Phase {
 
 /// What becomes of a message.
 #[derive(Clone, Copy, Debug, PartialEq, Eq)]
-pub enum Turn {
+pub(crate) enum Turn {
     /// The server goes on.
     GoesOn,
     /// The editor asked it to end; whether it asked for that first by `shutdown`.
@@ -55,13 +60,17 @@ impl<'l, L: Linter> Server<'l, L> {
         }
     }
 
-    /// Does what a message asks for, and puts the messages that are sent for it at the end of others. The error is that
-    /// memory was refused.
-    pub fn take(&mut self, message: &[u8], sent: &mut Vec<Value>) -> Result<Turn, AllocError> {
-        match Value::from_slice(self.alloc, message) {
-            Ok(message) => self.take_value(&message, sent),
-            Err(error) if error.is_memory() => Err(AllocError),
-            Err(_) => self.refuse(&Value::Null, NO_JSON, "this is no JSON", sent),
+    /// Does what a message that came wants, unless later ones make that void, and puts the messages that are sent for
+    /// it at the end of others. The error is that memory was refused, here and below.
+    pub(crate) fn take(
+        &mut self,
+        one: &Came,
+        later: &[Came],
+        sent: &mut Vec<Value>,
+    ) -> Result<Turn, AllocError> {
+        match one {
+            Came::Message(message) => self.take_value(message, later, sent),
+            Came::Fault(code, words) => self.refuse(&Value::Null, *code, *words, sent),
         }
     }
 
@@ -78,7 +87,12 @@ impl<'l, L: Linter> Server<'l, L> {
     }
 
     // Does what a message asks for. A reply asks for nothing.
-    fn take_value(&mut self, message: &Value, sent: &mut Vec<Value>) -> Result<Turn, AllocError> {
+    fn take_value(
+        &mut self,
+        message: &Value,
+        later: &[Came],
+        sent: &mut Vec<Value>,
+    ) -> Result<Turn, AllocError> {
         let null = Value::Null;
         let Some(method) = text_at(message, "/method") else {
             if message.get("result").is_some() || message.get("error").is_some() {
@@ -88,8 +102,11 @@ impl<'l, L: Linter> Server<'l, L> {
             return self.refuse(id, NO_REQUEST, "this is no request", sent);
         };
         match message.get("id") {
+            Some(id) if is_cancelled(later, id) => {
+                self.refuse(id, CANCELLED, "the request is cancelled", sent)
+            }
             Some(id) => self.answer(id, method, message, sent),
-            None => self.heed(method, message, sent),
+            None => self.heed(method, message, later, sent),
         }
     }
 
@@ -111,18 +128,104 @@ impl<'l, L: Linter> Server<'l, L> {
             _ => {}
         }
         let result = match method.as_bytes() {
-            b"initialize" => self.begin(message)?,
+            b"initialize" => Some(self.begin(message)?),
             b"shutdown" => {
                 self.phase = Phase::ShutDown;
-                Value::Null
+                Some(Value::Null)
             }
-            b"textDocument/hover" => self.hint(message)?,
-            b"textDocument/completion" => self.completions(message)?,
-            b"textDocument/documentSymbol" => self.symbols(message)?,
-            _ => return self.refuse(id, NO_METHOD, "there is no such method", sent),
+            b"textDocument/rename" => return self.rename(id, message, sent),
+            method => match self.of_text(method, message)? {
+                Some(result) => Some(result),
+                None => self.of_run(method, message)?,
+            },
         };
-        sent.push(reply(self.alloc, id, result)?)?;
-        Ok(Turn::GoesOn)
+        match result {
+            Some(result) => {
+                sent.push(reply(self.alloc, id, result)?)?;
+                Ok(Turn::GoesOn)
+            }
+            None => self.refuse(id, NO_METHOD, "there is no such method", sent),
+        }
+    }
+
+    // What a request gives that looks at a text alone; none, if it has another method.
+    fn of_text(&self, method: &[u8], message: &Value) -> Result<Option<Value>, AllocError> {
+        let marked = self.marked(message)?;
+        Ok(Some(match method {
+            b"textDocument/documentSymbol" => symbols_of(self.alloc, &marked)?,
+            b"textDocument/foldingRange" => folds_of(self.alloc, &marked)?,
+            b"textDocument/selectionRange" => self.selections(message, &marked)?,
+            _ => return Ok(None),
+        }))
+    }
+
+    // What a request gives that looks at a place of a text that was run; none, if it has another method.
+    fn of_run(&mut self, method: &[u8], message: &Value) -> Result<Option<Value>, AllocError> {
+        match Asked::of(method, message) {
+            Some(asked) => {
+                self.learn(message);
+                Ok(Some(self.result_of(asked, message)?))
+            }
+            None => Ok(None),
+        }
+    }
+
+    // What is replied to what is asked of a text that was run; null, if it is not open.
+    fn result_of(&self, asked: Asked, message: &Value) -> Result<Value, AllocError> {
+        let uri = text_at(message, URI).unwrap_or("");
+        let Some(known) = self.documents.known(uri) else {
+            return Ok(Value::Null);
+        };
+        let marked = self.marked(message)?;
+        match spot_of(message, &marked) {
+            Some(offset) => asked.result(self.alloc, (uri, &marked), known, offset),
+            None => Ok(Value::Null),
+        }
+    }
+
+    // Runs the text of a request, if it is open and was not run as it is.
+    fn learn(&mut self, message: &Value) {
+        let uri = text_at(message, URI).unwrap_or("");
+        if self.documents.known(uri).is_some() {
+            return;
+        }
+        if let Some(text) = self.documents.text(uri) {
+            let known = self.linter.mentions(self.alloc, text);
+            self.documents.keep(uri, known);
+        }
+    }
+
+    // Gives a form another name.
+    fn rename(
+        &mut self,
+        id: &Value,
+        message: &Value,
+        sent: &mut Vec<Value>,
+    ) -> Result<Turn, AllocError> {
+        self.learn(message);
+        match self.renaming(message)? {
+            Renaming::Edits(edits) => {
+                sent.push(reply(self.alloc, id, edits)?)?;
+                Ok(Turn::GoesOn)
+            }
+            Renaming::Refused(why) => self.refuse(id, FAILED, why.as_str(), sent),
+        }
+    }
+
+    // What becomes of the renaming that a request asks for.
+    fn renaming(&self, message: &Value) -> Result<Renaming, AllocError> {
+        let uri = text_at(message, URI).unwrap_or("");
+        let new = text_at(message, "/params/newName").unwrap_or("");
+        let marked = self.marked(message)?;
+        if let Some(known) = self.documents.known(uri)
+            && let Some(offset) = spot_of(message, &marked)
+            && let Some(named) = named_at(self.alloc, marked.text, known, offset)?
+        {
+            let names = (named.name, new);
+            return renaming_of(self.alloc, self.linter, (uri, &marked), known, names);
+        }
+        let why = "no form is named here";
+        Ok(Renaming::Refused(String::from_str(self.alloc, why)?))
     }
 
     // Begins: chooses how positions are counted, and says what the server can do.
@@ -145,8 +248,14 @@ impl<'l, L: Linter> Server<'l, L> {
                 "positionEncoding": encoding,
                 "textDocumentSync": {"openClose": true, "change": 2},
                 "hoverProvider": true,
-                "completionProvider": {"triggerCharacters": ["("]},
-                "documentSymbolProvider": true
+                "completionProvider": {"triggerCharacters": ["(", ","]},
+                "definitionProvider": true,
+                "referencesProvider": true,
+                "renameProvider": {"prepareProvider": true},
+                "documentSymbolProvider": true,
+                "documentHighlightProvider": true,
+                "foldingRangeProvider": true,
+                "selectionRangeProvider": true
             },
             "serverInfo": {"name": "trac lsp"}
         })
@@ -157,6 +266,7 @@ impl<'l, L: Linter> Server<'l, L> {
         &mut self,
         method: &str,
         message: &Value,
+        later: &[Came],
         sent: &mut Vec<Value>,
     ) -> Result<Turn, AllocError> {
         if method == "exit" {
@@ -166,16 +276,20 @@ impl<'l, L: Linter> Server<'l, L> {
             return Ok(Turn::GoesOn);
         }
         match method.as_bytes() {
-            b"textDocument/didOpen" => self.open(message, sent)?,
-            b"textDocument/didChange" => self.change(message, sent)?,
-            b"textDocument/didClose" => self.close(message, sent)?,
+            b"textDocument/didOpen" => self.open(message)?,
+            b"textDocument/didChange" => self.change(message)?,
+            b"textDocument/didClose" => return self.close(message, sent),
+            _ => return Ok(Turn::GoesOn),
+        }
+        match text_at(message, URI) {
+            Some(uri) if !is_changed(later, uri) => self.publish(uri, sent)?,
             _ => {}
         }
         Ok(Turn::GoesOn)
     }
 
     // Opens a document.
-    fn open(&mut self, message: &Value, sent: &mut Vec<Value>) -> Result<(), AllocError> {
+    fn open(&mut self, message: &Value) -> Result<(), AllocError> {
         let (Some(uri), Some(text)) = (
             text_at(message, URI),
             text_at(message, "/params/textDocument/text"),
@@ -183,12 +297,11 @@ impl<'l, L: Linter> Server<'l, L> {
             return Ok(());
         };
         let text = Vec::from_slice(self.alloc, text.as_bytes())?;
-        self.documents.put(self.alloc, uri, text)?;
-        self.publish(uri, sent)
+        self.documents.put(self.alloc, uri, text)
     }
 
     // Changes a document.
-    fn change(&mut self, message: &Value, sent: &mut Vec<Value>) -> Result<(), AllocError> {
+    fn change(&mut self, message: &Value) -> Result<(), AllocError> {
         let Some(uri) = text_at(message, URI) else {
             return Ok(());
         };
@@ -199,7 +312,7 @@ impl<'l, L: Linter> Server<'l, L> {
         for change in changes {
             self.change_once(uri, change)?;
         }
-        self.publish(uri, sent)
+        Ok(())
     }
 
     // Changes a document once.
@@ -213,12 +326,12 @@ impl<'l, L: Linter> Server<'l, L> {
     }
 
     // Closes a document: nothing is doubtful in it any longer.
-    fn close(&mut self, message: &Value, sent: &mut Vec<Value>) -> Result<(), AllocError> {
-        let Some(uri) = text_at(message, URI) else {
-            return Ok(());
-        };
-        self.documents.close(uri);
-        self.send_findings(uri, Value::Array(Vec::new(self.alloc)), sent)
+    fn close(&mut self, message: &Value, sent: &mut Vec<Value>) -> Result<Turn, AllocError> {
+        if let Some(uri) = text_at(message, URI) {
+            self.documents.close(uri);
+            self.send_findings(uri, Value::Array(Vec::new(self.alloc)), sent)?;
+        }
+        Ok(Turn::GoesOn)
     }
 
     // Says what is doubtful in a document.
@@ -226,7 +339,8 @@ impl<'l, L: Linter> Server<'l, L> {
         let Some(text) = self.documents.text(uri) else {
             return Ok(());
         };
-        let found = findings_of(self.alloc, self.linter, (uri, text), self.encoding)?;
+        let marked = Marked::of(self.alloc, text, self.encoding)?;
+        let found = findings_of(self.alloc, self.linter, uri, &marked)?;
         self.send_findings(uri, found, sent)
     }
 
@@ -241,71 +355,30 @@ impl<'l, L: Linter> Server<'l, L> {
         Ok(sent.push(notice)?)
     }
 
-    // The text of a request's document, and the byte before which its position stands.
-    fn spot(&self, message: &Value) -> Option<(&[u8], usize)> {
-        let text = self.documents.text(text_at(message, URI)?)?;
-        let position = position_in(message.pointer("/params/position")?)?;
-        Some((text, offset_of(text, self.encoding, position)))
-    }
-
-    // What the primitive does whose name stands at a position; null, if there is none.
-    fn hint(&self, message: &Value) -> Result<Value, AllocError> {
-        let Some((text, offset)) = self.spot(message) else {
-            return Ok(Value::Null);
-        };
-        let Some(place) = name_at(text, offset) else {
-            return Ok(Value::Null);
-        };
-        let Some(primitive) = primitive_named(between(text, place)) else {
-            return Ok(Value::Null);
-        };
-        let words = words_of(self.alloc, primitive)?;
-        let range = range_of(self.alloc, text, self.encoding, place)?;
-        json!(in self.alloc; {
-            "contents": {"kind": "plaintext", "value": words.as_str()}, "range": range
-        })
-    }
-
-    // The names that may stand at a position: those of primitives, right after `#(` and letters.
-    fn completions(&self, message: &Value) -> Result<Value, AllocError> {
-        let mut names = Vec::new(self.alloc);
-        let named = self
-            .spot(message)
-            .and_then(|(text, offset)| name_at(text, offset));
-        if named.is_some() {
-            for primitive in PRIMITIVES {
-                names.push(completion(self.alloc, primitive)?)?;
-            }
-        }
-        Ok(Value::Array(names))
-    }
-
-    // The forms that a document defines.
-    fn symbols(&self, message: &Value) -> Result<Value, AllocError> {
+    // The text of a request's document, with its positions; none is an empty text.
+    fn marked(&self, message: &Value) -> Result<Marked<'_>, AllocError> {
         let text = text_at(message, URI).and_then(|uri| self.documents.text(uri));
-        symbols_of(self.alloc, text.unwrap_or(b""), self.encoding)
+        Marked::of(self.alloc, text.unwrap_or(b""), self.encoding)
+    }
+
+    // What is selected in turn from each position of a request on; null, if it has none.
+    fn selections(&self, message: &Value, marked: &Marked<'_>) -> Result<Value, AllocError> {
+        let Some(Value::Array(positions)) = message.pointer("/params/positions") else {
+            return Ok(Value::Null);
+        };
+        let mut offsets = Vec::new(self.alloc);
+        for position in positions {
+            let Some(position) = position_in(position) else {
+                return Ok(Value::Null);
+            };
+            offsets.push(marked.offset(position))?;
+        }
+        selections_of(self.alloc, marked, offsets.as_slice())
     }
 }
 
-// What a primitive does, in a few lines.
-fn words_of(alloc: Global, primitive: &Primitive) -> Result<String, AllocError> {
-    let mut words = String::from_str(alloc, primitive.call)?;
-    words.push_str("\n")?;
-    words.push_str(primitive.deed)?;
-    words.push_str("\nExample: ")?;
-    words.push_str(primitive.example)?;
-    Ok(words)
-}
-
-// The number that the protocol has for a function among what completes.
-const FUNCTION: u64 = 3;
-
-// A primitive, as it completes a name.
-fn completion(alloc: Global, primitive: &Primitive) -> Result<Value, AllocError> {
-    json!(in alloc; {
-        "label": primitive.name,
-        "kind": FUNCTION,
-        "detail": primitive.call,
-        "documentation": primitive.deed
-    })
+// The byte of a text before which a request's position stands.
+fn spot_of(message: &Value, marked: &Marked<'_>) -> Option<usize> {
+    let position = position_in(message.pointer("/params/position")?)?;
+    Some(marked.offset(position))
 }

@@ -40,12 +40,17 @@ pub(crate) struct Origins<'s, A: Allocator + Copy> {
 impl<'s, A: Allocator + Copy> Origins<'s, A> {
     /// Of the bytes of these files, in a program that is run so.
     pub(crate) fn new(alloc: A, run: Run<'s>) -> Self {
+        Origins::within(alloc, run, WAYS_LIMIT)
+    }
+
+    /// The same, over so many steps at most.
+    pub(crate) fn within(alloc: A, run: Run<'s>, left: u64) -> Self {
         Origins {
             alloc,
             sources: run.sources,
             ways: Ways::new(alloc),
             scout: Scout::new(alloc, run),
-            left: WAYS_LIMIT,
+            left,
         }
     }
 

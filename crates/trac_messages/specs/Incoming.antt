@@ -1,5 +1,6 @@
 -- What a reader gives of the frames of its bytes.
-use Rattle.std.specs.Prelude.{◌≡◌, ◌⊎◌, ℕ, ◌+◌, ◌<◌, ◌≤◌, List, [], ◌∷◌, ◌++◌, length, take, drop, Bool, true, false}
+use Rattle.std.specs.Prelude.{◌≡◌, ◌≢◌, ◌⊎◌, ℕ, ◌+◌, ◌<◌, ◌≤◌, Bool, true, false}
+use Rattle.std.specs.Prelude.{List, [], ◌∷◌, ◌++◌, length, take, drop}
 use Rattle.std.specs.Prelude.{Option, refl}
 use Rattle.std.specs.Coded.{Coded, code_by, coded×, coded_bool, coded_ℕ}
 use Rattle.std.specs.Io.KnownBytes.{Consumes, IsAtEnd}
@@ -89,3 +90,9 @@ IsFront bytes ended (Unannounced size) = (more : List ℕ) →
 IsFront bytes ended Broken = (ended ≡ true) × (frames_of bytes ≡ Frame.Cut ∷ [])
 IsFront bytes ended End = (ended ≡ true) × (bytes ≡ [])
 IsFront bytes ended Part = (ended ≡ false) × (length bytes < HELD_LIMIT)
+
+-- something stands at the front of these bytes that is seen without a read
+pub record IsReady (bytes : List ℕ) (ended : Bool) : Type 0 where
+  pub front : Front
+  pub is : IsFront bytes ended front
+  pub whole : front ≢ Part

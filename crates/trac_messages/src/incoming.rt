@@ -1,7 +1,7 @@
 //! Messages, as their frames are read.
-ghost use Rattle.std.specs.Prelude.{◌≡◌, ◌≢◌, ℕ, ◌+◌, ◌<◌, ◌≤◌, List, [], ◌∷◌, length, take, drop, false, IfOk, OnOk};
+ghost use Rattle.std.specs.Prelude.{◌≡◌, ◌≢◌, ℕ, ◌+◌, ◌<◌, ◌≤◌, List, [], ◌∷◌, length, take, drop, false, true, IfOk, OnOk};
 ghost use Rattle.std.specs.Prelude.{IfErr};
-ghost use Rattle.trac_messages.specs.Incoming.{Fails, Gathers, Gives, HELD_LIMIT, IsFront, IsGiven, ReadsMore, coming};
+ghost use Rattle.trac_messages.specs.Incoming.{Fails, Gathers, Gives, HELD_LIMIT, IsFront, IsGiven, IsReady, ReadsMore, coming};
 ghost use Rattle.trac_messages.specs.Frames.{Frame, frames_of};
 
 use crate::header::{Heading, MESSAGE_LIMIT, heading_of};
@@ -103,6 +103,18 @@ impl<A: Allocator + Copy> Incoming<A> {
     {
         let front = self.seek(input)?;
         Ok(self.give(front))
+    }
+
+    /// Whether `next` would give something of what was read already, or the end, without a read.
+    pub fn is_ready(&self) -> bool
+        ensures ready { result ≡ true → IsReady self.now.bytes self.now.ended }
+        ensures part { result ≡ false → IsFront self.now.bytes self.now.ended Front.Part }
+    {
+        let front = front_of(self.rest(), self.ended);
+        match front {
+            Front::Part => false,
+            _ => true,
+        }
     }
 
     /// The message that was given last. It takes no memory.
