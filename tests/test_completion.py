@@ -27,7 +27,7 @@ ROWS = [
     (at + "course solution 10.", "10.1 10.2 10.3"), (at + "course check 3.1 f", FILES), (at + "play --budget 9 f",
                                                                                          FILES),
     (at + "walk --memory ", ""), (at + "lint --input f", FILES), (at + "page --step ", ""),
-    (at + "lsp --", "--help"), (at + "lsp f", ""),
+    (at + "lsp --", "--help --stdio --version"), (at + "lsp f", ""), (at + "dap --", "--help"), (at + "dap f", ""),
     *((at + command + rest, wanted) for command in ("walk", "lint", "play", "page")
       for rest, wanted in ((" --ver", "--version"), (" f", FILES))),
 )]

@@ -15,7 +15,7 @@ import shutil
 from collections.abc import Iterator
 from typing import Any
 
-from support.cases import DATA, TOP, Case, near, ran, scratch
+from support.cases import DATA, TOP, Case, lined, near, ran, scratch
 
 EDITORS = TOP / "share" / "editors"
 # A rule of a grammar.
@@ -57,6 +57,10 @@ FORMLESS = set("ps rs rc cm hl tn tf eq gr ad su ml dv bu bi bc bs br da ln".spl
 BITS = {"bu", "bi", "bc", "bs", "br"}
 LINTED = "some file.trac:3:5: no primitive is named pr (step 124)"
 MORE = ".. and 4711 more places"
+# What VS Code is told of tests/data/lint/names.trac beside its doubts.
+IN_VS_CODE = (
+    "symbol greeting 2:1-2:18", "symbol s 5:1-5:10", "hover true", "completion true", "debug TRAC true", "dap", "",
+)
 
 
 @functools.lru_cache(None)
@@ -245,6 +249,19 @@ class Editors(Case):
         self.holds("the problem matcher takes a line of trac lint: {}".format(parts),
                    parts == ["some file.trac", "3", "5", "no primitive is named pr (step 124)"])
         self.holds("and none else", not re.match(pattern["regexp"], MORE))
+
+    def test_extension_in_node(self) -> None:
+        """What VS Code is told by the extension, over a stand-in for VS Code, of a program with doubts."""
+        node, program = shutil.which("node"), DATA / "lint" / "names.trac"
+        if not node:
+            self.skipTest("there is no node")
+        run = ran([node, TOP / "tests" / "support" / "extension.js", EDITORS / "vscode" / "extension.js", TOP / "trac",
+                   program])
+        found = re.findall("^names.trac:([0-9]+:[0-9]+): (.*)$", program.with_suffix(".out").read_text("utf-8"), re.M)
+        told = run.output.decode().split("\n")
+        seen = [re.sub(r"^(\S+)-\S+ (.*) \(step [0-9]+\)$", r"\1 \2", line) for line in told[:len(found)]]
+        self.same("the doubts", lined(seen), lined(" ".join(it) for it in found))
+        self.same("all else", lined(told[len(found):]), lined(IN_VS_CODE))
 
     def read_by_vim(self, files: list[pathlib.Path]) -> None:
         """Has Vim write what it takes each character of these files for; the places in two lines of trac lint; and

@@ -16,7 +16,7 @@ from support.terminals import ending_of
 LAUNCHER = TOP / "trac"
 TEXTS = DATA / "texts"
 FIRST = EXAMPLES / "first.trac"
-COMMANDS = "run", "play", "walk", "debug", "lint", "lsp", "page", "course"
+COMMANDS = "run", "play", "walk", "debug", "lint", "lsp", "dap", "page", "course"
 # Texts, and what a run of them prints.
 PRINTED = (
     (FIRST.read_bytes(), b"Hello, world.\n"), (b"AB'", b"AB"), (b"", b""), (b"a#b##c'", b"a#b##c"),
@@ -24,8 +24,9 @@ PRINTED = (
     (b"#(ds,F,abc)#(ss,F,b)#(pf,F)#(cl,F,b)'", b"<^>a<1>cabc"),
 )
 # Commands that there are not, each with the one that was meant.
-NEAR = (("walk", "wlak wak walk\x1b"), ("lint", "lynt linter"), ("lsp", "lps ls lisp Lsp"), ("play", "paly plai"),
-        ("page", "pages"), ("course", "coruse cours"), ("debug", "debgu bug"), ("run", "rnu ru Run"))
+NEAR = (("walk", "wlak wak walk\x1b"), ("lint", "lynt linter"), ("lsp", "lps ls lisp Lsp"), ("dap", "adp dpa"),
+        ("play", "paly plai"), ("page", "pages"), ("course", "coruse cours"), ("debug", "debgu bug"),
+        ("run", "rnu ru Run"))
 # Lines on standard error.
 SPENT, LIMIT, MEMORY = b"trac: budget spent\n", b"trac: limit passed\n", b"trac: no memory\n"
 READ, WRITE = b"trac: read fault\n", b"trac: write fault\n"
@@ -58,8 +59,8 @@ WIDE = b"#(ad,9223372036854775807,1,Z)'"
 TOO_LONG = b"#(ds,F,(%s))#(ss,F,x)#(cl,F,(%s))" % (b"x" * 4096, b"x" * 4097)
 DOUBLED = b"#(ds,L,(#(ds,D,##(cl,D)##(cl,D))#(cl,L)))'#(ds,D,x)#(ps,begun)#(cl,L)'"
 # The tools for who changes the code that take words, each with words that it does not.
-TOOLS = {"believed": "--nothing", "dear": "trac_text x", "make-release": "x", "release": "--x", "set-version": "--x",
-         "third-party": "/nowhere", "times": "/nowhere", "watch": "x"}
+TOOLS = {"believed": "--nothing", "dear": "trac_text x", "entered": "/nowhere", "make-release": "x", "release": "--x",
+         "set-version": "--x", "third-party": "/nowhere", "times": "/nowhere", "watch": "x"}
 # So many functions may be begun one in another: the idle program has two marks, and each of these one more.
 MOST_BEGUN = 1048574
 
@@ -138,7 +139,7 @@ class Texts(Said):
     def test_text(self, name: str) -> None:
         first, *words = (TEXTS / (name + ".words")).read_text(encoding="utf-8").split()
         program: list[Word] = [TOP / "out" / first]
-        if first in ("trac-lint", "trac-lsp"):
+        if first in ("trac-lint", "trac-lsp", "trac-dap"):
             program = [TOP / "out" / "trac-walk", first.replace("trac-", "--")]
         run, wrong = ran([*program, *words]), TEXTS / (name + ".err")
         place = Place(near(wrong if wrong.exists() else TEXTS / (name + ".out")))
@@ -152,7 +153,7 @@ class Texts(Said):
             listed = re.findall("^  ([a-z]+) ", text, re.M)
             self.same("trac {} lists".format(words), "\n".join(listed), "\n".join(COMMANDS))
             self.holds("trac {} has room on one screen".format(words),
-                       text.count("\n") == 13 and max(map(len, text.split("\n"))) <= 80)
+                       text.count("\n") == 14 and max(map(len, text.split("\n"))) <= 80)
         self.ends("without a command", launched(""), b"", 2, launched("--help").output)
 
     def test_help_of_each_command(self) -> None:
@@ -165,7 +166,7 @@ class Texts(Said):
         self.holds("the help of debug has its commands, and no budget",
                    len(re.findall("^  [sbu] .*COUNT", text, re.M)) == 3 and "--budget" not in text)
         self.holds("it names the debugger for a terminal", "trac walk FILE" in text)
-        for name in "walk", "lint", "lsp", "play", "page", "course":
+        for name in "walk", "lint", "lsp", "dap", "play", "page", "course":
             first = usage(launched(name + " --help").output)
             self.is_help("help " + name, first)
             self.holds("the help of {} says how it is used: {!r}".format(name, first),
@@ -181,7 +182,7 @@ class Texts(Said):
         """The program's version, and the logic of the toolchain that proves it."""
         logic = toolchain().split(" ", 1)[1]
         contents = (TOP / "release" / "contents.txt").read_text(encoding="utf-8")
-        for words in "--version", "run --version", "debug --version":
+        for words in "--version", "run --version", "debug --version", "lsp --version":
             run = launched(words)
             found = re.fullmatch(r"trac ([0-9][0-9.]*) \((.*)\)\n", run.output.decode())
             self.holds("{}: {!r}, in the logic {}".format(run.command, run.output, logic),
@@ -336,6 +337,15 @@ class Endings(Case):
             run = ran([TOP / "tools" / name, *words.split()])
             self.holds("status {} of {}".format(run.status, run.command), run.status in (1, 2))
             self.holds("a line, and no traceback: {!r}".format(run.error), run.error and b"Traceback" not in run.error)
+
+    def test_words_of_tools(self) -> None:
+        """Of no tool's words a byte reaches the terminal that it would obey."""
+        for name, words in TOOLS.items():
+            run = ran([TOP / "tools" / name, *(words + "\x1b]0;y\x07\x9b").split()])
+            said = run.output + run.error
+            self.holds("status {} of {}".format(run.status, run.command), run.status in (1, 2))
+            self.holds("{}: {!r}".format(name, said), b"Traceback" not in said and
+                       all(byte in b"\n" or 32 <= byte < 127 for byte in said))
 
     def test_pipe_that_nobody_reads_any_more(self) -> None:
         ours, theirs = os.pipe()

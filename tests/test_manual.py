@@ -5,7 +5,7 @@ import shutil
 
 from support.cases import TOP, Case, each, ran, tests
 
-PAGES = "trac", "trac-walk", "trac-lint", "trac-lsp", "trac-play", "trac-page", "trac-course"
+PAGES = "trac", "trac-walk", "trac-lint", "trac-lsp", "trac-dap", "trac-play", "trac-page", "trac-course"
 PARTS = "SYNOPSIS", "OPTIONS"
 
 

@@ -1,7 +1,7 @@
 # Completion of trac, and of the links to it, for bash: commands, options, and a FILE where one is wanted.
 _trac() {
     local word=${COMP_WORDS[COMP_CWORD]} command=${COMP_WORDS[0]##*/} at=$COMP_CWORD first=1 words='' files=''
-    local every='run play walk debug lint lsp page course' shown='--help --version'
+    local every='run play walk debug lint lsp dap page course' shown='--help --version'
     COMPREPLY=()
     if [ "$command" = trac ]; then
         command=${COMP_WORDS[1]} at=$((COMP_CWORD - 1)) first=2
@@ -18,7 +18,8 @@ _trac() {
         *:debug) words='--journal --decimals --memory' files=yes ;;
         *:walk) words='--journal --keep --decimals --memory --prompt' files=yes ;;
         *:lint) words='--steps --input --decimals --keep --memory' files=yes ;;
-        *:lsp) shown=--help ;;
+        *:lsp) words=--stdio ;;
+        *:dap) shown=--help ;;
         *:play) words='--budget --journal --decimals --memory' files=yes ;;
         *:page) words='--input --step --budget --decimals' files=yes ;;
         1:course) words="$(echo {1..10} {1..10}.{1..3}) hint solution check" ;;
@@ -33,4 +34,4 @@ _trac() {
         mapfile -t COMPREPLY < <(compgen -W "$words" -- "$word")
     fi
 }
-complete -F _trac trac trac-walk trac-lint trac-lsp trac-play trac-page trac-course
+complete -F _trac trac trac-walk trac-lint trac-lsp trac-dap trac-play trac-page trac-course

@@ -1,13 +1,18 @@
 //! The program of `trac walk`: a debugger of TRAC T-64 for a person at a terminal. With the first word --lint it is
-//! that of `trac lint`, which looks for doubts, with --lsp that of `trac lsp`, a language server.
+//! that of `trac lint`, which looks for doubts, with --lsp that of `trac lsp`, a language server, with --dap that of
+//! `trac dap`, a debug adapter.
 #![tactic(auto)]
 
+mod debugging;
+mod files;
 mod linting;
 mod naming;
 mod serving;
 
 ghost use Rattle.std.specs.Prelude.{◌≤◌};
 
+use debugging::debug_by;
+use files::Files;
 use linting::lint_by;
 use serving::serve_by;
 use std::alloc::{AllocError, Global};
@@ -17,7 +22,7 @@ use std::{env, io};
 use trac_memory::{Limited, limit_in, tape_in};
 use trac_rules::limit::JOURNAL_LIMIT;
 use trac_streams::{Ending, say};
-use trac_walk::{Settings, walk};
+use trac_walk::{Settings, walk_among};
 use trac_words::help::NOT_TEXT;
 use trac_words::names;
 use trac_words::walk_words::{WalkLine, read_walk_line};
@@ -33,6 +38,9 @@ const LINT: &str = "--lint";
 
 /// The first word that asks for a language server, likewise.
 const LSP: &str = "--lsp";
+
+/// The first word that asks for a debug adapter, likewise.
+const DAP: &str = "--dap";
 
 fn main(rt: HostRuntime) -> ExitCode {
     match env::args(&rt) {
@@ -61,6 +69,7 @@ fn obey_texts(rt: &HostRuntime, words: &[String]) -> Result<ExitCode, AllocError
     match texts.as_slice() {
         [_, first, ..] if *first == LINT => Ok(lint_by(rt, texts.as_slice().split_at(1).1)),
         [_, first, ..] if *first == LSP => Ok(serve_by(rt, texts.split_at(2).1)),
+        [_, first, ..] if *first == DAP => Ok(debug_by(rt, texts.split_at(2).1)),
         texts => walk_by(rt, texts),
     }
 }
@@ -109,8 +118,9 @@ fn walk_file(rt: &HostRuntime, path: &str, settings: Settings, memory: Option<u6
 {
     let memory = Limited::new(rt.alloc(), limit_in(rt, memory));
     match tape_in(rt, &memory, path) {
-        Ok(tape) => walk(
+        Ok(tape) => walk_among(
             &memory,
+            &Files::new(rt, path),
             tape.as_slice(),
             &mut rt.stdin(),
             &mut rt.stdout(),

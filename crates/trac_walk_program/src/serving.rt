@@ -4,17 +4,24 @@ use crate::{MIB, not_understood, shown};
 use std::alloc::Global;
 use std::process::ExitCode;
 use trac_language_server::{Finish, Linter, Server, serve};
-use trac_lint::{Settings, Sources, lint};
+use trac_lint::{Settings, Sources, lint, mentions, prints_alike};
 use trac_memory::{Limited, limit_in};
+use trac_mentions::Mentions;
 use trac_rules::width::Width;
-use trac_streams::say;
+use trac_streams::{Ending, say};
+use trac_words::help::VERSION;
 
 // What `--help` says.
 const HELP: &str = "\
-Usage: trac lsp
+Usage: trac lsp [OPTION]
 
-Speaks the Language Server Protocol with an editor over standard input and output: it says where a program does what is
-seldom meant as it is typed, what a primitive does, and which forms a program defines.
+Speaks the Language Server Protocol with an editor over standard input and output. As a program is typed, it says where
+it does what is seldom meant, what primitives and forms do, and where forms are defined and used. For that the program
+is run, by 1000000 steps at most; what it prints is thrown away, and it reads nothing else.
+
+  --stdio        the same; some editors say it
+  -h, --help     show this
+  -V, --version  show the version
 
 Status 0: the editor asked for the end. 1: it went away. 5 to 7: no memory, or a stream failed.
 ";
@@ -28,6 +35,9 @@ const SETTINGS: Settings = Settings {
     keep: 64 * MIB,
     decimals: Width::W128,
 };
+
+// Names of forms are followed back over so many steps in all at most.
+const WAYS: u64 = 5_000_000;
 
 // Looks through programs within a limit on memory.
 #[derive(Drop)]
@@ -45,6 +55,14 @@ impl Linter for Limiting<'_> {
         };
         lint(self.memory, sources, lines, SETTINGS);
     }
+
+    fn mentions(&self, alloc: Global, text: &[u8]) -> Mentions {
+        mentions(self.memory, alloc, text, SETTINGS, WAYS)
+    }
+
+    fn prints_alike(&self, one: &[u8], other: &[u8]) -> bool {
+        prints_alike(self.memory, one, other, SETTINGS)
+    }
 }
 
 /// Serves an editor, if no word follows, or the one that editors give a server for these streams.
@@ -53,7 +71,16 @@ pub(crate) fn serve_by(rt: &HostRuntime, words: &[&str]) -> ExitCode {
         [] => serve_all(rt),
         [word] if *word == "--stdio" => serve_all(rt),
         [word] if *word == "--help" || *word == "-h" => shown(rt, HELP),
+        [word] if *word == "--version" || *word == "-V" => version(rt),
         _ => not_understood(rt, NOT_UNDERSTOOD),
+    }
+}
+
+// Shows the version.
+fn version(rt: &HostRuntime) -> ExitCode {
+    match print!(rt; "trac {VERSION}\n") {
+        Ok(()) => ExitCode::SUCCESS,
+        Err(_) => say(rt, Ending::Write),
     }
 }
 

@@ -1,0 +1,30 @@
+-- TRAC in Neovim, from 0.7 on: its files, the language server `trac lsp`, and the debugger `trac dap` where nvim-dap
+-- is. `trac` has to stand on PATH.
+vim.api.nvim_create_autocmd({ "BufNewFile", "BufRead" }, { pattern = "*.trac", command = "setfiletype trac" })
+
+local found, dap = pcall(require, "dap")
+if found then
+  dap.adapters.trac = { type = "executable", command = "trac", args = { "dap" } }
+  dap.configurations.trac = {
+    { type = "trac", request = "launch", name = "TRAC", program = "${file}", stopOnEntry = true },
+  }
+end
+
+local command = { "trac", "lsp" }
+if vim.lsp.enable then
+  vim.lsp.config("trac", { cmd = command, filetypes = { "trac" } })
+  vim.lsp.enable("trac")
+  return
+end
+
+-- Before 0.11 each buffer is given to one client.
+local client
+vim.api.nvim_create_autocmd("FileType", {
+  pattern = "trac",
+  callback = function(event)
+    client = client or vim.lsp.start_client({ name = "trac", cmd = command })
+    if client then
+      vim.lsp.buf_attach_client(event.buf, client)
+    end
+  end,
+})
