@@ -23,6 +23,11 @@ const SHOWN_BYTES = 4096;
  * }} Exercise
  */
 
+/**
+ * A check: where it is said what it comes to, the program, and the runs.
+ * @typedef {{ said: HTMLElement, program: Uint8Array, runs: [string, string][] }} Check
+ */
+
 export class Course {
   /** @param {Page} page */
   constructor(page) {
@@ -35,8 +40,10 @@ export class Course {
     /** @type {Item[]} lessons, each before its exercises */
     this.items = lessons.flatMap(({ exercises, ...lesson }) => [lesson, ...exercises]);
     this.at = 0;
-    // what is said of a check
+    // what is said of a check, and the last one
     this.said = make("div");
+    /** @type {Check | null} */
+    this.last = null;
     this.list();
     byId("lesson-before").addEventListener("click", () => this.show(this.at - 1));
     byId("lesson-next").addEventListener("click", () => this.show(this.at + 1));
@@ -141,20 +148,29 @@ export class Course {
     this.page.announcer.say("note", `${button.textContent}: ${place.textContent}`);
   }
 
-  // Checks the program of the editor, and says what differs.
+  // Checks the program of the editor in place of what goes on, also of an earlier check.
   /** @param {[string, string][]} runs */
-  async check(runs) {
-    const { page, said } = this;
-    const program = page.editor.bytes();
-    said.replaceChildren("It is checked ..");
+  check(runs) {
+    const check = { said: this.said, program: this.page.editor.bytes(), runs };
+    this.last = check;
+    check.said.replaceChildren("It is checked ..");
+    return this.page.runs.instead(() => this.judge(check));
+  }
+
+  // Says what differs, or that nothing does.
+  /** @param {Check} check */
+  async judge(check) {
+    /** @type {(Node | string)[]} */
+    let words;
     try {
-      const failed = await judged(page.engine, program, runs, this.rules);
-      if (failed) said.replaceChildren(...this.failure(failed, program, runs));
-      else said.replaceChildren(make("p", "right", "✓ It is solved."));
+      const failed = await judged(this.page.engine, check.program, check.runs, this.rules);
+      words = failed ? this.failure(failed, check.program, check.runs) : [make("p", "right", "✓ It is solved.")];
     } catch (fault) {
-      said.replaceChildren(fault instanceof Stopped ? "The check was stopped." : wordsOf(fault));
+      words = [fault instanceof Stopped ? "The check was stopped." : wordsOf(fault)];
     }
-    said.lastElementChild?.scrollIntoView({ block: "nearest" });
+    if (check !== this.last) return;
+    check.said.replaceChildren(...words);
+    check.said.lastElementChild?.scrollIntoView({ block: "nearest" });
   }
 
   // What is said of a run that fails.
