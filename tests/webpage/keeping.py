@@ -498,6 +498,36 @@ def check_undone(page: Deeds) -> None:
     check(page.script(VALUE) in whole, "nor in one that is brought back: " + page.script(VALUE))
 
 
+def check_undo_elsewhere(page: Deeds) -> None:
+    """Ctrl+Z in the box of a dialog, on a button of it or beside these undoes what was typed in the box alone: the
+    program stays, and what was typed there can be undone later."""
+    page.type("#(ps,mine)'")
+    pick(page, "hello.trac")
+    page.type("#(ps,mine)'")
+    page.script("document.getElementById('source').setSelectionRange(0, 0)")
+    page.insert("AAA")
+    page.script("document.getElementById('open').click()")
+    for name in "paste", "open-close":
+        page.script("document.getElementById('{}').focus()".format(name))
+        page.press("z", times=2, control=True)
+        page.press("y", control=True)
+    page.script("document.getElementById('paste').focus()")
+    page.insert("xyz")
+    page.press("z", times=3, control=True)
+    check(page.script("document.getElementById('paste').value") == "", "the box has its own history")
+    page.script("document.activeElement.blur()")
+    page.press("z", control=True)
+    page.press("Enter", control=True)
+    page.script("document.getElementById('open-box').close()")
+    check(page.script(VALUE) == "AAA#(ps,mine)'", "the program stays: " + page.script(VALUE))
+    check("Press Run" in page.text("ending"), "nor is it run by keys: " + page.text("ending"))
+    page.script("document.getElementById('source').focus()")
+    page.press("z", control=True)
+    check(page.script(VALUE) == "#(ps,mine)'", "what was typed is undone there: " + page.script(VALUE))
+    page.press("y", control=True)
+    check(page.script(VALUE) == "AAA#(ps,mine)'", "and done again: " + page.script(VALUE))
+
+
 def check_question(page: Deeds) -> None:
     """A question has No first, so that Enter loses nothing."""
     page.script("document.getElementById('question').showModal()")
@@ -509,6 +539,6 @@ def check_question(page: Deeds) -> None:
 TRIED = (rows(check_draft, check_opened, check_brought_back, check_many_opened, check_many_typed, check_replaced,
               check_same_time, check_at_once, check_full, check_too_long, check_forgotten, check_saved, check_older,
               check_typed_before_a_link, check_lines_ahead, check_lines_stopped, check_raced, check_undo, check_undone,
-              check_question)
+              check_undo_elsewhere, check_question)
          + rows(check_large_files, seconds=10)
          + rows(check_two_tabs, check_early, check_not_ready, given=file_of, seconds=5))
