@@ -49,6 +49,16 @@ ASKING = ("#(ds,L,(#(eq,N,0,,(#(cl,L,#(su,N,1))))))'#(ss,L,N)'#(ps,(a? ))#(ds,A,
           "#(ps,(b? ))#(ds,B,##(rs))#(cl,L,20000)#(ps,(a=))#(ps,##(cl,A))#(ps,( b=))#(ps,##(cl,B))'")
 ENDED = "document.getElementById('stop').hidden && document.getElementById('output').textContent.includes('{}')"
 LONG = ("#(ps,({}))'\n".format("x" * 1000)) * 1100
+ENDING = "document.getElementById('ending')"
+# How a file may be read: never to its end, not at all, or as others are; and drops one.
+NEVER = "File.prototype.arrayBuffer = () => new Promise(() => {})"
+FAILS = "File.prototype.arrayBuffer = () => Promise.reject(new Error('gone'))"
+WELL = "delete File.prototype.arrayBuffer"
+DROP = """(() => {
+  const data = new DataTransfer();
+  data.items.add(new File(["#(ps,dropped)'"], 'dropped.trac'));
+  document.body.dispatchEvent(new DragEvent('drop', { dataTransfer: data, bubbles: true, cancelable: true }));
+})()"""
 
 
 def typed(page: Deeds, text: str) -> None:
@@ -528,6 +538,37 @@ def check_undo_elsewhere(page: Deeds) -> None:
     check(page.script(VALUE) == "AAA#(ps,mine)'", "and done again: " + page.script(VALUE))
 
 
+def check_not_read(page: Deeds) -> None:
+    """A file whose reading fails, or never ends: that is said beside how the run ended, and the page goes on."""
+    typed(page, "mine")
+    page.run()
+    for reads, words in ((FAILS, "dropped.trac cannot be read. Nothing is opened."),
+                         (NEVER, "dropped.trac is not read yet. It opens once it is.")):
+        page.script("({}, 0)".format(reads))
+        page.script(DROP)
+        page.until(ENDING + ".textContent.startsWith('{}')".format(words), "it is said")
+        ending = page.text("ending")
+        check("Done after " in ending and page.script(ENDING + ".querySelector('button') !== null"),
+              "how the run ended, with its button: " + ending)
+        check(page.script(VALUE) == "#(ps,mine)'", "the program stays: " + page.script(VALUE))
+    page.run()
+    check(page.text("output") == "mine", "it runs: " + page.text("output"))
+    with tempfile.TemporaryDirectory() as room:
+        path = os.path.join(room, "chosen.trac")
+        with open(path, "w", encoding="utf-8") as file:
+            file.write("#(ps,chosen)'")
+        page.choose_file("#file", path)
+        page.until(ENDING + ".textContent.startsWith('chosen.trac is not read yet')", "so is a file that is chosen")
+        check(page.script("document.getElementById('file').value") == "", "it may be chosen again")
+        pick(page, "hello.trac")
+        page.script(WELL)
+        page.choose_file("#file", path)
+        page.until(VALUE + " === \"#(ps,chosen)'\"", "it is opened")
+    page.script(DROP)
+    page.until(VALUE + " === \"#(ps,dropped)'\"", "so is one that is dropped")
+    go_on(page, "mine")
+
+
 def check_question(page: Deeds) -> None:
     """A question has No first, so that Enter loses nothing."""
     page.script("document.getElementById('question').showModal()")
@@ -539,6 +580,6 @@ def check_question(page: Deeds) -> None:
 TRIED = (rows(check_draft, check_opened, check_brought_back, check_many_opened, check_many_typed, check_replaced,
               check_same_time, check_at_once, check_full, check_too_long, check_forgotten, check_saved, check_older,
               check_typed_before_a_link, check_lines_ahead, check_lines_stopped, check_raced, check_undo, check_undone,
-              check_undo_elsewhere, check_question)
+              check_undo_elsewhere, check_not_read, check_question)
          + rows(check_large_files, seconds=10)
          + rows(check_two_tabs, check_early, check_not_ready, given=file_of, seconds=5))
