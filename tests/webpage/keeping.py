@@ -7,7 +7,7 @@ import os
 import tempfile
 
 from webpage.pages import Deeds, check, ready
-from webpage.rows import file_of, rows
+from webpage.rows import CHROMIUM, file_of, rows
 from webpage.share import body, link
 from webpage.tabs import close, new_tab, tab_of, turn
 from webpage.window import pick
@@ -538,6 +538,24 @@ def check_undo_elsewhere(page: Deeds) -> None:
     check(page.script(VALUE) == "AAA#(ps,mine)'", "and done again: " + page.script(VALUE))
 
 
+def check_composed(page: Deeds) -> None:
+    """A word that is composed in place of a whole program begins one entry; and is kept as far as it is there, where
+    another program is opened before it is done."""
+    typed(page, "mine")
+    page.script("document.getElementById('source').select()")
+    for count in range(1, 5):
+        page.compose("\u306b\u307b\u3093\u3054"[:count])
+    pick(page, "hello.trac")
+    hello = page.script(VALUE)
+    page.rest(400)
+    check(page.script(TEXTS) == ["\u306b\u307b\u3093\u3054"], "the word is kept: {}".format(page.script(TEXTS)))
+    check(page.script(ENTRIES + ".length") == 2, "in one entry: {}".format(page.script(ENTRIES)))
+    check("\u306b" not in hello and page.script(VALUE) == hello, "nothing of it stands in the other: " + hello[:40])
+    page.click(UNDO)
+    check(page.script(VALUE) == "\u306b\u307b\u3093\u3054", "it is brought back: " + page.script(VALUE)[:40])
+    go_on(page, "mine")
+
+
 def check_not_read(page: Deeds) -> None:
     """A file whose reading fails, or never ends: that is said beside how the run ended, and the page goes on."""
     typed(page, "mine")
@@ -581,5 +599,6 @@ TRIED = (rows(check_draft, check_opened, check_brought_back, check_many_opened, 
               check_same_time, check_at_once, check_full, check_too_long, check_forgotten, check_saved, check_older,
               check_typed_before_a_link, check_lines_ahead, check_lines_stopped, check_raced, check_undo, check_undone,
               check_undo_elsewhere, check_not_read, check_question)
+         + rows(check_composed, where=CHROMIUM)
          + rows(check_large_files, seconds=10)
          + rows(check_two_tabs, check_early, check_not_ready, given=file_of, seconds=5))
