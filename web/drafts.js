@@ -68,10 +68,11 @@ export class Draft {
   }
 
   // All that stands there gives way to another text: its entry stays, if it has one, and what comes has one of its own.
+  // (So does an earlier state of what has grown too long to be kept.)
   replace() {
     if (this.later) this.keep();
-    const { place, isKept, isMine } = this.editor.work;
-    if (!place || !(isKept || this.editor.box.value === "")) return;
+    const { place, isMine } = this.editor.work;
+    if (!place) return;
     if (isMine) noteReplaced(place);
     this.editor.work = { isTyped: false };
   }

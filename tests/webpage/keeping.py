@@ -291,6 +291,16 @@ def check_too_long(page: Deeds) -> None:
     check(not page.script(ASKS), "what is saved is left")
 
 
+def check_too_long_replaced(page: Deeds) -> None:
+    """What was kept of a program before it grew too long stays, where another text is typed in place of that."""
+    typed(page, "small")
+    page.put(LONG)
+    page.until(NOTE + ".includes('1 MiB')", "it is not kept")
+    typed(page, "other")
+    check(page.script(IS_KEPT.format("small")), "it is kept: {}".format(page.script(ENTRIES)))
+    go_on(page, "small")
+
+
 def check_forgotten(page: Deeds) -> None:
     """One is forgotten by the list, after a question; and where the browser was told to forget, nothing is kept."""
     for text in "one", "two":
@@ -596,7 +606,8 @@ def check_question(page: Deeds) -> None:
 
 
 TRIED = (rows(check_draft, check_opened, check_brought_back, check_many_opened, check_many_typed, check_replaced,
-              check_same_time, check_at_once, check_full, check_too_long, check_forgotten, check_saved, check_older,
+              check_same_time, check_at_once, check_full, check_too_long,
+              check_too_long_replaced, check_forgotten, check_saved, check_older,
               check_typed_before_a_link, check_lines_ahead, check_lines_stopped, check_raced, check_undo, check_undone,
               check_undo_elsewhere, check_not_read, check_question)
          + rows(check_composed, where=CHROMIUM)
