@@ -1,6 +1,7 @@
 """The language server in the editors themselves, as share/editors says to have it: Neovim without a window, and Emacs
 with eglot in batch mode. Each opens the wrong factorial, misspells `cl` and takes that back, and says what the server
-told it. Where an editor is not installed, its test is skipped."""
+told it. In Neovim a form gets another name, then the file does, and a server that is killed is begun again. Where an
+editor is not installed, its test is skipped."""
 from __future__ import annotations
 
 import glob
@@ -16,7 +17,11 @@ CALL = "#(cl,N,X1,X2,..){0}calls form N: gives its text, with X1 in the gaps of 
 NEOVIM = "\n".join((
     'ready: true', 'diagnostics: { { 2, 2, "no primitive is named xl (step 77)", "no-primitive" } }', 'diagnostics: 0',
     'hover: "' + CALL.format("\\n") + '"', 'hover: "' + HINT.format("\\n") + '"',
-    'definition: { character = 5, line = 0 }', 'references: 4', 'completion: { "Factorial" }', ''))
+    'definition: { character = 5, line = 0 }', 'references: 4', 'completion: { "Factorial" }', 'folds: {}',
+    'the tag is at: { 1, 5 }', 'completes by: "v:lua.vim.lsp.omnifunc"',
+    'renamed: { "#(ds,F,(#(eq,X,1,0,(#(ml,X,#(cl,F,#(su,X,1)))))))\'", "#(ss,F,X)\'", "#(cl,F,5)\'" }',
+    'of another name: { { 2, 2, "no primitive is named xl (step 53)", "no-primitive" } }',
+    'begun again: "#(cl,F,X)"', ''))
 EMACS = "\n".join((
     'mode: trac-mode', 'diagnostics: ((89 "trac [no-primitive]: no primitive is named xl (step 77)"))',
     'hover: "' + HINT.format("\n") + '"', 'definition: (:character 5 :line 0)', 'references: 4',
