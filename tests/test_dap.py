@@ -1,7 +1,7 @@
 """What `trac dap` replies to an editor, byte for byte.
 
 Each NAME.in of tests/data/dap has the messages of an exchange, one in each line, and NAME.out what is replied, worked
-by hand but for the steps that progress tells. All exchanges end by `disconnect`. Then messages and bytes that are not
+by hand but for the steps that progress tells. All exchanges end by `disconnect`; shown.trac is the program of one. Then messages and bytes that are not
 understood, and ends that are not asked for; what it shows after random moves, beside what `trac debug` shows of the
 same steps; and a debugger in Emacs, where its dap-mode is installed."""
 from __future__ import annotations
