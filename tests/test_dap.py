@@ -151,6 +151,30 @@ class Stored(Case):
         self.same("the numbers", str([it["seq"] for it in told]), str(list(range(1, len(told) + 1))))
         self.status("strange requests", run, 0)
 
+    def test_document(self) -> None:
+        """What share/editors/README.md shows of one step back, and the command of the console there."""
+        asked = Asked()
+        asked.ask("initialize")
+        asked.ask("launch", program=near(PROGRAM))
+        asked.ask("configurationDone")
+        asked.ask("stepBack")
+        stack = asked.ask("stackTrace")
+        scopes = [asked.ask("variables", variablesReference=it) for it in (OUTERMOST + 1, FORMS)]
+        traced = asked.ask("evaluate", expression="y . 2 1", context="repl")
+        asked.ask("disconnect")
+        replies = asked.replies()
+        inner, outer = replies[stack]["stackFrames"]
+        arguments, forms = ("   ".join("{}: {}".format(*it) for it in pairs_in(replies[scope])) for scope in scopes)
+        place = "{}, line {}, column {}".format(inner["source"]["name"], inner["line"], inner["column"])
+        shown = ("    frames      {:13} {}".format(inner["name"], place),
+                 "                {:13} of the processor itself".format(outer["name"]),
+                 "    Arguments   " + arguments, "    Forms       " + forms)
+        text = (TOP / "share" / "editors" / "README.md").read_text(encoding="utf-8")
+        for line in (*shown, "`y . 2 1`"):
+            self.holds("the document has not: " + line, line in text)
+        self.same("y . 2 1", replies[traced]["result"],
+                  "263  #(ml,4,0)                    makes it\nhere: 263  #(ml,4,0)")
+
     @each([program.stem for program in PROGRAMS])
     def test_states(self, name: str) -> None:
         """What is shown after 150 random sequences of moves, each from the first step on."""
