@@ -57,6 +57,9 @@ pub struct Breakpoints<A: Allocator + Copy> {
     pub limit: bool,
 }
 
+/// The number by which an editor asks for all forms.
+pub const FORMS: u64 = 1;
+
 // What an identifier of data begins with, before the name of a form.
 const FORM: &str = "form ";
 
@@ -247,11 +250,23 @@ impl<A: Allocator + Copy> Breakpoints<A> {
     }
 }
 
-/// What can be watched of this name: the byte of the output of this number, after `#`, or a form.
-pub fn watchable(alloc: Global, name: &str) -> Result<Value, AllocError> {
-    let number = name
-        .strip_prefix("#")
-        .and_then(|rest| rest.parse::<u64>().ok());
+/// What can be watched of the name that a request has: the byte of the output of this number, after `#`, or a form. Of
+/// the scopes the forms alone can be, whatever their names are. The error is that memory was refused.
+pub fn watchable(alloc: Global, request: Request<'_>) -> Result<Value, AllocError> {
+    let name = request.text("/name").unwrap_or("");
+    let scope = request.number("/variablesReference").unwrap_or(0);
+    if scope != 0 && scope != FORMS {
+        let none = Value::Null;
+        return json!(in alloc; {
+            "dataId": none, "description": "forms and bytes of the output can be watched"
+        });
+    }
+    let number = if scope == FORMS {
+        None
+    } else {
+        name.strip_prefix("#")
+            .and_then(|rest| rest.parse::<u64>().ok())
+    };
     let (id, words) = match number {
         Some(number) => (
             format!(in alloc; "{BYTE}{number}")?,

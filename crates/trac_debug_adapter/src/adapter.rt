@@ -7,7 +7,7 @@ use serde_json::{Value, json};
 use std::alloc::{AllocError, Allocator, Global};
 use trac_breakpoints::{Breakpoints, Request, number_at, text_at, watchable};
 use trac_debug_messages::{
-    Outbox, Progress, THREAD, scopes, stack, tell_output, tell_stop, variables,
+    Outbox, Progress, THREAD, exception_of, scopes, stack, tell_output, tell_stop, variables,
 };
 use trac_debuggee::{Debuggee, Halt, Launch, Move, Run, Way, move_of};
 
@@ -161,6 +161,7 @@ impl<'p, P: Programs<A>, A: Allocator + Copy> Adapter<'p, P, A> {
             "supportsTerminateRequest": true,
             "supportsEvaluateForHovers": true,
             "supportsDelayedStackTraceLoading": true,
+            "supportsExceptionInfoRequest": true,
             "exceptionBreakpointFilters": [
                 {"filter": "doubts", "label": "What is seldom meant"},
                 {"filter": "limit", "label": "A limit is passed"}
@@ -271,9 +272,7 @@ impl<'p, P: Programs<A>, A: Allocator + Copy> Adapter<'p, P, A> {
             b"setFunctionBreakpoints" => self.breakpoints.set_calls(request)?,
             b"setDataBreakpoints" => self.breakpoints.set_watches(request)?,
             b"setExceptionBreakpoints" => self.breakpoints.set_exceptions(request)?,
-            b"dataBreakpointInfo" => {
-                watchable(self.global, request.text("/name").unwrap_or(""))?
-            }
+            b"dataBreakpointInfo" => watchable(self.global, request)?,
             _ => return self.show(request, outbox),
         };
         outbox.respond(request, body)
@@ -303,6 +302,7 @@ impl<'p, P: Programs<A>, A: Allocator + Copy> Adapter<'p, P, A> {
             b"stackTrace" => stack(debuggee, self.global, request, self.firsts)?,
             b"scopes" => scopes(self.global, request.number("/frameId").unwrap_or(0))?,
             b"variables" => variables(debuggee, self.global, request)?,
+            b"exceptionInfo" => exception_of(self.global, debuggee)?,
             b"evaluate" => return self.evaluate(debuggee, request, outbox),
             _ => return match move_of(request) {
                 Some(asked) => self.go(debuggee, request, asked, outbox),

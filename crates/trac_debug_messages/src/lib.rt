@@ -14,5 +14,5 @@ pub use printing::tell_output;
 pub use progress::Progress;
 pub use shown::shown;
 pub use stack::stack;
-pub use stopping::{THREAD, tell_stop};
+pub use stopping::{THREAD, exception_of, tell_stop};
 pub use variables::{form_text, scopes, variables};

@@ -47,13 +47,14 @@ fn pieces<A: Allocator + Copy>(
     printed: u64,
 ) -> Result<Vec<Piece, A>, AllocError> {
     let here = debuggee.walker.step();
+    let since = debuggee.followed;
     let mut pieces = Vec::new(debuggee.alloc);
     let mut end = printed;
     for _ in 0..PIECE_COUNT {
         if end <= debuggee.told {
             break;
         }
-        let Some(piece) = piece_before(debuggee, end) else {
+        let Some(piece) = piece_before(debuggee, end, since) else {
             break;
         };
         pieces.push(piece)?;
@@ -72,7 +73,11 @@ fn pieces<A: Allocator + Copy>(
 }
 
 // The part that the call printed, to which the walker goes back, that printed the last of so many bytes.
-fn piece_before<A: Allocator + Copy>(debuggee: &mut Debuggee<A>, end: u64) -> Option<Piece> {
+fn piece_before<A: Allocator + Copy>(
+    debuggee: &mut Debuggee<A>,
+    end: u64,
+    since: u64,
+) -> Option<Piece> {
     let most = end.checked_sub(1)?.checked_sub(debuggee.walker.released())?;
     let most = usize::try_from(most).ok()?;
     if debuggee.walker.return_to(Aim::Unprinted(most)).is_some() {
@@ -84,7 +89,7 @@ fn piece_before<A: Allocator + Copy>(debuggee: &mut Debuggee<A>, end: u64) -> Op
     }
     let depth = debuggee.walker.glance().depth;
     let written = match depth.checked_sub(1) {
-        Some(number) => debuggee.written(number),
+        Some(number) => debuggee.written_within(number, since),
         None => None,
     };
     Some(Piece {

@@ -32,23 +32,26 @@ pub fn stack<A: Allocator + Copy>(
         Some(levels) if levels > 0 => levels,
         _ => FRAME_COUNT,
     };
+    let since = debuggee.followed;
     for place in from..depth.min(from.saturating_add(levels)) {
         let number = depth.saturating_sub(1).saturating_sub(place);
-        frames.push(frame(debuggee, global, number as usize, firsts)?)?;
+        frames.push(frame(debuggee, global, number as usize, firsts, since)?)?;
     }
     let frames = Value::Array(frames);
     let count = depth.max(1);
     json!(in global; {"stackFrames": frames, "totalFrames": count})
 }
 
-// The begun call of this number, the outermost being number 0.
+// The begun call of this number, the outermost being number 0, without its place if that is too far back
+// (`written_within`).
 fn frame<A: Allocator + Copy>(
     debuggee: &mut Debuggee<A>,
     global: Global,
     number: usize,
     firsts: (u64, u64),
+    since: u64,
 ) -> Result<Value, AllocError> {
-    let written = debuggee.written(number);
+    let written = debuggee.written_within(number, since);
     frame_at(debuggee, global, number, written, firsts)
 }
 

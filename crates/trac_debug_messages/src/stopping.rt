@@ -99,3 +99,20 @@ pub fn tell_stop<A: Allocator + Copy>(
     };
     outbox.tell("stopped", body)
 }
+
+/// What the editor is told of the exception at which the program stands: the first doubt of the next step, or if it has
+/// none, that a limit is passed. The error is that memory was refused.
+pub fn exception_of<A: Allocator + Copy>(
+    alloc: Global,
+    debuggee: &Debuggee<A>,
+) -> Result<Value, AllocError> {
+    let doubt = doubt_words(alloc, debuggee)?;
+    let (id, words) = if doubt.is_empty() {
+        ("limit", shown(alloc, refused(Refusal::TooLong))?)
+    } else {
+        ("doubts", doubt)
+    };
+    json!(in alloc; {
+        "exceptionId": id, "description": words.as_str(), "breakMode": "always"
+    })
+}

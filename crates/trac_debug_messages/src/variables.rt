@@ -3,13 +3,12 @@
 use crate::shown::shown;
 use serde_json::{Value, json};
 use std::alloc::{AllocError, Allocator, Global};
-use trac_breakpoints::Request;
+use trac_breakpoints::{FORMS, Request};
 use trac_debuggee::Debuggee;
 use trac_person_lines::form_into;
 
-// The numbers by which the editor asks for what is seen; those of arguments are this and the number of the frame.
-const FORMS: u64 = 1;
-
+// The numbers by which the editor asks for what is seen beside the forms; those of arguments are `ARGUMENTS` and the
+// number of the frame.
 const BLOCKS: u64 = 2;
 
 const MACHINE: u64 = 3;

@@ -12,6 +12,10 @@ use trac_streams::Ending;
 /// The records of the steps that can be gone back over take so many bytes, about.
 pub const KEEP: u64 = 256 << 20;
 
+// For one response, and for what a run printed, so many steps are gone back over to find out where calls were written.
+// The last place that is looked for may take more.
+const PLACES_LIMIT: u64 = 1_000_000;
+
 /// What was asked for when the program was launched.
 #[derive(Drop)]
 pub struct Launch {
@@ -130,6 +134,14 @@ impl<A: Allocator + Copy> Debuggee<A> {
         self.followed = self.followed.saturating_add(steps);
         let _ = self.walker.forward(steps);
         read
+    }
+
+    /// The same, unless more steps than `PLACES_LIMIT` were gone back over since `followed` was this: then none.
+    pub fn written_within(&mut self, number: usize, since: u64) -> Option<u64> {
+        if self.followed.saturating_sub(since) > PLACES_LIMIT {
+            return None;
+        }
+        self.written(number)
     }
 
     /// Where the byte of this number of all input was written; none, if in no file, or if there is no number.
