@@ -1,8 +1,8 @@
 //! What a program prints, as the editor is told, with the place that printed it.
 
+use crate::frames::source_of;
 use crate::outbox::Outbox;
-use crate::shown::shown;
-use crate::stack::source_of;
+use crate::text::shown;
 use serde_json::json;
 use std::alloc::{AllocError, Allocator, Global};
 use trac_debuggee::Debuggee;

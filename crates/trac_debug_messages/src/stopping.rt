@@ -1,7 +1,7 @@
 //! Why a program stands, as the editor is told.
 
 use crate::outbox::Outbox;
-use crate::shown::shown;
+use crate::text::shown;
 use serde_json::{Value, json};
 use std::alloc::{AllocError, Allocator, Global};
 use trac_debuggee::{Debuggee, Halt};

@@ -1,6 +1,6 @@
 //! What is seen of a program that stands: arguments, forms, blocks, the machine and the output.
 
-use crate::shown::shown;
+use crate::text::shown;
 use serde_json::{Value, json};
 use std::alloc::{AllocError, Allocator, Global};
 use trac_breakpoints::{FORMS, Request};

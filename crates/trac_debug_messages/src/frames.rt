@@ -1,6 +1,6 @@
 //! The begun calls, as frames.
 
-use crate::shown::shown;
+use crate::text::shown;
 use serde_json::{Value, json};
 use std::alloc::{AllocError, Allocator, Global};
 use trac_breakpoints::Request;
