@@ -1,7 +1,7 @@
 """The language server in the editors themselves, as share/editors says to have it: Neovim without a window, and Emacs
-with eglot in batch mode. Each opens the wrong factorial, misspells `cl` and takes that back, and says what the server
-told it. In Neovim a form gets another name, then the file does, and a server that is killed is begun again. Where an
-editor is not installed, its test is skipped."""
+with eglot and with lsp-mode in batch mode. Each opens the wrong factorial, misspells `cl` and takes that back, and says
+what the server told it. In Neovim a form gets another name, then the file does, and a server that is killed is begun
+again. Where an editor is not installed, its test is skipped."""
 from __future__ import annotations
 
 import glob
@@ -26,6 +26,8 @@ EMACS = "\n".join((
     'mode: trac-mode', 'diagnostics: ((89 "trac [no-primitive]: no primitive is named xl (step 77)"))',
     'hover: "' + HINT.format("\n") + '"', 'definition: (:character 5 :line 0)', 'references: 4',
     'completion: ("Factorial")', ''))
+LSP_MODE = "\n".join((
+    'ready: trac', 'diagnostics: ("no primitive is named xl (step 77)")', 'hover: "' + HINT.format("\n") + '"', ''))
 
 
 class Clients(Case):
@@ -61,3 +63,10 @@ class Clients(Case):
             self.skipTest("there is no eglot")
         libraries = [word for it in (os.fspath(EDITORS / "emacs"), *packages) for word in ("-L", it)]
         self.is_told("Emacs", ["emacs", "-Q", "--batch", *libraries, "-l", os.fspath(SCRIPTS / "eglot.el")], EMACS)
+
+    def test_emacs_with_lsp_mode(self) -> None:
+        wants = ["emacs", "--batch", "--eval", "(progn (package-initialize) (require 'lsp-mode))"]
+        if not shutil.which("emacs") or ran(wants, env={**os.environ, "HOME": os.fspath(self.room)}).status:
+            self.skipTest("there is no emacs with lsp-mode")
+        self.is_told("Emacs", ["emacs", "--batch", "-L", os.fspath(EDITORS / "emacs"), "-l",
+                               os.fspath(SCRIPTS / "lsp-mode.el")], LSP_MODE)

@@ -1,18 +1,15 @@
 //! The adapter: what it knows, and what it responds to each request.
 
-use crate::breakpoints::{Breakpoints, watchable};
-use crate::debuggee::{Debuggee, Launch};
+use crate::evaluating::{form_named, obey};
 use crate::launching::{launch_of, launched};
-use crate::messages::{Request, number_at, text_at};
-use crate::moving::{Move, move_of};
-use crate::outbox::Outbox;
 use crate::programs::Programs;
-use crate::progress::Progress;
-use crate::running::{Run, Way};
-use crate::stopping::{Halt, THREAD, tell_stop};
-use crate::variables::scopes;
 use serde_json::{Value, json};
 use std::alloc::{AllocError, Allocator, Global};
+use trac_breakpoints::{Breakpoints, Request, number_at, text_at, watchable};
+use trac_debug_messages::{
+    Outbox, Progress, THREAD, exception_of, scopes, stack, tell_output, tell_stop, variables,
+};
+use trac_debuggee::{Debuggee, Halt, Launch, Move, Run, Way, move_of};
 
 // What is said where nothing can be changed.
 const NO_CHANGE: &str =
@@ -164,6 +161,7 @@ impl<'p, P: Programs<A>, A: Allocator + Copy> Adapter<'p, P, A> {
             "supportsTerminateRequest": true,
             "supportsEvaluateForHovers": true,
             "supportsDelayedStackTraceLoading": true,
+            "supportsExceptionInfoRequest": true,
             "exceptionBreakpointFilters": [
                 {"filter": "doubts", "label": "What is seldom meant"},
                 {"filter": "limit", "label": "A limit is passed"}
@@ -263,7 +261,7 @@ impl<'p, P: Programs<A>, A: Allocator + Copy> Adapter<'p, P, A> {
         halt: Halt,
         outbox: &mut Outbox,
     ) -> Result<(), AllocError> {
-        debuggee.tell_output(self.global, self.firsts, outbox)?;
+        tell_output(debuggee, self.global, self.firsts, outbox)?;
         tell_stop(self.global, debuggee, halt, self.breakpoints.limit, outbox)
     }
 
@@ -274,9 +272,7 @@ impl<'p, P: Programs<A>, A: Allocator + Copy> Adapter<'p, P, A> {
             b"setFunctionBreakpoints" => self.breakpoints.set_calls(request)?,
             b"setDataBreakpoints" => self.breakpoints.set_watches(request)?,
             b"setExceptionBreakpoints" => self.breakpoints.set_exceptions(request)?,
-            b"dataBreakpointInfo" => {
-                watchable(self.global, request.text("/name").unwrap_or(""))?
-            }
+            b"dataBreakpointInfo" => watchable(self.global, request)?,
             _ => return self.show(request, outbox),
         };
         outbox.respond(request, body)
@@ -303,9 +299,10 @@ impl<'p, P: Programs<A>, A: Allocator + Copy> Adapter<'p, P, A> {
         outbox: &mut Outbox,
     ) -> Result<(), AllocError> {
         let body = match request.command.as_bytes() {
-            b"stackTrace" => debuggee.stack(self.global, request, self.firsts)?,
+            b"stackTrace" => stack(debuggee, self.global, request, self.firsts)?,
             b"scopes" => scopes(self.global, request.number("/frameId").unwrap_or(0))?,
-            b"variables" => debuggee.variables(self.global, request)?,
+            b"variables" => variables(debuggee, self.global, request)?,
+            b"exceptionInfo" => exception_of(self.global, debuggee)?,
             b"evaluate" => return self.evaluate(debuggee, request, outbox),
             _ => return match move_of(request) {
                 Some(asked) => self.go(debuggee, request, asked, outbox),
@@ -346,13 +343,13 @@ impl<'p, P: Programs<A>, A: Allocator + Copy> Adapter<'p, P, A> {
         outbox: &mut Outbox,
     ) -> Result<(), AllocError> {
         if request.text("/context") != Some("repl") {
-            return match debuggee.form_named(self.global, request)? {
+            return match form_named(debuggee, self.global, request)? {
                 Some(body) => outbox.respond(request, body),
                 None => outbox.refuse(request, "there is no form of this name"),
             };
         }
         let step = debuggee.walker.step();
-        let body = debuggee.obey(self.global, request)?;
+        let body = obey(debuggee, self.global, request)?;
         outbox.respond(request, body)?;
         if debuggee.walker.step() == step {
             return Ok(());

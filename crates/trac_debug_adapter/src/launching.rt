@@ -1,10 +1,10 @@
 //! Programs, as they are launched.
 
-use crate::debuggee::{Debuggee, Launch};
-use crate::messages::{number_at, text_at};
 use crate::programs::{Programs, unread};
 use serde_json::Value;
 use std::alloc::{AllocError, Allocator, Global};
+use trac_breakpoints::{number_at, text_at};
+use trac_debuggee::{Debuggee, Launch};
 use trac_rules::width::Width;
 use trac_streams::Ending;
 

@@ -1,43 +1,15 @@
 //! Why a program stands, as the editor is told.
 
-use crate::debuggee::{Debuggee, shown};
 use crate::outbox::Outbox;
+use crate::text::shown;
 use serde_json::{Value, json};
 use std::alloc::{AllocError, Allocator, Global};
+use trac_debuggee::{Debuggee, Halt};
 use trac_person_lines::{ScreenLine, doubt_into, refused};
 use trac_session::Refusal;
 
-/// Why a program stands.
-#[derive(Clone, Copy, Debug, PartialEq, Eq)]
-pub(crate) enum Halt {
-    /// It has not begun.
-    Entry,
-    /// The steps were taken that were asked for.
-    Step,
-    /// A command of the console went here.
-    Moved,
-    /// The call that comes next was written in the line of this breakpoint.
-    Line(u64),
-    /// The call that comes next is that of this breakpoint.
-    Call(u64),
-    /// What this breakpoint watches changed.
-    Change(u64),
-    /// The step that comes next is doubtful.
-    Doubt,
-    /// A step was refused.
-    Refused(Refusal),
-    /// This is the first step that is kept.
-    First,
-    /// As many steps were taken as the program may run without a stop.
-    Spent,
-    /// It went back over as many steps as it may to find out where calls were written.
-    Sought,
-    /// The editor asked it to stand, and it does.
-    Paused,
-}
-
 /// The thread that every program has.
-pub(crate) const THREAD: u64 = 1;
+pub const THREAD: u64 = 1;
 
 // What is said of a run that has gone on for long.
 const SPENT: &str = "1000000 steps were taken; continue goes on";
@@ -95,7 +67,7 @@ fn doubt_words<A: Allocator + Copy>(
 }
 
 /// Tells the editor that the program stands, and why. The error is that memory was refused.
-pub(crate) fn tell_stop<A: Allocator + Copy>(
+pub fn tell_stop<A: Allocator + Copy>(
     alloc: Global,
     debuggee: &Debuggee<A>,
     halt: Halt,
@@ -128,11 +100,19 @@ pub(crate) fn tell_stop<A: Allocator + Copy>(
     outbox.tell("stopped", body)
 }
 
-/// Why a walk stopped that looked for something.
-pub(crate) fn halt_of(refusal: Refusal) -> Halt {
-    match refusal {
-        Refusal::NotMet => Halt::Spent,
-        Refusal::AtStart => Halt::First,
-        refusal => Halt::Refused(refusal),
-    }
+/// What the editor is told of the exception at which the program stands: the first doubt of the next step, or if it has
+/// none, that a limit is passed. The error is that memory was refused.
+pub fn exception_of<A: Allocator + Copy>(
+    alloc: Global,
+    debuggee: &Debuggee<A>,
+) -> Result<Value, AllocError> {
+    let doubt = doubt_words(alloc, debuggee)?;
+    let (id, words) = if doubt.is_empty() {
+        ("limit", shown(alloc, refused(Refusal::TooLong))?)
+    } else {
+        ("doubts", doubt)
+    };
+    json!(in alloc; {
+        "exceptionId": id, "description": words.as_str(), "breakMode": "always"
+    })
 }

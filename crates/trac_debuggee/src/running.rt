@@ -2,22 +2,22 @@
 //! of one that takes long.
 
 use crate::breaking::Seen;
-use crate::breakpoints::Breakpoints;
 use crate::debuggee::Debuggee;
-use crate::stopping::Halt;
+use crate::halt::Halt;
 use std::alloc::{AllocError, Allocator};
+use trac_breakpoints::Breakpoints;
 use trac_moves::Aim;
 use trac_session::Refusal;
 
 /// A program runs by so many steps without a stop.
-pub(crate) const BUDGET: u64 = 1_000_000;
+pub const BUDGET: u64 = 1_000_000;
 
 /// A piece of a run takes about so many steps, with those gone back over to find out where calls were written.
 const PIECE: u64 = 1_000_000;
 
 /// Which way a program runs.
 #[derive(Clone, Copy, Debug, PartialEq, Eq)]
-pub(crate) enum Way {
+pub enum Way {
     /// Forwards.
     On,
     /// Backwards.
@@ -26,9 +26,9 @@ pub(crate) enum Way {
 
 /// A run.
 #[derive(Drop)]
-pub(crate) struct Run<A: Allocator + Copy> {
+pub struct Run<A: Allocator + Copy> {
     /// Which way it goes.
-    pub(crate) way: Way,
+    pub way: Way,
     seen: Seen<A>,
     // on the way back, the last step before its start that stops as none of a call does, and why
     last: Option<(u64, Halt)>,
@@ -38,11 +38,7 @@ pub(crate) struct Run<A: Allocator + Copy> {
 
 impl<A: Allocator + Copy> Debuggee<A> {
     /// A run from here. The error is that memory was refused to keep what is watched, here and below.
-    pub(crate) fn run(
-        &mut self,
-        way: Way,
-        breakpoints: &Breakpoints<A>,
-    ) -> Result<Run<A>, AllocError> {
+    pub fn run(&mut self, way: Way, breakpoints: &Breakpoints<A>) -> Result<Run<A>, AllocError> {
         self.followed = 0;
         let last = match way {
             Way::On => None,
@@ -57,13 +53,13 @@ impl<A: Allocator + Copy> Debuggee<A> {
     }
 
     /// How many steps a run took so far, with those that were gone back over.
-    pub(crate) fn work(&self, run: &Run<A>) -> u64 {
+    pub fn work(&self, run: &Run<A>) -> u64 {
         let steps = self.walker.step().abs_diff(run.start);
         steps.saturating_add(self.followed)
     }
 
     /// Goes on with a run by a piece. Returns why the program is to stop, if it is.
-    pub(crate) fn run_on(
+    pub fn run_on(
         &mut self,
         run: &mut Run<A>,
         breakpoints: &mut Breakpoints<A>,

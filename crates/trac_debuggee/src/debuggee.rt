@@ -1,6 +1,6 @@
 //! A program that is debugged.
 
-use std::alloc::{AllocError, Allocator, Global};
+use std::alloc::{AllocError, Allocator};
 use trac_documents::{Encoding, Position, position_of};
 use trac_follow::{End, Place, Witness, trace};
 use trac_moves::Walker;
@@ -10,49 +10,53 @@ use trac_session::Machine;
 use trac_streams::Ending;
 
 /// The records of the steps that can be gone back over take so many bytes, about.
-pub(crate) const KEEP: u64 = 256 << 20;
+pub const KEEP: u64 = 256 << 20;
+
+// For one response, and for what a run printed, so many steps are gone back over to find out where calls were written.
+// The last place that is looked for may take more.
+const PLACES_LIMIT: u64 = 1_000_000;
 
 /// What was asked for when the program was launched.
 #[derive(Drop)]
-pub(crate) struct Launch {
+pub struct Launch {
     /// The file of the program.
-    pub(crate) program: String,
+    pub program: String,
     /// The file of what it reads after that, if there is one.
-    pub(crate) input: Option<String>,
+    pub input: Option<String>,
     /// How wide its numbers are.
-    pub(crate) width: Width,
+    pub width: Width,
     /// Whether it stops before the first step.
-    pub(crate) stops_on_entry: bool,
+    pub stops_on_entry: bool,
 }
 
 /// A program that is debugged.
 #[derive(Drop)]
-pub(crate) struct Debuggee<A: Allocator + Copy> {
-    pub(crate) alloc: A,
-    pub(crate) walker: Walker<A>,
+pub struct Debuggee<A: Allocator + Copy> {
+    pub alloc: A,
+    pub walker: Walker<A>,
     /// How it was launched.
-    pub(crate) launch: Launch,
+    pub launch: Launch,
     /// The program, and what it reads after that.
-    pub(crate) tape: Vec<u8, A>,
+    pub tape: Vec<u8, A>,
     /// How long the program is.
-    pub(crate) len: usize,
+    pub len: usize,
     /// How many bytes of the output the editor was told.
-    pub(crate) told: u64,
+    pub told: u64,
     /// The lines of input that were typed, as a walk takes them.
-    pub(crate) typed: Vec<u8, A>,
+    pub typed: Vec<u8, A>,
     /// Whether the input has ended.
-    pub(crate) has_ended: bool,
+    pub has_ended: bool,
     /// Over how many steps it went back to find out where calls were written.
-    pub(crate) followed: u64,
+    pub followed: u64,
 }
 
 /// Where something was written.
 #[derive(Clone, Copy)]
-pub(crate) struct Spot<'d> {
+pub struct Spot<'d> {
     /// The file.
-    pub(crate) path: &'d str,
+    pub path: &'d str,
     /// The place in it.
-    pub(crate) position: Position,
+    pub position: Position,
 }
 
 // A witness of a byte's way of which nothing is said.
@@ -67,12 +71,7 @@ impl<A: Allocator + Copy> Witness<A> for Unsaid {
 
 impl<A: Allocator + Copy> Debuggee<A> {
     /// Before the first step. The tape is the program, which is so long, and what it reads after that.
-    pub(crate) fn new(
-        alloc: A,
-        launch: Launch,
-        tape: Vec<u8, A>,
-        len: usize,
-    ) -> Result<Self, Ending> {
+    pub fn new(alloc: A, launch: Launch, tape: Vec<u8, A>, len: usize) -> Result<Self, Ending> {
         let walker = Walker::new(alloc, tape.as_slice(), JOURNAL_LIMIT, KEEP, launch.width)?;
         Ok(Debuggee {
             alloc,
@@ -88,7 +87,7 @@ impl<A: Allocator + Copy> Debuggee<A> {
     }
 
     /// How it was launched.
-    pub(crate) fn into_launch(self) -> Launch {
+    pub fn into_launch(self) -> Launch {
         let Debuggee {
             alloc: _,
             walker: _,
@@ -104,20 +103,20 @@ impl<A: Allocator + Copy> Debuggee<A> {
     }
 
     /// The program.
-    pub(crate) fn program(&self) -> &[u8] {
+    pub fn program(&self) -> &[u8] {
         let tape = self.tape.as_slice();
         tape.split_at(self.len.min(tape.len())).0
     }
 
     /// What it reads after that.
-    pub(crate) fn input(&self) -> &[u8] {
+    pub fn input(&self) -> &[u8] {
         let tape = self.tape.as_slice();
         tape.split_at(self.len.min(tape.len())).1
     }
 
     /// Which byte of all input the first byte of the name of a begun call was; none, if it was not read, or that is
     /// not known. The outermost call has number 0. The walker goes back for that, and forward again.
-    pub(crate) fn written(&mut self, number: usize) -> Option<u64> {
+    pub fn written(&mut self, number: usize) -> Option<u64> {
         let start = self.walker.step();
         let most = self.walker.steps_back() as u64;
         let place = Place::Argument {
@@ -137,8 +136,16 @@ impl<A: Allocator + Copy> Debuggee<A> {
         read
     }
 
+    /// The same, unless more steps than `PLACES_LIMIT` were gone back over since `followed` was this: then none.
+    pub fn written_within(&mut self, number: usize, since: u64) -> Option<u64> {
+        if self.followed.saturating_sub(since) > PLACES_LIMIT {
+            return None;
+        }
+        self.written(number)
+    }
+
     /// Where the byte of this number of all input was written; none, if in no file, or if there is no number.
-    pub(crate) fn spot(&self, number: Option<u64>) -> Option<Spot<'_>> {
+    pub fn spot(&self, number: Option<u64>) -> Option<Spot<'_>> {
         let number = number?;
         let program = self.program();
         if number < program.len() as u64 {
@@ -160,13 +167,8 @@ impl<A: Allocator + Copy> Debuggee<A> {
     }
 
     /// How many bytes are printed.
-    pub(crate) fn printed(&self) -> u64 {
+    pub fn printed(&self) -> u64 {
         let kept = self.walker.pending().len() as u64;
         self.walker.released().saturating_add(kept)
     }
-}
-
-/// A text of bytes as an editor shows it: what is no UTF-8 is replaced. The error is that memory was refused.
-pub(crate) fn shown(alloc: Global, text: &[u8]) -> Result<String, AllocError> {
-    String::from_utf8_lossy(alloc, text)
 }

@@ -9,16 +9,16 @@ use trac_sight::{Sight, performed_in};
 
 /// When a breakpoint stops that is met.
 #[derive(Drop)]
-pub(crate) struct When<A: Allocator + Copy> {
+pub struct When<A: Allocator + Copy> {
     /// What has to hold; none, if nothing has to.
-    pub(crate) condition: Option<Condition<A>>,
+    pub condition: Option<Condition<A>>,
     /// At which hits it stops; none, if at all.
-    pub(crate) hits: Option<Hits>,
+    pub hits: Option<Hits>,
 }
 
 /// What has to hold where a breakpoint is met: a text is this, or is another one.
 #[derive(Drop)]
-pub(crate) struct Condition<A: Allocator + Copy> {
+pub struct Condition<A: Allocator + Copy> {
     subject: Subject<A>,
     text: Vec<u8, A>,
     is_same: bool,
@@ -35,7 +35,7 @@ enum Subject<A: Allocator + Copy> {
 
 /// At which hits a breakpoint stops.
 #[derive(Clone, Copy, Debug, PartialEq, Eq)]
-pub(crate) struct Hits {
+pub struct Hits {
     relation: Relation,
     number: u64,
 }
@@ -69,7 +69,7 @@ const NO_HITS: &str = "hits are a number, or one after =, >, >=, <, <= or %";
 
 /// When a breakpoint stops, as the editor asks for it, or why that is not understood. The error is that memory was
 /// refused, here and below.
-pub(crate) fn when_of<A: Allocator + Copy>(
+pub fn when_of<A: Allocator + Copy>(
     alloc: A,
     wanted: &Value,
 ) -> Result<Result<When<A>, &'static str>, AllocError> {
@@ -163,7 +163,7 @@ fn hits_of(text: &str) -> Option<Hits> {
 
 impl Hits {
     /// Whether this hit is one of them, the first being number 1.
-    pub(crate) fn hold(self, hit: u64) -> bool {
+    pub fn hold(self, hit: u64) -> bool {
         match self.relation {
             Relation::Is => hit == self.number,
             Relation::AtLeast => hit >= self.number,
@@ -177,7 +177,7 @@ impl Hits {
 
 impl<A: Allocator + Copy> When<A> {
     /// Whether what has to hold does at the call that comes next.
-    pub(crate) fn holds(&self, sight: &Sight<'_, A>) -> bool {
+    pub fn holds(&self, sight: &Sight<'_, A>) -> bool {
         match &self.condition {
             None => true,
             Some(condition) => condition.holds(sight),

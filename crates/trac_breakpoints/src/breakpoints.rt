@@ -8,25 +8,25 @@ use trac_dialogue::{Word, words_of};
 
 /// A line of a file: the next call stops that was written there.
 #[derive(Drop)]
-pub(crate) struct LineBreak<A: Allocator + Copy> {
-    pub(crate) id: u64,
-    pub(crate) path: String,
+pub struct LineBreak<A: Allocator + Copy> {
+    pub id: u64,
+    pub path: String,
     /// Its number, counted from 0.
-    pub(crate) line: u64,
-    pub(crate) when: When<A>,
+    pub line: u64,
+    pub when: When<A>,
 }
 
 /// A call, by its first arguments.
 #[derive(Drop)]
-pub(crate) struct CallBreak<A: Allocator + Copy> {
-    pub(crate) id: u64,
-    pub(crate) words: Vec<Word<A>, A>,
-    pub(crate) when: When<A>,
+pub struct CallBreak<A: Allocator + Copy> {
+    pub id: u64,
+    pub words: Vec<Word<A>, A>,
+    pub when: When<A>,
 }
 
 /// What may be watched.
 #[derive(Drop)]
-pub(crate) enum Watched {
+pub enum Watched {
     /// The form of this name.
     Form(Vec<u8>),
     /// The byte of this number of the output, the first being number 1.
@@ -35,27 +35,30 @@ pub(crate) enum Watched {
 
 /// A thing that is watched: a change stops.
 #[derive(Drop)]
-pub(crate) struct DataBreak<A: Allocator + Copy> {
-    pub(crate) id: u64,
-    pub(crate) watched: Watched,
-    pub(crate) when: When<A>,
+pub struct DataBreak<A: Allocator + Copy> {
+    pub id: u64,
+    pub watched: Watched,
+    pub when: When<A>,
 }
 
 /// All places where a program is to stop.
 #[derive(Drop)]
-pub(crate) struct Breakpoints<A: Allocator + Copy> {
+pub struct Breakpoints<A: Allocator + Copy> {
     alloc: A,
     global: Global,
     // how often each was met that was set so far, by its number, since a program was launched
     hits: Vec<u64, A>,
-    pub(crate) lines: Vec<LineBreak<A>, A>,
-    pub(crate) calls: Vec<CallBreak<A>, A>,
-    pub(crate) watches: Vec<DataBreak<A>, A>,
+    pub lines: Vec<LineBreak<A>, A>,
+    pub calls: Vec<CallBreak<A>, A>,
+    pub watches: Vec<DataBreak<A>, A>,
     /// Whether it stops at each doubtful step.
-    pub(crate) doubts: bool,
+    pub doubts: bool,
     /// Whether it is an exception that a limit is passed.
-    pub(crate) limit: bool,
+    pub limit: bool,
 }
+
+/// The number by which an editor asks for all forms.
+pub const FORMS: u64 = 1;
 
 // What an identifier of data begins with, before the name of a form.
 const FORM: &str = "form ";
@@ -65,7 +68,7 @@ const BYTE: &str = "byte ";
 
 impl<A: Allocator + Copy> Breakpoints<A> {
     /// None. It takes no memory.
-    pub(crate) fn new(alloc: A, global: Global) -> Self {
+    pub fn new(alloc: A, global: Global) -> Self {
         Breakpoints {
             alloc,
             global,
@@ -85,14 +88,14 @@ impl<A: Allocator + Copy> Breakpoints<A> {
     }
 
     /// None was met so far: a program is launched.
-    pub(crate) fn forget_hits(&mut self) {
+    pub fn forget_hits(&mut self) {
         for hits in self.hits.iter_mut() {
             *hits = 0;
         }
     }
 
     /// The breakpoint of this number is met. Whether it stops now, if it stops at such hits.
-    pub(crate) fn hit(&mut self, id: u64, hits: Option<Hits>) -> bool {
+    pub fn hit(&mut self, id: u64, hits: Option<Hits>) -> bool {
         let Some(count) = self.hits.get_mut(id.saturating_sub(1) as usize) else {
             return false;
         };
@@ -105,11 +108,7 @@ impl<A: Allocator + Copy> Breakpoints<A> {
 
     /// Sets those of the lines of a file, if the first line has this number, in place of those that were set there. The
     /// body of the response says what became of each.
-    pub(crate) fn set_lines(
-        &mut self,
-        request: Request<'_>,
-        first: u64,
-    ) -> Result<Value, AllocError> {
+    pub fn set_lines(&mut self, request: Request<'_>, first: u64) -> Result<Value, AllocError> {
         let path = request.text("/source/path").unwrap_or("");
         self.lines.retain(|line| line.path.as_str() != path);
         let mut set = Vec::new(self.global);
@@ -133,7 +132,7 @@ impl<A: Allocator + Copy> Breakpoints<A> {
     }
 
     /// Sets those of calls, in place of all that were set.
-    pub(crate) fn set_calls(&mut self, request: Request<'_>) -> Result<Value, AllocError> {
+    pub fn set_calls(&mut self, request: Request<'_>) -> Result<Value, AllocError> {
         self.calls.clear();
         let mut set = Vec::new(self.global);
         for wanted in request.list("/breakpoints") {
@@ -150,7 +149,7 @@ impl<A: Allocator + Copy> Breakpoints<A> {
     }
 
     /// Sets those of data, in place of all that were set.
-    pub(crate) fn set_watches(&mut self, request: Request<'_>) -> Result<Value, AllocError> {
+    pub fn set_watches(&mut self, request: Request<'_>) -> Result<Value, AllocError> {
         self.watches.clear();
         let mut set = Vec::new(self.global);
         for wanted in request.list("/breakpoints") {
@@ -167,7 +166,7 @@ impl<A: Allocator + Copy> Breakpoints<A> {
     }
 
     /// Sets which exceptions stop, in place of all that were set.
-    pub(crate) fn set_exceptions(&mut self, request: Request<'_>) -> Result<Value, AllocError> {
+    pub fn set_exceptions(&mut self, request: Request<'_>) -> Result<Value, AllocError> {
         let filters = request.list("/filters");
         self.doubts = filters
             .iter()
@@ -229,7 +228,7 @@ impl<A: Allocator + Copy> Breakpoints<A> {
 
     /// Of the bytes of the output that are watched after so many, up to so many, the first or the last: its number, and
     /// that of its breakpoint.
-    pub(crate) fn byte_between(&self, from: u64, to: u64, is_first: bool) -> Option<(u64, u64)> {
+    pub fn byte_between(&self, from: u64, to: u64, is_first: bool) -> Option<(u64, u64)> {
         let mut found = None;
         for watch in self.watches.iter() {
             if let Watched::Printed(number) = watch.watched
@@ -246,16 +245,28 @@ impl<A: Allocator + Copy> Breakpoints<A> {
     }
 
     /// Whether nothing stops but what cannot go on.
-    pub(crate) fn is_empty(&self) -> bool {
+    pub fn is_empty(&self) -> bool {
         self.lines.is_empty() && self.calls.is_empty() && self.watches.is_empty() && !self.doubts
     }
 }
 
-/// What can be watched of this name: the byte of the output of this number, after `#`, or a form.
-pub(crate) fn watchable(alloc: Global, name: &str) -> Result<Value, AllocError> {
-    let number = name
-        .strip_prefix("#")
-        .and_then(|rest| rest.parse::<u64>().ok());
+/// What can be watched of the name that a request has: the byte of the output of this number, after `#`, or a form. Of
+/// the scopes the forms alone can be, whatever their names are. The error is that memory was refused.
+pub fn watchable(alloc: Global, request: Request<'_>) -> Result<Value, AllocError> {
+    let name = request.text("/name").unwrap_or("");
+    let scope = request.number("/variablesReference").unwrap_or(0);
+    if scope != 0 && scope != FORMS {
+        let none = Value::Null;
+        return json!(in alloc; {
+            "dataId": none, "description": "forms and bytes of the output can be watched"
+        });
+    }
+    let number = if scope == FORMS {
+        None
+    } else {
+        name.strip_prefix("#")
+            .and_then(|rest| rest.parse::<u64>().ok())
+    };
     let (id, words) = match number {
         Some(number) => (
             format!(in alloc; "{BYTE}{number}")?,

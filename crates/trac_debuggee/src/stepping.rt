@@ -1,15 +1,15 @@
 //! Moves over a call, or over a step of the rules.
 
 use crate::debuggee::Debuggee;
+use crate::halt::{Halt, halt_of};
 use crate::running::BUDGET;
-use crate::stopping::{Halt, halt_of};
 use std::alloc::Allocator;
 use trac_moves::Aim;
 use trac_session::Goal;
 
 impl<A: Allocator + Copy> Debuggee<A> {
     /// Goes forward to the next call of the program's own.
-    pub(crate) fn step_in(&mut self) -> Halt {
+    pub fn step_in(&mut self) -> Halt {
         match self.walker.forward_to(Aim::OwnCall, BUDGET) {
             None => Halt::Step,
             Some(refusal) => halt_of(refusal),
@@ -17,7 +17,7 @@ impl<A: Allocator + Copy> Debuggee<A> {
     }
 
     /// Goes forward by one step of the rules.
-    pub(crate) fn step_once(&mut self) -> Halt {
+    pub fn step_once(&mut self) -> Halt {
         match self.walker.forward(1) {
             None => Halt::Step,
             Some(refusal) => halt_of(refusal),
@@ -25,7 +25,7 @@ impl<A: Allocator + Copy> Debuggee<A> {
     }
 
     /// Goes forward over the call that comes next, and its value, to the next call after that.
-    pub(crate) fn step_over(&mut self) -> Halt {
+    pub fn step_over(&mut self) -> Halt {
         let here = self.walker.glance();
         if !here.performs {
             return self.step_in();
@@ -46,7 +46,7 @@ impl<A: Allocator + Copy> Debuggee<A> {
     }
 
     /// Goes forward to the end of the call that is begun around the one that comes next.
-    pub(crate) fn step_out(&mut self) -> Halt {
+    pub fn step_out(&mut self) -> Halt {
         let here = self.walker.glance();
         let inside = here.depth.saturating_sub(usize::from(here.performs));
         if inside == 0 {
@@ -59,7 +59,7 @@ impl<A: Allocator + Copy> Debuggee<A> {
     }
 
     /// Goes back to the last call of the program's own.
-    pub(crate) fn step_back(&mut self) -> Halt {
+    pub fn step_back(&mut self) -> Halt {
         match self.walker.return_to(Aim::OwnCall) {
             None => Halt::Step,
             Some(_) => {
@@ -70,7 +70,7 @@ impl<A: Allocator + Copy> Debuggee<A> {
     }
 
     /// Goes back over one step of the rules.
-    pub(crate) fn step_back_once(&mut self) -> Halt {
+    pub fn step_back_once(&mut self) -> Halt {
         match self.walker.back(1) {
             None => Halt::Step,
             Some(refusal) => halt_of(refusal),

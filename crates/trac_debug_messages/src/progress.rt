@@ -1,16 +1,16 @@
 //! What the editor is told of a run that takes long.
 
 use crate::outbox::Outbox;
-use crate::running::Way;
 use serde_json::json;
 use std::alloc::{AllocError, Global};
+use trac_debuggee::Way;
 
 /// What the editor is told of runs that take long.
 #[derive(Drop)]
-pub(crate) struct Progress {
+pub struct Progress {
     global: Global,
     /// Whether it wants to be told.
-    pub(crate) is_wanted: bool,
+    pub is_wanted: bool,
     // the number of the run of which it was told last
     number: u64,
     // whether that goes on
@@ -19,7 +19,7 @@ pub(crate) struct Progress {
 
 impl Progress {
     /// Nothing. It takes no memory.
-    pub(crate) fn new(global: Global) -> Self {
+    pub fn new(global: Global) -> Self {
         Progress {
             global,
             is_wanted: false,
@@ -29,12 +29,7 @@ impl Progress {
     }
 
     /// A run goes on that took so many steps so far. The error is that memory was refused, here and below.
-    pub(crate) fn tell(
-        &mut self,
-        way: Way,
-        steps: u64,
-        outbox: &mut Outbox,
-    ) -> Result<(), AllocError> {
+    pub fn tell(&mut self, way: Way, steps: u64, outbox: &mut Outbox) -> Result<(), AllocError> {
         if !self.is_wanted {
             return Ok(());
         }
@@ -64,7 +59,7 @@ impl Progress {
     }
 
     /// No run goes on.
-    pub(crate) fn end(&mut self, outbox: &mut Outbox) -> Result<(), AllocError> {
+    pub fn end(&mut self, outbox: &mut Outbox) -> Result<(), AllocError> {
         if !self.goes_on {
             return Ok(());
         }

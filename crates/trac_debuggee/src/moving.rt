@@ -1,14 +1,14 @@
 //! Requests that move a program.
 
 use crate::debuggee::Debuggee;
-use crate::messages::Request;
+use crate::halt::Halt;
 use crate::running::Way;
-use crate::stopping::Halt;
 use std::alloc::Allocator;
+use trac_breakpoints::Request;
 
 /// What a request asks of a program.
 #[derive(Clone, Copy, Debug, PartialEq, Eq)]
-pub(crate) enum Move {
+pub enum Move {
     /// To run until it is to stop.
     Run(Way),
     /// To the next call of its own.
@@ -26,7 +26,7 @@ pub(crate) enum Move {
 }
 
 /// What a request asks of a program; none, if it moves none.
-pub(crate) fn move_of(request: Request<'_>) -> Option<Move> {
+pub fn move_of(request: Request<'_>) -> Option<Move> {
     let by_rules = request.text("/granularity") == Some("instruction");
     Some(match request.command.as_bytes() {
         b"continue" => Move::Run(Way::On),
@@ -44,7 +44,7 @@ pub(crate) fn move_of(request: Request<'_>) -> Option<Move> {
 
 impl<A: Allocator + Copy> Debuggee<A> {
     /// Moves the program so, and says why it stands then; none, if it is to run.
-    pub(crate) fn go(&mut self, asked: Move) -> Option<Halt> {
+    pub fn go(&mut self, asked: Move) -> Option<Halt> {
         Some(match asked {
             Move::Run(_) => return None,
             Move::In => self.step_in(),

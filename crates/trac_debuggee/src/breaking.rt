@@ -1,10 +1,10 @@
 //! Whether a program has come to a place where it is to stop.
 
-use crate::breakpoints::{Breakpoints, CallBreak, Watched};
 use crate::debuggee::Debuggee;
-use crate::stopping::Halt;
+use crate::halt::Halt;
 use memchr::memmem;
 use std::alloc::{AllocError, Allocator};
+use trac_breakpoints::{Breakpoints, CallBreak, Watched};
 use trac_documents::{Encoding, Position, offset_of};
 use trac_session::{Args, Form, Goal, Refusal};
 use trac_sight::performed_in;

@@ -1,8 +1,8 @@
 //! Messages that go to the editor.
 
-use crate::messages::Request;
 use serde_json::{Value, json};
 use std::alloc::{AllocError, Global};
+use trac_breakpoints::Request;
 
 /// The messages that are to be sent, and how many there were before.
 #[derive(Drop)]
@@ -39,7 +39,7 @@ impl Outbox {
     }
 
     /// Responds to a request that was carried out. The error is that memory was refused, here and below.
-    pub(crate) fn respond(&mut self, request: Request<'_>, body: Value) -> Result<(), AllocError> {
+    pub fn respond(&mut self, request: Request<'_>, body: Value) -> Result<(), AllocError> {
         let number = self.number();
         let message = json!(in self.alloc; {
             "seq": number,
@@ -53,7 +53,7 @@ impl Outbox {
     }
 
     /// Responds to a request that is refused for this.
-    pub(crate) fn refuse(&mut self, request: Request<'_>, why: &str) -> Result<(), AllocError> {
+    pub fn refuse(&mut self, request: Request<'_>, why: &str) -> Result<(), AllocError> {
         let number = self.number();
         let message = json!(in self.alloc; {
             "seq": number,
@@ -68,7 +68,7 @@ impl Outbox {
     }
 
     /// Tells of an event.
-    pub(crate) fn tell(&mut self, event: &str, body: Value) -> Result<(), AllocError> {
+    pub fn tell(&mut self, event: &str, body: Value) -> Result<(), AllocError> {
         let number = self.number();
         let message = json!(in self.alloc; {
             "seq": number, "type": "event", "event": event, "body": body

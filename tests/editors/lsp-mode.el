@@ -1,0 +1,41 @@
+;;; lsp-mode.el --- Opens the file that TRAC_FILE names, and prints what the server tells  -*- lexical-binding: t -*-
+(package-initialize)
+(require 'lsp-mode)
+(require 'trac-mode)
+(setq lsp-session-file (expand-file-name "lsp-session" (getenv "HOME"))
+      lsp-auto-guess-root t lsp-auto-configure nil lsp-enable-snippet nil lsp-enable-file-watchers nil)
+
+(defun told (name value) (princ (format "%s: %S\n" name value)))
+
+(defun waited (test)
+  (let ((left 600))
+    (while (and (> left 0) (not (funcall test)))
+      (accept-process-output nil 0.1)
+      (setq left (1- left)))))
+
+(defun doubts ()
+  (mapcar (lambda (it) (gethash "message" it)) (gethash (buffer-file-name) (lsp-diagnostics t))))
+
+(defun ready ()
+  (and lsp--buffer-workspaces (eq (lsp--workspace-status (car lsp--buffer-workspaces)) 'initialized)))
+
+(lsp-workspace-folders-add (getenv "HOME"))
+(find-file (getenv "TRAC_FILE"))
+(let ((inhibit-message t)) (lsp))
+(waited #'ready)
+(told "ready" (and (ready) (lsp--client-server-id (lsp--workspace-client (car lsp--buffer-workspaces)))))
+(goto-char (point-min))
+(search-forward "(cl,Factorial,5)")
+(replace-match "(xl,Factorial,5)")
+(lsp--flush-delayed-changes)
+(waited #'doubts)
+(told "diagnostics" (doubts))
+(goto-char (point-min))
+(search-forward "(xl,")
+(replace-match "(cl,")
+(lsp--flush-delayed-changes)
+(forward-char 3)
+(told "hover" (gethash "value" (gethash "contents" (lsp-request "textDocument/hover"
+                                                                (lsp--text-document-position-params)))))
+(set-buffer-modified-p nil)
+(kill-emacs)
