@@ -56,6 +56,14 @@ class Clients(Case):
         words = [word for command in commands for word in ("-c", command)]
         self.is_told("Neovim", ["nvim", "--headless", "-u", "NONE", *words], NEOVIM)
 
+    def test_neovim_in_a_folder_with_dap(self) -> None:
+        """A dap.lua of the folder that it stands in is not run."""
+        (self.room / "dap.lua").write_text('io.open("run", "w"):close()', encoding="utf-8")
+        self.is_told("Neovim", ["nvim", "--headless", "-u", "NONE", "-c",
+                                "set runtimepath+={}".format(EDITORS / "nvim"), "-c", "runtime plugin/trac.lua",
+                                "-c", "quitall!"], "")
+        self.holds("nothing of that folder ran", not (self.room / "run").exists())
+
     def test_emacs_with_the_server(self) -> None:
         # Debian's packages of Emacs are found by its own start alone, which `-Q` leaves out.
         packages = glob.glob("/usr/share/emacs/site-lisp/elpa-src/*")

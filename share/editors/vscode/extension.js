@@ -13,12 +13,14 @@ class Server {
     this.told = told;
     this.waiting = new Map();
     this.count = 0;
+    this.hasEnded = false;
     this.bytes = Buffer.alloc(0);
     this.process = spawn(command, ["lsp"], { stdio: ["pipe", "pipe", "ignore"] });
     this.process.on("error", (error) => vscode.window.showWarningMessage(`trac lsp: ${error.message}`));
     this.process.stdin.on("error", () => {});
     this.process.stdout.on("data", (bytes) => this.take(bytes));
     this.process.on("close", () => {
+      this.hasEnded = true;
       for (const give of this.waiting.values()) give(null);
       this.waiting.clear();
     });
@@ -37,8 +39,9 @@ class Server {
   ask(method, params) {
     const id = ++this.count;
     return new Promise((give) => {
+      if (this.hasEnded) return give(null);
       this.waiting.set(id, give);
-      this.send({ id, method, params });
+      return this.send({ id, method, params });
     });
   }
 

@@ -2,7 +2,14 @@
 -- is. `trac` has to stand on PATH.
 vim.api.nvim_create_autocmd({ "BufNewFile", "BufRead" }, { pattern = "*.trac", command = "setfiletype trac" })
 
-local found, dap = pcall(require, "dap")
+-- (`require` alone would also run a dap.lua of the folder that Neovim stands in)
+local function has(file)
+  return #vim.api.nvim_get_runtime_file(file, false) > 0
+end
+local found, dap = false, nil
+if has("lua/dap.lua") or has("lua/dap/init.lua") then
+  found, dap = pcall(require, "dap")
+end
 if found then
   dap.adapters.trac = { type = "executable", command = "trac", args = { "dap" } }
   dap.configurations.trac = {
