@@ -9,10 +9,18 @@ use Rattle.trac_session.proofs.Known.{answered_forgotten, at_start, own_after_st
 use Rattle.trac_session.proofs.Trailed.{answered}
 use Rattle.trac_session.proofs.session.Session.step.Goals as goal
 
+-- ---- back
+
+pub returns-in-Backward : goal.returns-in-Backward
+returns-in-Backward g c = rw c.in-Backward.is (Back_answered c.args.self.now c.step_back.new.self (reply_of c.step_back.result) c.step_back.ensures)
+
+-- ---- forward, with a full journal
+
 pub returns-then-len-self : goal.returns-then-len-self
 returns-then-len-self g c =
     let count : c.len.result ≡ length c.self.inside.journal.records = c.len.ensures in
-    Step_full_of_fields _ _ _ _ c.self.inside.journal.records _ _ c.self.view_is c.self.invariant.sound.records (omega arith)
+    rw (forward_steps c.args.direction c.in_default.not-Backward)
+    (Step_full_of_fields _ _ _ _ c.self.inside.journal.records _ _ c.self.view_is c.self.invariant.sound.records (omega arith))
 
 -- ---- refused
 
