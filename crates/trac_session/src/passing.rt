@@ -22,6 +22,9 @@ impl<A: Allocator + Copy> Session<A> {
         ensures end { IsForward direction → result < most → HasNoPlain self.new }
         ensures weight { IsForward direction → weights_from self.new.earlier ≡ weights_from self.old.earlier }
     {
+        // Read for what holds of a session: its states are steps of one another, so that a step that moved a byte does
+        // nothing else.
+        let _limit = self.limit;
         match direction {
             Direction::Forward(_) => {
                 let room = self.limit - self.journal.len();

@@ -9,8 +9,8 @@ use Rattle.trac_session.proofs.session.Session.walk.Given.{Over}
 use Rattle.trac_session.proofs.session.Session.walk.Goals as goal
 use Rattle.trac_session.proofs.session.Session.walk.Goals.{After-pass-passed}
 
-pub loop-direction-init : goal.loop-direction-init
-loop-direction-init g c =
+pub loop-left-init : goal.loop-left-init
+loop-left-init g c =
     way_begun c.args.direction (goal_at c.args.goal) c.args.n c.match-at_once.at_once c.args.self.now
     (elim c.match-at_once.branch [ in-Some w ↦ omega (arith, w.at_once-is, w.at_once.ensures.some) | in-None w ↦ omega (arith, w.at_once-is) ])
     ?
@@ -20,13 +20,13 @@ loop-direction-init g c =
 
 -- they are a walk
 more : (g : Over) (c : After-pass-passed g) →
-    IsWalk (command_towards c.args.direction) (goal_at c.args.goal) c.pass-passed.result c.loop-direction.self c.pass-passed.result None c.pass-passed.new.self
+    IsWalk (command_towards c.args.direction) (goal_at c.args.goal) c.pass-passed.result c.loop-left.self c.pass-passed.result None c.pass-passed.new.self
 more g c =
-    way_over c.loop-direction.invariant c.pass-passed.result c.min-most.result c.pass-passed.new.self c.pass-passed.ensures.passed c.pass-passed.ensures.most
+    way_over c.loop-left.invariant c.pass-passed.result c.min-most.result c.pass-passed.new.self c.pass-passed.ensures.passed c.pass-passed.ensures.most
     (omega (arith, c.min-most.ensures)) c.pass-passed.ensures.quiet
 
 pub returns-then-left-eq0-clause-walk : goal.returns-then-left-eq0-clause-walk
 returns-then-left-eq0-clause-walk g c =
-    way_ended c.loop-direction.invariant c.pass-passed.result c.pass-passed.new.self (more g (goal.at.returns-then-left-eq0-clause-walk g c).After-pass-passed)
+    way_ended c.loop-left.invariant c.pass-passed.result c.pass-passed.new.self (more g (goal.at.returns-then-left-eq0-clause-walk g c).After-pass-passed)
     (omega (arith, c.if-left-eq0.true, c.pass-passed.ensures.most, c.min-most.ensures))
-    (passed_light c.loop-direction.invariant c.pass-passed.new.self c.pass-passed.ensures.weight)
+    (passed_light c.loop-left.invariant c.pass-passed.new.self c.pass-passed.ensures.weight)
