@@ -367,6 +367,7 @@ fn weigh_texts(call: CallEntry) -> u64
 
 // What an entry is to keep of a call that destroyed this of forms and blocks, and what that weighs. If the entry cannot
 // hold it, it goes to the end of the list of these, which has to have a place.
+#[inline(always)]
 fn keep_undone<A: Allocator + Copy>(
     undone: Undone<A>,
     list: &mut VecDeque<Undone<A>, A>,
