@@ -39,6 +39,8 @@ impl<A: Allocator + Copy> Session<A> {
     /// Goes back over steps that moved a byte each to the current text, up to `most` of them, until one that did
     /// something else. Returns how many these are: fewer than `most` only if the step before did something else, or
     /// there is none. It takes the same time however many they are, but for moving the bytes, and no memory.
+    // The loop of a walk has this inlined, at two places.
+    #[inline(always)]
     pub fn pass_back(&mut self, most: u64) -> u64
         ensures passed { repeated Back result self.old ≡ Some self.new }
         ensures moved { HasMovedBack result self.old self.new }
