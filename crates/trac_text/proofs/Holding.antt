@@ -1,7 +1,7 @@
 -- Lists with two ends that hold texts, and what each rule of scanning makes of them.
 use Rattle.std.proofs.Common.{◌≡◌, ℕ, ◌+◌, ◌-◌, ◌<◌, ◌≤◌, ◌^◌, List, [], ◌∷◌, ◌++◌, length, take, drop, refl, sym, ap, ◌∙◌, subst, arith, Bool, true, false}
 use Rattle.std.specs.Prelude.{Option, Some, None}
-use Rattle.std.proofs.lemmas.List.{length-append, length-drop, length-take}
+use Rattle.std.proofs.lemmas.List.{append-nil, length-append, length-drop, length-take}
 use Rattle.std.proofs.lemmas.Option.{none-some}
 use Rattle.trac_gap.specs.Ends.{Ends, item_count}
 use Rattle.trac_rules.specs.declared.kind.Kind.{Kind}
@@ -168,6 +168,10 @@ module _ {functions : ℕ} {text : Ends ℕ} {ms : Ends Mark} {m : ShownTexts} (
       subst (λ (active : List ℕ). AreNow functions next ms (record m { texts = gathered (drop n active) (take n active) m.texts })) (held_now now).active
       (gathered_now (drop n text.right) (take n text.right) is (omega (arith, length-take n text.right, length-drop n text.right)))
 
+  -- if there are none of them, the texts stay
+  pub none_moved : m ≡ record m { texts = texts_by (moved_on 0) m.texts }
+  none_moved = sym now.view ∙ (moved_now 0 (λ i. record text { left = sym (append-nil text.left) i })).view
+
   -- what a `(` protects
   pub protected_now : {next : Ends ℕ} → 0 < length m.texts.active → next ≡ with_protected (protected (drop 1 text.right)) text →
       AreNow functions next ms (record m { texts = texts_by (protect (protected (drop 1 m.texts.active))) m.texts })
@@ -236,6 +240,15 @@ module _ {functions : ℕ} {text : Ends ℕ} {ms : Ends Mark} {m : ShownTexts} (
       same_depth : (fs : List Frame) → length (marked None [] (record { base = m.texts.base; frames = fs })).frames ≡ length fs
       same_depth [] = refl
       same_depth (f ∷ fs) = refl
+
+-- a mark is put after all others
+pub mark_put : {ms mid ns : Ends Mark} {x : Mark} (place : ℕ) (o : Option Kind) → mid.left ≡ ms.left → mid.right ≡ ms.right → ns ≡ record mid { left = mid.left ++ x ∷ [] } → x ≡ mark_at place o →
+    ns ≡ with_mark_at place o ns.capacity ms
+mark_put {ms} {mid} {ns} {x} place o left right is mark = λ i. record {
+  left = (ap (λ (e : Ends Mark). e.left) is ∙ (λ j. left j ++ mark j ∷ [])) i;
+  right = (ap (λ (e : Ends Mark). e.right) is ∙ right) i;
+  capacity = ns.capacity;
+}
 
 -- memory is refused only if there is no room
 pub full_now : {functions : ℕ} {text : Ends ℕ} {ms : Ends Mark} {m : ShownTexts} → AreNow functions text ms m → ms.capacity ≤ length ms.left → m.mark_room ≤ marks m.texts.frames
