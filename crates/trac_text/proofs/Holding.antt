@@ -1,7 +1,7 @@
 -- Lists with two ends that hold texts, and what each rule of scanning makes of them.
 use Rattle.std.proofs.Common.{◌≡◌, ℕ, ◌+◌, ◌-◌, ◌<◌, ◌≤◌, ◌^◌, List, [], ◌∷◌, ◌++◌, length, take, drop, refl, sym, ap, ◌∙◌, subst, arith, Bool, true, false}
-use Rattle.std.specs.Prelude.{Option, Some, None}
-use Rattle.std.proofs.lemmas.List.{append-nil, length-append, length-drop, length-take}
+use Rattle.std.specs.Prelude.{Option, Some, None, Result, Ok, Err, IsOk}
+use Rattle.std.proofs.lemmas.List.{length-append, length-drop, length-take}
 use Rattle.std.proofs.lemmas.Option.{none-some}
 use Rattle.trac_gap.specs.Ends.{Ends, item_count}
 use Rattle.trac_rules.specs.declared.kind.Kind.{Kind}
@@ -168,10 +168,6 @@ module _ {functions : ℕ} {text : Ends ℕ} {ms : Ends Mark} {m : ShownTexts} (
       subst (λ (active : List ℕ). AreNow functions next ms (record m { texts = gathered (drop n active) (take n active) m.texts })) (held_now now).active
       (gathered_now (drop n text.right) (take n text.right) is (omega (arith, length-take n text.right, length-drop n text.right)))
 
-  -- if there are none of them, the texts stay
-  pub none_moved : m ≡ record m { texts = texts_by (moved_on 0) m.texts }
-  none_moved = sym now.view ∙ (moved_now 0 (λ i. record text { left = sym (append-nil text.left) i })).view
-
   -- what a `(` protects
   pub protected_now : {next : Ends ℕ} → 0 < length m.texts.active → next ≡ with_protected (protected (drop 1 text.right)) text →
       AreNow functions next ms (record m { texts = texts_by (protect (protected (drop 1 m.texts.active))) m.texts })
@@ -241,16 +237,17 @@ module _ {functions : ℕ} {text : Ends ℕ} {ms : Ends Mark} {m : ShownTexts} (
       same_depth [] = refl
       same_depth (f ∷ fs) = refl
 
--- a mark is put after all others
-pub mark_put : {ms mid ns : Ends Mark} {x : Mark} (place : ℕ) (o : Option Kind) → mid.left ≡ ms.left → mid.right ≡ ms.right → ns ≡ record mid { left = mid.left ++ x ∷ [] } → x ≡ mark_at place o →
-    ns ≡ with_mark_at place o ns.capacity ms
-mark_put {ms} {mid} {ns} {x} place o left right is mark = λ i. record {
-  left = (ap (λ (e : Ends Mark). e.left) is ∙ (λ j. left j ++ mark j ∷ [])) i;
-  right = (ap (λ (e : Ends Mark). e.right) is ∙ right) i;
-  capacity = ns.capacity;
-}
-
 -- memory is refused only if there is no room
+pub no_room : {T R X : Type 0} (e : Ends T) (r : Result R X) → ((x : R) → r ≡ Ok x → ⊥) → (item_count e + 1 ≤ e.capacity → IsOk r) → e.right ≡ [] → e.capacity ≤ length e.left
+no_room {T} {R} {X} e r other fits on_left = by_result r refl
+  where
+    by_result : (it : Result R X) → r ≡ it → e.capacity ≤ length e.left
+    by_result (Ok x) is = absurd (other x is)
+    by_result (Err x) is = omega (arith, none, ap (λ (xs : List T). length xs) on_left)
+      where
+        none : item_count e + 1 ≤ e.capacity → ⊥
+        none room = let unset : false ≡ true = subst IsOk is (fits room) in cc
+
 pub full_now : {functions : ℕ} {text : Ends ℕ} {ms : Ends Mark} {m : ShownTexts} → AreNow functions text ms m → ms.capacity ≤ length ms.left → m.mark_room ≤ marks m.texts.frames
 full_now now full = omega (arith, full, mark_count (held_now now), ap (λ (x : ShownTexts). x.mark_room) now.view)
 
@@ -271,6 +268,18 @@ arguments_here now b begins =
     sym inner.arguments_are ∙ ap innermost_arguments (sym inner.frames_are) ∙ ap (λ (n : ShownTexts). innermost_arguments n.texts.frames) now.view
 
 -- ---- a call ends
+
+-- a list is cut to so many items, by how many fewer these are
+pub cut_to : {T : Type 0} {e next : Ends T} {seen : List T} (k : ℕ) → seen ≡ e.left → next ≡ record e { left = take (length e.left - (length seen - k)) e.left } → k ≤ length e.left → next ≡ record e { left = take k e.left }
+cut_to {T} {e} k seen_is is within =
+    let same : length e.left - (length e.left - k) ≡ k = omega (arith, within) in
+    is ∙ ap (λ (xs : List T). record e { left = take (length e.left - (length xs - k)) e.left }) seen_is ∙ ap (λ (n : ℕ). record e { left = take n e.left }) same
+
+-- the same behind a list of which the first item is gone
+pub cut_with : {T : Type 0} (e : Ends T) {cut next : Ends T} {seen : List T} (k : ℕ) → cut ≡ record e { right = drop 1 e.right } → seen ≡ cut.left → next ≡ record cut { left = take (length cut.left - (length seen - k)) cut.left } → k ≤ length e.left →
+    next ≡ record e { left = take k e.left; right = drop 1 e.right }
+cut_with {T} e {cut} k cut_is seen_is is within =
+    cut_to k seen_is is (omega (arith, within, ap (λ (x : Ends T). length x.left) cut_is)) ∙ ap (λ (x : Ends T). record x { left = take k x.left }) cut_is
 
 module _ {functions : ℕ} {text : Ends ℕ} {ms : Ends Mark} {m : ShownTexts} (now : AreNow functions text ms m) where
   -- the innermost function goes with its `)`

@@ -101,7 +101,3 @@ begins_by t rule next = subst (λ (r : Rule). BeginsBy r t) (sym next) (by_front
 pub inside_counted : (fs : List Frame) → nat_lt 0 (length fs) ≡ is_inside fs
 inside_counted [] = refl
 inside_counted (f ∷ fs) = le-leb 1 (length (f ∷ fs)) (omega arith)
-
--- the rule for this front, in a function or outside any, is the one that comes next
-pub rule_so : {t : Texts} {at : Front} {inside : Bool} → at ≡ front_of t.active → inside ≡ is_inside t.frames → rule_at at inside ≡ rule_of t
-rule_so front inside i = rule_at (front i) (inside i)

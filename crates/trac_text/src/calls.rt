@@ -49,7 +49,8 @@ impl<E: TwoEnds<u8, A>, M: TwoEnds<Mark, A>, A: Allocator + Copy> Texts<E, M, A>
     {
         match kind {
             Kind::Neutral if !forced => self.text.put_left(value),
-            Kind::Neutral | Kind::Active => self.text.put_right(value),
+            Kind::Neutral => self.text.put_right(value),
+            Kind::Active => self.text.put_right(value),
         }
     }
 }

@@ -55,7 +55,6 @@ pub enum Short {
 impl<E: TwoEnds<u8, A>, M: TwoEnds<Mark, A>, A: Allocator + Copy> Texts<E, M, A> {
     /// The rule that comes next. It takes the same time however long the texts are.
     #[inline(always)]
-    #[tactic(auto, using(crate::proofs::Ruled::rule_so))]
     pub fn rule(&self) -> Rule
         ensures next { result ≡ rule_of self.now.texts }
 
