@@ -1,4 +1,4 @@
-use Rattle.std.proofs.Common.{◌≡◌, ◌+◌, ◌-◌, ◌<◌, ◌≤◌, ℕ, length, drop, get_or, refl, sym, ap, ◌∙◌, subst, List, arith}
+use Rattle.std.proofs.Common.{◌≡◌, ◌+◌, ◌-◌, ◌<◌, ◌≤◌, ℕ, length, drop, get_or, refl, sym, ap, subst, List, arith}
 use Rattle.std.specs.Prelude.{Some}
 use Rattle.trac_rules.specs.declared.kind.Kind.{Kind}
 use Rattle.trac_text.specs.declared.mark.Mark.{Mark}

@@ -1,6 +1,5 @@
-use Rattle.std.proofs.Common.{◌≡◌, ℕ, ◌+◌, ◌-◌, ◌≤◌, length, take, drop, ap, ◌∙◌, arith}
+use Rattle.std.proofs.Common.{ℕ, ◌-◌, length, ap, arith}
 use Rattle.trac_gap.specs.Ends.{Ends}
-use Rattle.trac_text.specs.declared.mark.Mark.{Mark}
 use Rattle.trac_text.proofs.Holding.{begun_here, cut_to, cut_with, ended_now, some_function}
 use Rattle.trac_text.proofs.texts.Texts.end_function.Goals as goal
 
