@@ -1,8 +1,11 @@
 -- A call that is ready is performed: its memory is taken, then forms and blocks are changed, and then it is ended.
-use Rattle.std.proofs.Common.{◌≡◌, ℕ, ◌+◌, ◌<◌, ◌≤◌, ◌^◌, List, length, refl, sym, ap, ◌∙◌, subst, arith}
+use Rattle.std.proofs.Common.{◌≡◌, Bool, true, false, ℕ, ◌+◌, ◌<◌, ◌≤◌, ◌^◌, List, length, refl, sym, ap, ◌∙◌, subst, arith}
 use Rattle.std.proofs.lemmas.Result.{err_from_is_err_and}
 use Rattle.std.specs.Option.{option_and}
-use Rattle.std.specs.Prelude.{Err, None, Ok, Option, Result, Some, option_map}
+use Rattle.std.specs.Prelude.{◌||◌, Err, None, Ok, Option, Result, Some, option_map}
+use denote.Enum.Bare.{sameb}
+use Rattle.trac_rules.specs.contracts.kind.Kind.{the_type}
+use Rattle.trac_rules.specs.declared.kind.Kind.TheVariants.{Active, Neutral}
 use Rattle.std.specs.Result.{IsErrAnd}
 use Rattle.trac_rules.specs.declared.kind.Kind.{Kind}
 use Rattle.trac_rules.specs.declared.refusal.Refusal.{Refusal}
@@ -68,6 +71,13 @@ said_as s kind deed made called kind_is value_is scanned_is printed_is read_is m
   meta = meta_is i;
   trace = trace_is i;
 }
+
+-- the value of an active function is scanned, and that of a neutral one if it is forced
+pub scanned_so : (kind : Kind) (forced same : Bool) → same ≡ sameb the_type kind Active → (forced || same) ≡ is_scanned kind forced
+scanned_so Active true same is = refl
+scanned_so Active false same is = is
+scanned_so Neutral true same is = refl
+scanned_so Neutral false same is = is
 
 -- the old meta character, if one is set
 pub old_if_set : (old : ℕ) (set : Option ℕ) → option_and set (Some old) ≡ option_map (λ _. old) set
