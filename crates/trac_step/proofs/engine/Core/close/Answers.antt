@@ -53,9 +53,10 @@ change_into-requires-clause-fits g c =
     let planned = c.in_ok-beginning.ensures.planned in
     let fits = call_fits e s (state_after deed c.planned.new.made c.planned.new.change (scan s)) (called_with s b.kind deed c.planned.new.made) (undone_after c.planned.new.change s) c.requires.can.proper planned.ready.proper c.requires.front
     c.requires.inside planned.taken planned.recorded in
-    let same = said_as s b.kind deed c.planned.new.made _ refl (c.len.ensures ∙ c.planned.new.made.value.ok.0) (scanned_so b.kind deed.forced c.eq.result c.eq.ensures) (c.len-2.ensures ∙ c.planned.new.made.print.ok.0) refl
-    (c.and.ensures ∙ old_if_set _ deed.meta ∙ ap (λ (m : Shown). option_map (λ _. m.state.meta) deed.meta) c.self.view_is) (ap (λ (m : Shown). m.state.trace) c.self.view_is) in
-    fits_as _ _ _ _ _ _ same (ap (λ (t : State). arguments_in (scan t)) c.make_room.ensures.state) (ap (λ (t : State). undone_after c.planned.new.change t) c.make_room.ensures.state) fits
+    fits_as _ _ _ _ _ _
+    (said_as s b.kind deed c.planned.new.made _ refl (c.len.ensures ∙ c.planned.new.made.value.ok.0) (scanned_so b.kind deed.forced c.eq.result c.eq.ensures) (c.len-2.ensures ∙ c.planned.new.made.print.ok.0) refl
+        (c.and.ensures ∙ old_if_set _ deed.meta ∙ ap (λ (m : Shown). option_map (λ _. m.state.meta) deed.meta) c.self.view_is) (ap (λ (m : Shown). m.state.trace) c.self.view_is))
+    (ap (λ (t : State). arguments_in (scan t)) c.make_room.ensures.state) (ap (λ (t : State). undone_after c.planned.new.change t) c.make_room.ensures.state) fits
 
 pub end_call-requires : goal.end_call-requires
 end_call-requires g c =
@@ -81,14 +82,13 @@ returns g c =
     let made = c.planned.new.made in
     let change = c.planned.new.change in
     let planned = c.in_ok-beginning.ensures.planned in
-    let same = said_as s b.kind deed made _ refl (c.len.ensures ∙ made.value.ok.0) (scanned_so b.kind deed.forced c.eq.result c.eq.ensures) (c.len-2.ensures ∙ made.print.ok.0) refl
-    (c.and.ensures ∙ old_if_set _ deed.meta ∙ ap (λ (m : Shown). option_map (λ _. m.state.meta) deed.meta) c.self.view_is) (ap (λ (m : Shown). m.state.trace) c.self.view_is) in
     stepped_call (environment_of c.args.self.now.width c.args.tape) _ c.args.self.now c.end_call.new.self (g.K.Keeper.records c.args.keeper.now) (g.K.Keeper.records c.change_into.new.keeper)
     (g.K.Keeper.places c.args.keeper.now) _ _ c.requires.front c.requires.inside planned.taken planned.recorded (record {
       done =
           c.end_call.ensures.state
           ∙ ended_then s c.make_room.new.self c.change_into.new.self b deed made change planned.ready c.make_room.ensures.state c.in_ok-change_into.ensures.done;
-      added = c.in_ok-change_into.ensures.added ∙ (λ i. recorded_after (same i) change (c.make_room.ensures.state i) ∷ g.K.Keeper.records c.args.keeper.now);
+      added = c.in_ok-change_into.ensures.added ∙ (λ i. recorded_after ((said_as s b.kind deed made _ refl (c.len.ensures ∙ made.value.ok.0) (scanned_so b.kind deed.forced c.eq.result c.eq.ensures) (c.len-2.ensures ∙ made.print.ok.0) refl
+    (c.and.ensures ∙ old_if_set _ deed.meta ∙ ap (λ (m : Shown). option_map (λ _. m.state.meta) deed.meta) c.self.view_is) (ap (λ (m : Shown). m.state.trace) c.self.view_is)) i) change (c.make_room.ensures.state i) ∷ g.K.Keeper.records c.args.keeper.now);
       unchanged = tt;
       err = tt;
       room =

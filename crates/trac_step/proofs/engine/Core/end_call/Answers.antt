@@ -1,4 +1,5 @@
-use Rattle.std.proofs.Common.{ℕ, List, ◌<◌, ◌++◌, length, sym, ap, subst, arith}
+use Rattle.std.proofs.Common.{ℕ, List, ◌<◌, ◌++◌, length, sym, ap, ◌∙◌, subst, arith}
+use Rattle.std.proofs.lemmas.Bool.{eqb-true}
 use Rattle.std.proofs.lemmas.List.{length-append}
 use Rattle.trac_step.specs.Layout.{Shown}
 use Rattle.trac_step.proofs.Ended.{ended, no_less_ended, none_printed, printed_within, some_active, value_limit, value_room}
@@ -23,7 +24,7 @@ put-requires g c = omega (arith, c.requires.output_room, ap (λ (m : Shown). len
 pub invariant_of-self : goal.invariant_of-self
 invariant_of-self g c = record {
   storage_is = c.self.invariant.storage_is;
-  output_limit = printed_within c.args.beginning c.args.deed c.args.made.now c.self.view_is c.requires c.end_function.ensures c.self.inside.output c.put_value.ensures c.unwrap_or-meta.ensures c.unwrap_or-trace.ensures (none_printed c.self.inside.output.items c.as_slice-printed.result.now c.zzz) c.as_slice.ensures.value c.as_slice-printed.ensures.value;
+  output_limit = printed_within c.args.beginning c.args.deed c.args.made.now c.self.view_is c.requires c.end_function.ensures c.self.inside.output c.put_value.ensures c.unwrap_or-meta.ensures c.unwrap_or-trace.ensures (none_printed c.self.inside.output.items c.as_slice-printed.result.now (eqb-true (length c.as_slice-printed.result.now) 0 (sym c.is_empty.ensures ∙ c.if-is_empty.true))) c.as_slice.ensures.value c.as_slice-printed.ensures.value;
   output_room = c.self.invariant.output_room;
   known = c.self.invariant.known;
   recent = c.self.invariant.recent;
@@ -31,8 +32,8 @@ invariant_of-self g c = record {
 
 pub returns-then-is_empty : goal.returns-then-is_empty
 returns-then-is_empty g c = record {
-  state = ended c.args.beginning c.args.deed c.args.made.now c.self.view_is c.requires c.end_function.ensures c.self.inside.output c.put_value.ensures c.unwrap_or-meta.ensures c.unwrap_or-trace.ensures (none_printed c.self.inside.output.items c.as_slice-printed.result.now c.zzz) c.as_slice.ensures.value c.as_slice-printed.ensures.value;
-  room = no_less_ended c.args.beginning c.args.deed c.args.made.now c.self.view_is c.requires c.end_function.ensures c.self.inside.output c.put_value.ensures c.unwrap_or-meta.ensures c.unwrap_or-trace.ensures (none_printed c.self.inside.output.items c.as_slice-printed.result.now c.zzz) c.as_slice.ensures.value c.as_slice-printed.ensures.value (omega arith);
+  state = ended c.args.beginning c.args.deed c.args.made.now c.self.view_is c.requires c.end_function.ensures c.self.inside.output c.put_value.ensures c.unwrap_or-meta.ensures c.unwrap_or-trace.ensures (none_printed c.self.inside.output.items c.as_slice-printed.result.now (eqb-true (length c.as_slice-printed.result.now) 0 (sym c.is_empty.ensures ∙ c.if-is_empty.true))) c.as_slice.ensures.value c.as_slice-printed.ensures.value;
+  room = no_less_ended c.args.beginning c.args.deed c.args.made.now c.self.view_is c.requires c.end_function.ensures c.self.inside.output c.put_value.ensures c.unwrap_or-meta.ensures c.unwrap_or-trace.ensures (none_printed c.self.inside.output.items c.as_slice-printed.result.now (eqb-true (length c.as_slice-printed.result.now) 0 (sym c.is_empty.ensures ∙ c.if-is_empty.true))) c.as_slice.ensures.value c.as_slice-printed.ensures.value (omega arith);
 }
 
 pub invariant_of-self-2 : goal.invariant_of-self-2
