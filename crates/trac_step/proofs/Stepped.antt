@@ -91,7 +91,7 @@ module _ (e : Environment) (m : Shown) (old : List Record) (places : ℕ) (rule 
 
   -- memory is refused, and nothing has changed
   pub refused_memory : {R : Type 0} (r : Result R Refusal) (n : Shown) (new : List Record) → r ≡ Err Memory → n ≡ m → new ≡ old → (1 ≤ places → LacksRoomAhead m) → IsStepped e r m n old new places
-  refused_memory r n new is same records lacks = subst (λ r. IsStepped e r m n old new places) (sym is) (subst (λ (k : Shown). IsStepped e (Err Memory) m k old new places) (sym same) (record {
+  refused_memory {R} r n new is same records lacks = subst (λ r. IsStepped {R = R} e r m n old new places) (sym is) (subst (λ (k : Shown). IsStepped {R = R} e (Err Memory) m k old new places) (sym same) (record {
     taken = tt;
     kept = tt;
     refused = refuses_memory _ Memory refl (move_lacks e m.state moves);
@@ -129,7 +129,7 @@ module _ (e : Environment) (m : Shown) (old : List Record) (places : ℕ) (rule 
           marks texts.texts.frames ≡ marks m.state.frames → texts.mark_room ≡ m.mark_room → n ≡ m → new ≡ old → IsStepped e r m n old new places
       refused_mark {R} r n new said texts is may count room same records =
           let why = err_from_is_err_and r is in
-          subst (λ r. IsStepped e r m n old new places) (sym (why.1 ∙ ap Err why.2)) (by_refusal said may)
+          subst (λ r. IsStepped {R = R} e r m n old new places) (sym (why.1 ∙ ap Err why.2)) (by_refusal said may)
         where
           by_refusal : (said : Refusal) → MayRefuseMark texts said → IsStepped {R = R} e (Err said) m n old new places
           by_refusal TooLong full =
