@@ -1,4 +1,8 @@
-use Rattle.std.proofs.Common.{◌≡◌, ℕ, true, false, ap, length, subst, sym, arith}
+use Rattle.std.proofs.Common.{◌≡◌, ℕ, true, false, ap, length, subst, sym, ◌∙◌, arith}
+use Rattle.std.specs.Prelude.{is_some}
+use Rattle.std.specs.Cmp.Lexicographic.{slice_cmp}
+use Rattle.std.specs.Ordering.{nat_cmp}
+use Rattle.std.specs.FinMap as finite
 use Rattle.trac_gap.specs.Window.{Window}
 use Rattle.trac_rules.specs.Proper.{IsProperStorage}
 use Rattle.trac_rules.proofs.ProperStates.{initial_proper}
@@ -7,7 +11,7 @@ use Rattle.trac_step.proofs.engine.Core.new.Goals as goal
 
 -- there is no form
 knows_none : KnowsAll nothing_stored.known nothing_stored.forms
-knows_none name h = absurd (let unset : false ≡ true = h in cc)
+knows_none name h = absurd (let unset : false ≡ true = ap is_some (sym (finite.get-empty (slice_cmp nat_cmp) name)) ∙ h in cc)
 
 pub invariant_of-result : goal.invariant_of-result
 invariant_of-result g c = record {
