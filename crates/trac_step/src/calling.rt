@@ -155,7 +155,7 @@ impl<E: TwoEnds<u8, A>, M: TwoEnds<Mark, A>, A: Allocator + Copy> Core<E, M, A> 
         let called = Called {
             kind: beginning.kind,
             value: made.value.len(),
-            scanned: deed.forced | (beginning.kind == Kind::Active),
+            scanned: deed.forced | matches!(beginning.kind, Kind::Active),
             printed: made.print.len(),
             read: deed.read,
             meta: deed.meta.and(Some(self.meta)),

@@ -36,7 +36,8 @@ impl<E: TwoEnds<u8, A>, M: TwoEnds<Mark, A>, A: Allocator + Copy> Texts<E, M, A>
     {
         self.text.cut_right(1);
         self.text.cut_left(self.text.left().len() - beginning.place);
-        self.marks.cut_left(self.marks.left().len() - beginning.number);
+        self.marks
+            .cut_left(self.marks.left().len() - beginning.number);
         self.functions -= 1;
     }
 

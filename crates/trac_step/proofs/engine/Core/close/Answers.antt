@@ -55,7 +55,7 @@ change_into-requires-clause-fits g c =
     c.requires.inside planned.taken planned.recorded in
     fits_as _ _ _ _ _ _
     (said_as s b.kind deed c.planned.new.made _ refl (c.len.ensures ∙ c.planned.new.made.value.ok.0) (scanned_so b.kind deed.forced c.eq.result c.eq.ensures) (c.len-2.ensures ∙ c.planned.new.made.print.ok.0) refl
-        (c.and.ensures ∙ old_if_set _ deed.meta ∙ ap (λ (m : Shown). option_map (λ _. m.state.meta) deed.meta) c.self.view_is) (ap (λ (m : Shown). m.state.trace) c.self.view_is))
+    (c.and.ensures ∙ old_if_set _ deed.meta ∙ ap (λ (m : Shown). option_map (λ _. m.state.meta) deed.meta) c.self.view_is) (ap (λ (m : Shown). m.state.trace) c.self.view_is))
     (ap (λ (t : State). arguments_in (scan t)) c.make_room.ensures.state) (ap (λ (t : State). undone_after c.planned.new.change t) c.make_room.ensures.state) fits
 
 pub end_call-requires : goal.end_call-requires
@@ -88,7 +88,7 @@ returns g c =
           c.end_call.ensures.state
           ∙ ended_then s c.make_room.new.self c.change_into.new.self b deed made change planned.ready c.make_room.ensures.state c.in_ok-change_into.ensures.done;
       added = c.in_ok-change_into.ensures.added ∙ (λ i. recorded_after ((said_as s b.kind deed made _ refl (c.len.ensures ∙ made.value.ok.0) (scanned_so b.kind deed.forced c.eq.result c.eq.ensures) (c.len-2.ensures ∙ made.print.ok.0) refl
-    (c.and.ensures ∙ old_if_set _ deed.meta ∙ ap (λ (m : Shown). option_map (λ _. m.state.meta) deed.meta) c.self.view_is) (ap (λ (m : Shown). m.state.trace) c.self.view_is)) i) change (c.make_room.ensures.state i) ∷ g.K.Keeper.records c.args.keeper.now);
+          (c.and.ensures ∙ old_if_set _ deed.meta ∙ ap (λ (m : Shown). option_map (λ _. m.state.meta) deed.meta) c.self.view_is) (ap (λ (m : Shown). m.state.trace) c.self.view_is)) i) change (c.make_room.ensures.state i) ∷ g.K.Keeper.records c.args.keeper.now);
       unchanged = tt;
       err = tt;
       room =
