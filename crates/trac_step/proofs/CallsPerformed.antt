@@ -3,8 +3,6 @@ use Rattle.std.proofs.Common.{◌≡◌, Bool, true, false, ℕ, ◌+◌, ◌<�
 use Rattle.std.proofs.lemmas.Result.{err_from_is_err_and}
 use Rattle.std.specs.Option.{option_and}
 use Rattle.std.specs.Prelude.{◌||◌, Err, None, Ok, Option, Result, Some, option_map}
-use denote.Enum.Bare.{sameb}
-use Rattle.trac_rules.specs.contracts.kind.Kind.{the_type}
 use Rattle.trac_rules.specs.declared.kind.Kind.TheVariants.{Active, Neutral}
 use Rattle.std.specs.Result.{IsErrAnd}
 use Rattle.trac_rules.specs.declared.kind.Kind.{Kind}
@@ -72,12 +70,21 @@ said_as s kind deed made called kind_is value_is scanned_is printed_is read_is m
   trace = trace_is i;
 }
 
--- the value of an active function is scanned, and that of a neutral one if it is forced
-pub scanned_so : (kind : Kind) (forced same : Bool) → same ≡ sameb the_type kind Active → (forced || same) ≡ is_scanned kind forced
-scanned_so Active true same is = refl
-scanned_so Active false same is = is
-scanned_so Neutral true same is = refl
-scanned_so Neutral false same is = is
+or_true : (b : Bool) → (b || true) ≡ true
+or_true true = refl
+or_true false = refl
+
+or_false : (b : Bool) → (b || false) ≡ b
+or_false true = refl
+or_false false = refl
+
+-- the value of an active function is scanned
+pub active_scanned : (kind : Kind) (forced is_active : Bool) → kind ≡ Active → is_active ≡ true → (forced || is_active) ≡ is_scanned kind forced
+active_scanned kind forced is_active active is = ap (λ b. forced || b) is ∙ or_true forced ∙ sym (ap (λ k. is_scanned k forced) active)
+
+-- and that of a neutral one if it is forced
+pub neutral_scanned : (kind : Kind) (forced is_active : Bool) → kind ≡ Neutral → is_active ≡ false → (forced || is_active) ≡ is_scanned kind forced
+neutral_scanned kind forced is_active neutral is = ap (λ b. forced || b) is ∙ or_false forced ∙ sym (ap (λ k. is_scanned k forced) neutral)
 
 -- the old meta character, if one is set
 pub old_if_set : (old : ℕ) (set : Option ℕ) → option_and set (Some old) ≡ option_map (λ _. old) set

@@ -1,4 +1,4 @@
-use Rattle.std.proofs.Common.{◌≡◌, ◌∷◌, refl, sym, ap, ◌∙◌, subst}
+use Rattle.std.proofs.Common.{◌∷◌, refl, sym, ap, ◌∙◌, subst}
 use Rattle.std.proofs.lemmas.Result.{err_from_is_err_and}
 use Rattle.std.specs.Prelude.{option_map}
 use Rattle.trac_rules.specs.Outcomes.{MayRefuse}
@@ -10,11 +10,12 @@ use Rattle.trac_prims.specs.Tape.{environment_of}
 use Rattle.trac_step.specs.Calling.{arguments_in, called_with, state_after}
 use Rattle.trac_step.specs.Layout.{Shown}
 use Rattle.trac_step.specs.Ready.{recorded_after, undone_after}
-use Rattle.trac_step.proofs.CallsPerformed.{can_change, can_end, ended_then, fits_as, not_kept, old_if_set, said_as, scanned_so, stepped_call}
+use Rattle.trac_step.proofs.CallsPerformed.{can_change, can_end, ended_then, fits_as, not_kept, old_if_set, said_as, active_scanned, neutral_scanned, stepped_call}
 use Rattle.trac_step.proofs.Fitting.{call_fits}
 use Rattle.trac_step.proofs.Recorded.{call_lacks_nothing}
 use Rattle.trac_step.proofs.Rooms.{no_less, no_less_then}
 use Rattle.trac_step.proofs.engine.Core.close.Goals as goal
+use Rattle.trac_step.proofs.engine.Core.close.Goals.{in-Active, in_default}
 
 pub returns-in_err-beginning : goal.returns-in_err-beginning
 returns-in_err-beginning g c =
@@ -54,7 +55,7 @@ change_into-requires-clause-fits g c =
     let fits = call_fits e s (state_after deed c.planned.new.made c.planned.new.change (scan s)) (called_with s b.kind deed c.planned.new.made) (undone_after c.planned.new.change s) c.requires.can.proper planned.ready.proper c.requires.front
     c.requires.inside planned.taken planned.recorded in
     fits_as _ _ _ _ _ _
-    (said_as s b.kind deed c.planned.new.made _ refl (c.len.ensures ∙ c.planned.new.made.value.ok.0) (scanned_so b.kind deed.forced c.eq.result c.eq.ensures) (c.len-2.ensures ∙ c.planned.new.made.print.ok.0) refl
+    (said_as s b.kind deed c.planned.new.made _ refl (c.len.ensures ∙ c.planned.new.made.value.ok.0) (elim c.match-matches.branch [ in-Active w ↦ active_scanned b.kind deed.forced c.match-matches.matches w.in-Active.is w.matches-is | in_default w ↦ neutral_scanned b.kind deed.forced c.match-matches.matches w.in_default.is w.matches-is ]) (c.len-2.ensures ∙ c.planned.new.made.print.ok.0) refl
     (c.and.ensures ∙ old_if_set _ deed.meta ∙ ap (λ (m : Shown). option_map (λ _. m.state.meta) deed.meta) c.self.view_is) (ap (λ (m : Shown). m.state.trace) c.self.view_is))
     (ap (λ (t : State). arguments_in (scan t)) c.make_room.ensures.state) (ap (λ (t : State). undone_after c.planned.new.change t) c.make_room.ensures.state) fits
 
@@ -87,7 +88,7 @@ returns g c =
       done =
           c.end_call.ensures.state
           ∙ ended_then s c.make_room.new.self c.change_into.new.self b deed made change planned.ready c.make_room.ensures.state c.in_ok-change_into.ensures.done;
-      added = c.in_ok-change_into.ensures.added ∙ (λ i. recorded_after ((said_as s b.kind deed made _ refl (c.len.ensures ∙ made.value.ok.0) (scanned_so b.kind deed.forced c.eq.result c.eq.ensures) (c.len-2.ensures ∙ made.print.ok.0) refl
+      added = c.in_ok-change_into.ensures.added ∙ (λ i. recorded_after ((said_as s b.kind deed made _ refl (c.len.ensures ∙ made.value.ok.0) (elim c.match-matches.branch [ in-Active w ↦ active_scanned b.kind deed.forced c.match-matches.matches w.in-Active.is w.matches-is | in_default w ↦ neutral_scanned b.kind deed.forced c.match-matches.matches w.in_default.is w.matches-is ]) (c.len-2.ensures ∙ made.print.ok.0) refl
           (c.and.ensures ∙ old_if_set _ deed.meta ∙ ap (λ (m : Shown). option_map (λ _. m.state.meta) deed.meta) c.self.view_is) (ap (λ (m : Shown). m.state.trace) c.self.view_is)) i) change (c.make_room.ensures.state i) ∷ g.K.Keeper.records c.args.keeper.now);
       unchanged = tt;
       err = tt;

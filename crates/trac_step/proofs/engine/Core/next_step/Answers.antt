@@ -1,5 +1,5 @@
 -- Each rule is carried out as its arm says, and its record is added; or it is refused, and nothing but rooms changes.
-use Rattle.std.proofs.Common.{◌≡◌, ◌≤◌, ℕ, List, ◌∷◌, ap, refl, length, drop, get_or, sym, ◌∙◌, arith, is_some}
+use Rattle.std.proofs.Common.{List, ◌∷◌, ap, refl, length, drop, get_or, sym, ◌∙◌, arith, is_some}
 use Rattle.trac_rules.specs.Limits.{marks}
 use Rattle.trac_rules.specs.Matching.{match_of, protected}
 use Rattle.trac_rules.specs.Records.{Begun, Comma, Deleted, Moved, Quoted, Record, texts_in}
