@@ -1,5 +1,6 @@
 pub mod InRun
 pub mod Kept
+pub mod RunAnew
 pub mod Searched
 pub mod SearchedAnew
 pub mod SearchedOn

@@ -236,8 +236,7 @@ fn last_manner<A: Allocator + Copy>(
         Some(_) => Err(AllocError),
         None => followed_manner(walker, giver, from),
     };
-    let here = walker.step();
-    let _ = walker.back(here.saturating_sub(end));
+    let _ = walker.go_to(end);
     manner
 }
 

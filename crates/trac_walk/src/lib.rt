@@ -2,6 +2,7 @@
 //! it comes from.
 #![tactic(auto)]
 
+mod afar;
 mod calls_told;
 mod carrying_out;
 mod following;
