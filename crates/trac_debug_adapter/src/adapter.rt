@@ -351,10 +351,17 @@ impl<'p, P: Programs<A>, A: Allocator + Copy> Adapter<'p, P, A> {
             self.run = Some(debuggee.run(way, &self.breakpoints)?);
             return Ok(());
         }
-        match debuggee.go(asked) {
-            Some(halt) => self.stop(debuggee, halt, outbox),
-            None => Ok(()),
+        let start = debuggee.walker.step();
+        let Some(halt) = debuggee.go(asked) else {
+            return Ok(());
+        };
+        if matches!(asked, Move::Over | Move::Out) {
+            self.run = debuggee.run_again(start, halt, &self.breakpoints)?;
         }
+        if self.run.is_some() {
+            return Ok(());
+        }
+        self.stop(debuggee, halt, outbox)
     }
 
     // Responds to what a person asks for at the console, or to one who points at a name. The program is elsewhere then
