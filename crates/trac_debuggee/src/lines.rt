@@ -5,16 +5,27 @@ use std::alloc::Allocator;
 use trac_breakpoints::File;
 use trac_documents::{Encoding, Position, offset_of, position_of};
 
-/// The bytes of all input that stand in a line of a file: how many stand before them, and with them.
+/// The bytes of all input that stand in a line of a file.
 #[derive(Clone, Copy, Debug, PartialEq, Eq)]
 pub(crate) struct FileLine {
+    // how many stand before them, and with them
     from: usize,
     to: usize,
+    // how many bytes further they stand once more, if the program reads itself; else 0
+    again: usize,
 }
 
 impl FileLine {
     /// Whether the byte of this number is one of them.
     pub(crate) fn has(self, number: u64) -> bool {
+        let is_again = match number.checked_sub(self.again as u64) {
+            Some(number) => self.has_once(number),
+            None => false,
+        };
+        is_again || self.has_once(number)
+    }
+
+    fn has_once(self, number: u64) -> bool {
         self.from as u64 <= number && number < self.to as u64
     }
 
@@ -30,8 +41,9 @@ impl<A: Allocator + Copy> Debuggee<A> {
     /// file is neither the program nor its input.
     pub(crate) fn line(&self, path: &str, line: u64) -> FileLine {
         let Some((before, text)) = self.text_of(path) else {
-            return FileLine { from: 0, to: 0 };
+            return FileLine { from: 0, to: 0, again: 0 };
         };
+        let is_both = before == 0 && self.is_input(path);
         let start = Position { line, character: 0 };
         let next = Position {
             line: line.saturating_add(1),
@@ -40,6 +52,7 @@ impl<A: Allocator + Copy> Debuggee<A> {
         FileLine {
             from: before.saturating_add(offset_of(text, Encoding::Utf8, start)),
             to: before.saturating_add(offset_of(text, Encoding::Utf8, next)),
+            again: if is_both { self.program().len() } else { 0 },
         }
     }
 
@@ -59,10 +72,14 @@ impl<A: Allocator + Copy> Debuggee<A> {
         if self.launch.program.as_str() == path {
             return Some((0, program));
         }
-        let is_input = match &self.launch.input {
+        self.is_input(path)
+            .then_some((program.len(), self.input()))
+    }
+
+    fn is_input(&self, path: &str) -> bool {
+        match &self.launch.input {
             Some(input) => input.as_str() == path,
             None => false,
-        };
-        is_input.then_some((program.len(), self.input()))
+        }
     }
 }
