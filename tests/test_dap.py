@@ -60,6 +60,11 @@ STRANGE: tuple[tuple[str, dict[str, Any]], ...] = (
     ("evaluate", {"expression": "x" * 70000, "context": "repl"}), ("launch", {"program": "/"}),
     ("restart", {"arguments": {"program": "\0"}}), ("restart", {}), ("next", {"granularity": 7}), ("terminate", {}),
 )
+# Breakpoints of each kind, of which there are many.
+MANY: tuple[tuple[str, dict[str, Any]], ...] = (
+    ("setBreakpoints", {"line": 1}), ("setFunctionBreakpoints", {"name": "ps"}),
+    ("setDataBreakpoints", {"dataId": "form a"}),
+)
 # Moves, and how far commands of the console go; programs that are moved through.
 RULE = {"granularity": "instruction"}
 MOVES: tuple[tuple[str, dict[str, Any]], ...] = (
@@ -150,6 +155,27 @@ class Stored(Case):
         self.same("the responses", str(numbers), str(list(range(1, len(asked.messages) + 1))))
         self.same("the numbers", str([it["seq"] for it in told]), str(list(range(1, len(told) + 1))))
         self.status("strange requests", run, 0)
+
+    def test_many(self) -> None:
+        """Of many frames 1,000 are told at once, and of many breakpoints of a kind 10,000 are set."""
+        deep, program = 1100, scratch(self) / "deep.trac"
+        program.write_bytes(b"#(ps," * deep + b")" * deep + b"'")
+        asked = Asked()
+        asked.ask("initialize")
+        asked.ask("launch", program=str(program), stopOnEntry=True)
+        asked.ask("configurationDone")
+        asked.ask("evaluate", expression="u ps", context="repl")
+        frames = [asked.ask("stackTrace", startFrame=first, levels=GREAT) for first in (0, 1000)]
+        kinds = [asked.ask(command, source={"path": str(program)}, breakpoints=[wanted] * 10001)
+                 for command, wanted in MANY]
+        asked.ask("disconnect")
+        replies = asked.replies()
+        told = [(len(replies[it]["stackFrames"]), replies[it]["totalFrames"]) for it in frames]
+        self.same("the frames", str(told), str([(1000, deep + 1), (deep + 1 - 1000, deep + 1)]))
+        for (command, _), kind in zip(MANY, kinds):
+            are_set = [it["verified"] for it in replies[kind]["breakpoints"]]
+            self.same(command, str(are_set), str([True] * 10000 + [False]))
+            self.same(command, replies[kind]["breakpoints"][-1]["message"], "there are 10000 breakpoints already")
 
     def test_document(self) -> None:
         """What share/editors/README.md shows of one step back, and the command of the console there."""

@@ -41,6 +41,17 @@ pub struct DataBreak<A: Allocator + Copy> {
     pub when: When<A>,
 }
 
+/// What is known of a file in whose lines a program is to stop.
+#[derive(Clone, Copy, Debug, PartialEq, Eq)]
+pub enum File {
+    /// Nothing: no program is launched.
+    Unknown,
+    /// It is neither the program nor its input, by its path.
+    Other,
+    /// It is one of them, and has so many lines.
+    Lines(u64),
+}
+
 /// All places where a program is to stop.
 #[derive(Drop)]
 pub struct Breakpoints<A: Allocator + Copy> {
@@ -65,6 +76,16 @@ const FORM: &str = "form ";
 
 // And before the number of a byte of the output.
 const BYTE: &str = "byte ";
+
+// So many breakpoints of each kind are set at most.
+const COUNT_LIMIT: usize = 10_000;
+
+// What is said of those beyond.
+const TOO_MANY: &str = "there are 10000 breakpoints already";
+
+// What is said of a breakpoint in a file that the program has nothing to do with.
+const OTHER_FILE: &str =
+    "this file is neither the program nor its input; paths are compared as text";
 
 impl<A: Allocator + Copy> Breakpoints<A> {
     /// None. It takes no memory.
@@ -107,23 +128,25 @@ impl<A: Allocator + Copy> Breakpoints<A> {
     }
 
     /// Sets those of the lines of a file, if the first line has this number, in place of those that were set there. The
-    /// body of the response says what became of each.
-    pub fn set_lines(&mut self, request: Request<'_>, first: u64) -> Result<Value, AllocError> {
+    /// body of the response says what became of each. One that cannot stop in this file as it is stays, and may stop
+    /// after a restart.
+    pub fn set_lines(
+        &mut self,
+        request: Request<'_>,
+        first: u64,
+        file: File,
+    ) -> Result<Value, AllocError> {
         let path = request.text("/source/path").unwrap_or("");
         self.lines.retain(|line| line.path.as_str() != path);
         let mut set = Vec::new(self.global);
         for wanted in request.list("/breakpoints") {
-            let line = number_at(wanted, "/line").unwrap_or(first);
+            let number = number_at(wanted, "/line").unwrap_or(first);
+            let line = number.saturating_sub(first);
             let id = self.number()?;
-            match when_of(self.alloc, wanted)? {
-                Ok(when) => {
-                    self.lines.push(LineBreak {
-                        id,
-                        path: String::from_str(self.global, path)?,
-                        line: line.saturating_sub(first),
-                        when,
-                    })?;
-                    set.push(json!(in self.global; {"id": id, "verified": true, "line": line})?)?;
+            match self.line_of(id, path, line, wanted)? {
+                Ok(found) => {
+                    self.lines.push(found)?;
+                    set.push(self.set_in(file, id, line, number)?)?;
                 }
                 Err(why) => set.push(self.unset(id, why)?)?,
             }
@@ -177,12 +200,52 @@ impl<A: Allocator + Copy> Breakpoints<A> {
         json!(in self.global; {"breakpoints": []})
     }
 
-    // The breakpoint of a call that the editor asks for, or why it is not understood.
+    // The breakpoint of a line that the editor asks for, or why it is not understood, or one too many; so below.
+    fn line_of(
+        &self,
+        id: u64,
+        path: &str,
+        line: u64,
+        wanted: &Value,
+    ) -> Result<Result<LineBreak<A>, &'static str>, AllocError> {
+        if self.lines.len() >= COUNT_LIMIT {
+            return Ok(Err(TOO_MANY));
+        }
+        let when = match when_of(self.alloc, wanted)? {
+            Ok(when) => when,
+            Err(why) => return Ok(Err(why)),
+        };
+        let path = String::from_str(self.global, path)?;
+        Ok(Ok(LineBreak {
+            id,
+            path,
+            line,
+            when,
+        }))
+    }
+
+    // What became of a breakpoint that is set in such a file, in this line, to which the editor gives that number.
+    fn set_in(&self, file: File, id: u64, line: u64, number: u64) -> Result<Value, AllocError> {
+        match file {
+            File::Other => self.unset(id, OTHER_FILE),
+            File::Lines(count) if line >= count => {
+                let lines = if count == 1 { "line" } else { "lines" };
+                let why = format!(in self.global; "the file has only {count} {lines}")?;
+                self.unset(id, why.as_str())
+            }
+            _ => json!(in self.global; {"id": id, "verified": true, "line": number}),
+        }
+    }
+
+    // The breakpoint of a call.
     fn call_of(
         &self,
         id: u64,
         wanted: &Value,
     ) -> Result<Result<CallBreak<A>, &'static str>, AllocError> {
+        if self.calls.len() >= COUNT_LIMIT {
+            return Ok(Err(TOO_MANY));
+        }
         let name = text_at(wanted, "/name").unwrap_or("");
         let words = match words_of(self.alloc, name.as_bytes())? {
             Some(words) if !words.is_empty() => words,
@@ -200,6 +263,9 @@ impl<A: Allocator + Copy> Breakpoints<A> {
         id: u64,
         wanted: &Value,
     ) -> Result<Result<DataBreak<A>, &'static str>, AllocError> {
+        if self.watches.len() >= COUNT_LIMIT {
+            return Ok(Err(TOO_MANY));
+        }
         let Some(watched) = watched_by(self.global, text_at(wanted, "/dataId").unwrap_or(""))?
         else {
             return Ok(Err("there is no such thing to watch"));
@@ -215,7 +281,7 @@ impl<A: Allocator + Copy> Breakpoints<A> {
         Ok(Ok(DataBreak { id, watched, when }))
     }
 
-    // What became of a breakpoint that is not set.
+    // What became of a breakpoint that is not set, or cannot stop.
     fn unset(&self, id: u64, why: &str) -> Result<Value, AllocError> {
         json!(in self.global; {"id": id, "verified": false, "message": why})
     }

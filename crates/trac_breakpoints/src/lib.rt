@@ -5,6 +5,8 @@ mod breakpoints;
 mod conditions;
 mod messages;
 
-pub use breakpoints::{Breakpoints, CallBreak, DataBreak, FORMS, LineBreak, Watched, watchable};
+pub use breakpoints::{
+    Breakpoints, CallBreak, DataBreak, FORMS, File, LineBreak, Watched, watchable,
+};
 pub use conditions::{Condition, Hits, When};
 pub use messages::{Request, number_at, text_at};

@@ -1,15 +1,16 @@
 //! The adapter: what it knows, and what it responds to each request.
 
 use crate::evaluating::{form_named, obey};
-use crate::launching::{launch_of, launched};
+use crate::launching::{launch_of, launched, refusal};
 use crate::programs::Programs;
 use serde_json::{Value, json};
 use std::alloc::{AllocError, Allocator, Global};
-use trac_breakpoints::{Breakpoints, Request, number_at, text_at, watchable};
+use trac_breakpoints::{Breakpoints, File, Request, number_at, text_at, watchable};
 use trac_debug_messages::{
     Outbox, Progress, THREAD, exception_of, scopes, stack, tell_output, tell_stop, variables,
 };
 use trac_debuggee::{Debuggee, Halt, Launch, Move, Run, Way, move_of};
+use trac_streams::Ending;
 
 // What is said where nothing can be changed.
 const NO_CHANGE: &str =
@@ -124,6 +125,7 @@ impl<'p, P: Programs<A>, A: Allocator + Copy> Adapter<'p, P, A> {
     // Responds to a request.
     fn answer(&mut self, request: Request<'_>, outbox: &mut Outbox) -> Result<(), AllocError> {
         match request.command.as_bytes() {
+            b"initialize" if self.is_begun => outbox.refuse(request, "initialize came already"),
             b"initialize" => self.begin(request, outbox),
             _ if !self.is_begun => outbox.refuse(request, "initialize has to come first"),
             b"launch" => self.launch(request, outbox),
@@ -184,10 +186,11 @@ impl<'p, P: Programs<A>, A: Allocator + Copy> Adapter<'p, P, A> {
         if let Some(arguments) = request.arguments.get("arguments") {
             return self.start(request, arguments, outbox);
         }
-        let Some(debuggee) = self.debuggee.take() else {
-            return outbox.refuse(request, "no program is launched");
+        let launch = match &self.debuggee {
+            Some(debuggee) => debuggee.launch.copy()?,
+            None => return outbox.refuse(request, "no program is launched"),
         };
-        self.start_as(request, debuggee.into_launch(), outbox)
+        self.start_as(request, &launch, outbox)
     }
 
     // Launches the program that these arguments ask for.
@@ -198,27 +201,36 @@ impl<'p, P: Programs<A>, A: Allocator + Copy> Adapter<'p, P, A> {
         outbox: &mut Outbox,
     ) -> Result<(), AllocError> {
         match launch_of(self.global, arguments)? {
-            Ok(launch) => self.start_as(request, launch, outbox),
+            Ok(launch) => self.start_as(request, &launch, outbox),
             Err(why) => outbox.refuse(request, why),
         }
     }
 
-    // The same of a launch. If there is no program, there is none any longer.
+    // The same of a launch. The program that stands goes once the other one is had, or where there is no memory for both.
     fn start_as(
         &mut self,
         request: Request<'_>,
-        launch: Launch,
+        launch: &Launch,
         outbox: &mut Outbox,
     ) -> Result<(), AllocError> {
-        self.debuggee = None;
-        match launched(self.alloc, self.global, self.programs, launch)? {
+        let made = match launched(self.alloc, self.programs, launch) {
+            Err((_, Ending::Memory)) => {
+                self.debuggee = None;
+                launched(self.alloc, self.programs, launch)
+            }
+            made => made,
+        };
+        match made {
             Ok(debuggee) => {
                 self.debuggee = Some(debuggee);
                 self.breakpoints.forget_hits();
                 outbox.respond(request, json!(in self.global; {})?)?;
                 self.enter(outbox)
             }
-            Err(why) => outbox.refuse(request, why.as_str()),
+            Err((path, ending)) => {
+                let why = refusal(self.global, path, ending)?;
+                outbox.refuse(request, why.as_str())
+            }
         }
     }
 
@@ -268,7 +280,10 @@ impl<'p, P: Programs<A>, A: Allocator + Copy> Adapter<'p, P, A> {
     // Responds to a request that sets breakpoints.
     fn set(&mut self, request: Request<'_>, outbox: &mut Outbox) -> Result<(), AllocError> {
         let body = match request.command.as_bytes() {
-            b"setBreakpoints" => self.breakpoints.set_lines(request, self.firsts.0)?,
+            b"setBreakpoints" => {
+                let file = self.file(request);
+                self.breakpoints.set_lines(request, self.firsts.0, file)?
+            }
             b"setFunctionBreakpoints" => self.breakpoints.set_calls(request)?,
             b"setDataBreakpoints" => self.breakpoints.set_watches(request)?,
             b"setExceptionBreakpoints" => self.breakpoints.set_exceptions(request)?,
@@ -276,6 +291,14 @@ impl<'p, P: Programs<A>, A: Allocator + Copy> Adapter<'p, P, A> {
             _ => return self.show(request, outbox),
         };
         outbox.respond(request, body)
+    }
+
+    // What is known of the file in which a request sets breakpoints.
+    fn file(&self, request: Request<'_>) -> File {
+        match &self.debuggee {
+            Some(debuggee) => debuggee.file(request.text("/source/path").unwrap_or("")),
+            None => File::Unknown,
+        }
     }
 
     // Responds to a request about a program that is launched.
@@ -328,10 +351,17 @@ impl<'p, P: Programs<A>, A: Allocator + Copy> Adapter<'p, P, A> {
             self.run = Some(debuggee.run(way, &self.breakpoints)?);
             return Ok(());
         }
-        match debuggee.go(asked) {
-            Some(halt) => self.stop(debuggee, halt, outbox),
-            None => Ok(()),
+        let start = debuggee.walker.step();
+        let Some(halt) = debuggee.go(asked) else {
+            return Ok(());
+        };
+        if matches!(asked, Move::Over | Move::Out) {
+            self.run = debuggee.run_again(start, halt, &self.breakpoints)?;
         }
+        if self.run.is_some() {
+            return Ok(());
+        }
+        self.stop(debuggee, halt, outbox)
     }
 
     // Responds to what a person asks for at the console, or to one who points at a name. The program is elsewhere then

@@ -23,23 +23,43 @@ pub(crate) fn obey<A: Allocator + Copy>(
     request: Request<'_>,
 ) -> Result<Value, AllocError> {
     let line = first_line(request.text("/expression").unwrap_or("").as_bytes());
-    let reply = match fed_by(debuggee, line)? {
+    let Some(words) = words_of(debuggee.alloc, line)? else {
+        let reply = walked_by(debuggee, line)?;
+        return result_of(global, without_end(reply.as_slice()));
+    };
+    let texts = texts_of(debuggee.alloc, &words)?;
+    if let Some(told) = told_to(texts.as_slice()) {
+        return result_of(global, told);
+    }
+    let reply = match fed_by(debuggee, texts.as_slice())? {
         Some(reply) => reply,
         None => walked_by(debuggee, line)?,
     };
     result_of(global, without_end(reply.as_slice()))
 }
 
-// What is replied to a line that gives the program input, or ends it; none, if this is no such line.
+// What is said of a line that needs the lines before it, which the walk that replies has not; none of any other.
+fn told_to(words: &[&[u8]]) -> Option<&'static [u8]> {
+    let Some((command, _)) = words.split_first() else {
+        return Some(b"");
+    };
+    Some(match *command {
+        b"m" => b"the console has no m: step back in the editor",
+        b"break" => b"the console has no break: set a breakpoint in the editor",
+        b"breaks" => b"the console has no breaks: the editor lists the breakpoints",
+        b"unbreak" => b"the console has no unbreak: remove the breakpoint in the editor",
+        b"delete" => b"the console has no delete: remove the breakpoint in the editor",
+        b"restart" => b"the console has no restart: restart in the editor",
+        _ => return None,
+    })
+}
+
+// What is replied to words that give the program input, or end it; none, if they do not.
 fn fed_by<A: Allocator + Copy>(
     debuggee: &mut Debuggee<A>,
-    line: &[u8],
+    words: &[&[u8]],
 ) -> Result<Option<Vec<u8, A>>, AllocError> {
-    let Some(words) = words_of(debuggee.alloc, line)? else {
-        return Ok(None);
-    };
-    let texts = texts_of(debuggee.alloc, &words)?;
-    let fed = match texts.as_slice() {
+    let fed = match words {
         [command, text] if *command == b"i".as_slice() => feed(debuggee, *text),
         [command] if *command == b"i".as_slice() => feed(debuggee, b""),
         [command] if *command == b"e".as_slice() => end_input(debuggee),

@@ -10,6 +10,9 @@ use trac_person_lines::begun_line;
 // So many frames are told at most where the editor asks for all.
 const FRAME_COUNT: u64 = 100;
 
+// And so many where it asks for more.
+const FRAME_LIMIT: u64 = 1000;
+
 // What the line of a begun call has before the call.
 const LABEL: usize = 8;
 
@@ -29,7 +32,7 @@ pub fn stack<A: Allocator + Copy>(
     }
     let from = request.number("/startFrame").unwrap_or(0);
     let levels = match request.number("/levels") {
-        Some(levels) if levels > 0 => levels,
+        Some(levels) if levels > 0 => levels.min(FRAME_LIMIT),
         _ => FRAME_COUNT,
     };
     let since = debuggee.followed;

@@ -2,20 +2,20 @@
 
 use crate::debuggee::Debuggee;
 use crate::halt::Halt;
+use crate::lines::FileLine;
 use memchr::memmem;
 use std::alloc::{AllocError, Allocator};
 use trac_breakpoints::{Breakpoints, CallBreak, Watched};
-use trac_documents::{Encoding, Position, offset_of};
 use trac_session::{Args, Form, Goal, Refusal};
 use trac_sight::performed_in;
 
-/// What is watched, as it was when a run began, and what stands in the lines of breakpoints.
+/// What is watched, as it was when a run began, and where the lines of breakpoints stand.
 #[derive(Drop)]
 pub(crate) struct Seen<A: Allocator + Copy> {
     // the form of each watch of one, in their order
     forms: Vec<Option<Form<A>>, A>,
     // the lines of breakpoints, in their order
-    lines: Vec<Vec<u8, A>, A>,
+    lines: Vec<FileLine, A>,
     /// How much was printed.
     pub(crate) printed: u64,
 }
@@ -36,8 +36,7 @@ impl<A: Allocator + Copy> Debuggee<A> {
         }
         let mut lines = Vec::new(self.alloc);
         for wanted in breakpoints.lines.iter() {
-            let line = self.line(wanted.path.as_str(), wanted.line);
-            lines.push(Vec::from_slice(self.alloc, line)?)?;
+            lines.push(self.line(wanted.path.as_str(), wanted.line))?;
         }
         Ok(Seen {
             forms,
@@ -136,21 +135,24 @@ impl<A: Allocator + Copy> Debuggee<A> {
             return None;
         }
         let depth = self.walker.glance().depth;
-        let written = self.written(depth.checked_sub(1)?);
-        self.line_at(breakpoints, written)
+        let written = self.written(depth.checked_sub(1)?)?;
+        self.line_at(breakpoints, seen, written)
     }
 
     // The breakpoint of the line where the byte of this number of all input was written, if there is one that stops.
-    fn line_at(&self, breakpoints: &mut Breakpoints<A>, written: Option<u64>) -> Option<u64> {
-        let spot = self.spot(written)?;
+    fn line_at(
+        &self,
+        breakpoints: &mut Breakpoints<A>,
+        seen: &Seen<A>,
+        written: u64,
+    ) -> Option<u64> {
         let sight = self.walker.sight();
         let mut met = None;
-        for place in 0..breakpoints.lines.len() {
+        for (place, line) in seen.lines.iter().enumerate() {
             let Some(wanted) = breakpoints.lines.get(place) else {
                 break;
             };
-            let is_there = wanted.line == spot.position.line && wanted.path.as_str() == spot.path;
-            if is_there && wanted.when.holds(&sight) {
+            if line.has(written) && wanted.when.holds(&sight) {
                 let (id, hits) = (wanted.id, wanted.when.hits);
                 if breakpoints.hit(id, hits) {
                     met = met.or(Some(id));
@@ -168,34 +170,13 @@ impl<A: Allocator + Copy> Debuggee<A> {
         };
         let name = arguments.get(0);
         for (wanted, line) in breakpoints.lines.iter().zip(seen.lines.iter()) {
-            let is_there = memmem::find(line.as_slice(), name).is_some();
+            let text = line.text(self.tape.as_slice());
+            let is_there = !text.is_empty() && memmem::find(text, name).is_some();
             if is_there && wanted.when.holds(&sight) {
                 return true;
             }
         }
         false
-    }
-
-    // A line of the program, or of its input; empty, if the path is that of neither.
-    fn line(&self, path: &str, line: u64) -> &[u8] {
-        let is_input = match &self.launch.input {
-            Some(input) => input.as_str() == path,
-            None => false,
-        };
-        let text = if self.launch.program.as_str() == path {
-            self.program()
-        } else if is_input {
-            self.input()
-        } else {
-            &[]
-        };
-        let start = offset_of(text, Encoding::Utf8, Position { line, character: 0 });
-        let next = Position {
-            line: line.saturating_add(1),
-            character: 0,
-        };
-        let end = offset_of(text, Encoding::Utf8, next).max(start);
-        text.split_at(end).0.split_at(start).1
     }
 }
 

@@ -29,6 +29,22 @@ pub struct Launch {
     pub stops_on_entry: bool,
 }
 
+impl Launch {
+    /// The same anew. The error is that memory was refused.
+    pub fn copy(&self) -> Result<Self, AllocError> {
+        let input = match &self.input {
+            Some(input) => Some(input.clone()?),
+            None => None,
+        };
+        Ok(Launch {
+            program: self.program.clone()?,
+            input,
+            width: self.width,
+            stops_on_entry: self.stops_on_entry,
+        })
+    }
+}
+
 /// A program that is debugged.
 #[derive(Drop)]
 pub struct Debuggee<A: Allocator + Copy> {
@@ -84,22 +100,6 @@ impl<A: Allocator + Copy> Debuggee<A> {
             has_ended: false,
             followed: 0,
         })
-    }
-
-    /// How it was launched.
-    pub fn into_launch(self) -> Launch {
-        let Debuggee {
-            alloc: _,
-            walker: _,
-            launch,
-            tape: _,
-            len: _,
-            told: _,
-            typed: _,
-            has_ended: _,
-            followed: _,
-        } = self;
-        launch
     }
 
     /// The program.

@@ -4,6 +4,7 @@
 mod breaking;
 mod debuggee;
 mod halt;
+mod lines;
 mod moving;
 mod running;
 mod stepping;

@@ -30,7 +30,8 @@ pub struct Run<A: Allocator + Copy> {
     /// Which way it goes.
     pub way: Way,
     seen: Seen<A>,
-    // on the way back, the last step before its start that stops as none of a call does, and why
+    // on the way back, the last step before its start that stops as none of a call does, and why; forwards, the step to
+    // which it goes at most, and why it stands there
     last: Option<(u64, Halt)>,
     // the step that came next when it began
     start: u64,
@@ -50,6 +51,27 @@ impl<A: Allocator + Copy> Debuggee<A> {
             last,
             start: self.walker.step(),
         })
+    }
+
+    /// A run from this step to here, where the program stands for this, unless breakpoints stop it before; none, if there
+    /// are none, or the walker cannot go back to that step.
+    pub fn run_again(
+        &mut self,
+        start: u64,
+        halt: Halt,
+        breakpoints: &Breakpoints<A>,
+    ) -> Result<Option<Run<A>>, AllocError> {
+        let end = self.walker.step();
+        if breakpoints.is_empty() {
+            return Ok(None);
+        }
+        if self.walker.go_to(start).is_some() {
+            let _ = self.walker.go_to(end);
+            return Ok(None);
+        }
+        let mut run = self.run(Way::On, breakpoints)?;
+        run.last = Some((end, halt));
+        Ok(Some(run))
     }
 
     /// How many steps a run took so far, with those that were gone back over.
@@ -84,9 +106,11 @@ impl<A: Allocator + Copy> Debuggee<A> {
         breakpoints: &mut Breakpoints<A>,
     ) -> Result<Option<Halt>, AllocError> {
         let here = self.walker.step();
-        let left = BUDGET.saturating_sub(here.saturating_sub(run.start));
+        let end = run.start.saturating_add(BUDGET);
+        let (end, halt) = run.last.unwrap_or((end, Halt::Spent));
+        let left = end.saturating_sub(here);
         if left == 0 {
-            return Ok(Some(Halt::Spent));
+            return Ok(Some(halt));
         }
         if breakpoints.is_empty() {
             return Ok(self.walker.forward(left).map(Halt::Refused));
