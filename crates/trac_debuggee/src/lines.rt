@@ -41,7 +41,11 @@ impl<A: Allocator + Copy> Debuggee<A> {
     /// file is neither the program nor its input.
     pub(crate) fn line(&self, path: &str, line: u64) -> FileLine {
         let Some((before, text)) = self.text_of(path) else {
-            return FileLine { from: 0, to: 0, again: 0 };
+            return FileLine {
+                from: 0,
+                to: 0,
+                again: 0,
+            };
         };
         let is_both = before == 0 && self.is_input(path);
         let start = Position { line, character: 0 };
@@ -72,8 +76,7 @@ impl<A: Allocator + Copy> Debuggee<A> {
         if self.launch.program.as_str() == path {
             return Some((0, program));
         }
-        self.is_input(path)
-            .then_some((program.len(), self.input()))
+        self.is_input(path).then_some((program.len(), self.input()))
     }
 
     fn is_input(&self, path: &str) -> bool {
