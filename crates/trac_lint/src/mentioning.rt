@@ -210,7 +210,10 @@ impl<'s, A: Allocator + Copy> Namer<'s, A> {
             cuts: Sought::new(self.made),
             uses: Sought::new(self.made),
         };
-        match self.followed.insert(Vec::from_slice(self.made, name)?, followed) {
+        match self
+            .followed
+            .insert(Vec::from_slice(self.made, name)?, followed)
+        {
             Ok(_) => Ok(true),
             Err(_) => Err(AllocError),
         }
