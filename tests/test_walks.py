@@ -308,7 +308,7 @@ class Far(Walker):
     """Steps that are kept no more: the program is run anew, and the walk stands there."""
 
     @each(sorted({*BUGS, *FOUND} - {"endless"}))
-    def test(self, name: str) -> None:
+    def test_far(self, name: str) -> None:
         """Of a walk that keeps 50 steps each reply is that of one that keeps all, but for the first step kept."""
         def replies(*options: str) -> bytes:
             run = self.walk(HERE / (name + ".trac"), lined([*FAR, *FAR]), *options)
