@@ -11,9 +11,11 @@ import { legible } from "./unseen.js";
 
 // What this tab had last, for when it is loaded anew.
 const TAB = "trac.tab";
-// A longer program is not kept, and it is kept so many milliseconds after it was typed.
+// A longer program is not kept. It is kept so many milliseconds after it was typed; where that goes on without a pause,
+// so many after the first sign that is not kept.
 const MOST_DRAFT = 1 << 20;
 const DRAFT_TIME = 250;
+const LATEST_TIME = 1000;
 
 /**
  * @typedef {import("./undoing.js").Held} Held
@@ -45,6 +47,8 @@ export class Draft {
     this.editor = editor;
     /** @type {ReturnType<typeof setTimeout> | 0} */
     this.later = 0;
+    // when the first sign was typed that is not kept
+    this.since = 0;
     /** @type {(words: string) => void} what says what is not kept */
     this.told = () => {};
     editor.leaving = () => this.leave();
@@ -63,8 +67,10 @@ export class Draft {
   typed() {
     if (this.editor.box.value === "") this.replace();
     Object.assign(this.editor.work, { isTyped: true, isKept: false });
+    const now = performance.now();
+    if (!this.later) this.since = now;
     clearTimeout(this.later);
-    this.later = setTimeout(() => this.keep(), DRAFT_TIME);
+    this.later = setTimeout(() => this.keep(), Math.min(DRAFT_TIME, Math.max(this.since + LATEST_TIME - now, 0)));
   }
 
   // All that stands there gives way to another text: its entry stays, if it has one, and what comes has one of its own.

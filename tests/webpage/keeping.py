@@ -249,6 +249,27 @@ def check_at_once(page: Deeds) -> None:
     check(page.script(TEXTS) == ["#(ps,two)'"], "as one program: {}".format(page.script(TEXTS)))
 
 
+def check_without_pause(page: Deeds) -> None:
+    """What is typed is kept within about a second, also if nobody ever pauses."""
+    page.type("first")
+    page.until(IS_KEPT.format("first"), "it is kept")
+    page.script("""(() => {
+      const box = document.getElementById('source'), began = performance.now();
+      const timer = setInterval(() => {
+        box.setRangeText('x', 0, 0, 'end');
+        box.dispatchEvent(new Event('input'));
+        if (performance.now() - began < 3000) return;
+        clearInterval(timer);
+        const texts = Object.keys(localStorage).filter((key) => key.startsWith('trac.work.'))
+          .map((key) => JSON.parse(localStorage[key]).text);
+        window.typedAndKept = [box.value.length, Math.max(...texts.map((text) => text.length))];
+      }, 100);
+    })()""")
+    page.until("window.typedAndKept !== undefined", "it was typed for 3 seconds")
+    typed_signs, kept_signs = page.script("window.typedAndKept")
+    check(kept_signs >= typed_signs - 15, "of {} signs {} are kept".format(typed_signs, kept_signs))
+
+
 def check_full(page: Deeds) -> None:
     """Where the browser has no room, it says so, and asks before another program is opened, or the page is left."""
     typed(page, "small")
@@ -606,7 +627,7 @@ def check_question(page: Deeds) -> None:
 
 
 TRIED = (rows(check_draft, check_opened, check_brought_back, check_many_opened, check_many_typed, check_replaced,
-              check_same_time, check_at_once, check_full, check_too_long,
+              check_same_time, check_at_once, check_without_pause, check_full, check_too_long,
               check_too_long_replaced, check_forgotten, check_saved, check_older,
               check_typed_before_a_link, check_lines_ahead, check_lines_stopped, check_raced, check_undo, check_undone,
               check_undo_elsewhere, check_not_read, check_question)
