@@ -315,12 +315,18 @@ impl<'l, L: Linter> Server<'l, L> {
         Ok(())
     }
 
-    // Changes a document once.
+    // Changes a document once. A change of a range that is none is passed over.
     fn change_once(&mut self, uri: &str, change: &Value) -> Result<(), AllocError> {
         let (Some(text), Some(new)) = (self.documents.text(uri), text_at(change, "/text")) else {
             return Ok(());
         };
-        let range = change.get("range").and_then(range_in);
+        let range = match change.get("range") {
+            None | Some(Value::Null) => None,
+            Some(range) => match range_in(range) {
+                None => return Ok(()),
+                range => range,
+            },
+        };
         let text = changed(self.alloc, text, self.encoding, range, new.as_bytes())?;
         self.documents.put(self.alloc, uri, text)
     }

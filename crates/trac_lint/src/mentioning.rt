@@ -27,6 +27,9 @@ const ARGUMENT_LIMIT: usize = 100;
 // A name is followed so often in one role at most without finding a new place for it.
 const MISSES: u32 = 16;
 
+// Over so many bytes of the file it is counted at most how often names stand there.
+const COUNT_LIMIT: usize = 100_000_000;
+
 // So many bytes of a form's text are shown, and so many of a word that is cut out.
 const TEXT_LIMIT: usize = 2_000;
 
@@ -35,7 +38,7 @@ const TEXT_LIMIT: usize = 2_000;
 struct Followed {
     name: Vec<u8>,
     role: Role,
-    // how often it stands in the file
+    // how often it stands in the file; 0 if that is not counted any more
     written: usize,
     // at how many places of the file it was found
     found: usize,
@@ -183,10 +186,16 @@ impl<'s, A: Allocator + Copy> Namer<'s, A> {
             return Ok(None);
         }
         let number = self.followed.len();
+        let tape = self.origins.sources.tape;
+        let written = if number.saturating_mul(tape.len()) < COUNT_LIMIT {
+            count_of(tape, name)
+        } else {
+            0
+        };
         self.followed.push(Followed {
             name: Vec::from_slice(self.made, name)?,
             role,
-            written: count_of(self.origins.sources.tape, name),
+            written,
             found: 0,
             misses: 0,
         })?;
