@@ -102,7 +102,8 @@ impl<'l, L: Linter> Server<'l, L> {
             return self.refuse(id, NO_REQUEST, "this is no request", sent);
         };
         match message.get("id") {
-            Some(id) if is_cancelled(later, id) => {
+            // without it no other request is answered
+            Some(id) if method != "initialize" && is_cancelled(later, id) => {
                 self.refuse(id, CANCELLED, "the request is cancelled", sent)
             }
             Some(id) => self.answer(id, method, message, sent),
@@ -153,7 +154,7 @@ impl<'l, L: Linter> Server<'l, L> {
         let marked = self.marked(message)?;
         Ok(Some(match method {
             b"textDocument/documentSymbol" => symbols_of(self.alloc, &marked)?,
-            b"textDocument/foldingRange" => folds_of(self.alloc, &marked)?,
+            b"textDocument/foldingRange" => folds_of(self.alloc, marked.text)?,
             b"textDocument/selectionRange" => self.selections(message, &marked)?,
             _ => return Ok(None),
         }))
@@ -163,7 +164,7 @@ impl<'l, L: Linter> Server<'l, L> {
     fn of_run(&mut self, method: &[u8], message: &Value) -> Result<Option<Value>, AllocError> {
         match Asked::of(method, message) {
             Some(asked) => {
-                self.learn(message);
+                self.learn(text_at(message, URI).unwrap_or(""));
                 Ok(Some(self.result_of(asked, message)?))
             }
             None => Ok(None),
@@ -183,9 +184,8 @@ impl<'l, L: Linter> Server<'l, L> {
         }
     }
 
-    // Runs the text of a request, if it is open and was not run as it is.
-    fn learn(&mut self, message: &Value) {
-        let uri = text_at(message, URI).unwrap_or("");
+    // Runs the text of this name, if it is open and was not run as it is.
+    fn learn(&mut self, uri: &str) {
         if self.documents.known(uri).is_some() {
             return;
         }
@@ -202,7 +202,7 @@ impl<'l, L: Linter> Server<'l, L> {
         message: &Value,
         sent: &mut Vec<Value>,
     ) -> Result<Turn, AllocError> {
-        self.learn(message);
+        self.learn(text_at(message, URI).unwrap_or(""));
         match self.renaming(message)? {
             Renaming::Edits(edits) => {
                 sent.push(reply(self.alloc, id, edits)?)?;
@@ -340,13 +340,19 @@ impl<'l, L: Linter> Server<'l, L> {
         Ok(Turn::GoesOn)
     }
 
-    // Says what is doubtful in a document.
-    fn publish(&self, uri: &str, sent: &mut Vec<Value>) -> Result<(), AllocError> {
-        let Some(text) = self.documents.text(uri) else {
+    // Says what is doubtful in a document, and which of its forms are never called.
+    fn publish(&mut self, uri: &str, sent: &mut Vec<Value>) -> Result<(), AllocError> {
+        self.learn(uri);
+        self.publish_known(uri, sent)
+    }
+
+    // The same of a document that was run.
+    fn publish_known(&self, uri: &str, sent: &mut Vec<Value>) -> Result<(), AllocError> {
+        let (Some(text), Some(known)) = (self.documents.text(uri), self.documents.known(uri)) else {
             return Ok(());
         };
         let marked = Marked::of(self.alloc, text, self.encoding)?;
-        let found = findings_of(self.alloc, self.linter, uri, &marked)?;
+        let found = findings_of(self.alloc, self.linter, uri, &marked, known)?;
         self.send_findings(uri, found, sent)
     }
 
