@@ -157,6 +157,21 @@ class Stored(Case):
         self.same("and no other", server.message(), b'{"id":1,"jsonrpc":"2.0","result":[]}')
         server.end()
 
+    def test_many(self) -> None:
+        """Many parentheses and many forms, which take minutes if each is compared with each."""
+        server = opened("(" * 800_000 + "\n" + ")" * 800_000)
+        found(server)
+        self.same("one line", json.dumps(server.asked("textDocument/foldingRange", {"textDocument": {"uri": FILE}}, 1)),
+                  "[]")
+        text = "".join("#(ds,f{},x)'\n".format(number) for number in range(100_000))
+        server.tell("textDocument/didChange", {"textDocument": {"uri": FILE, "version": 1},
+                                               "contentChanges": [{"text": text}]})
+        self.same("no doubt", json.dumps(found(server)), "[]")
+        hint = server.asked("textDocument/hover", {"textDocument": {"uri": FILE},
+                                                   "position": {"line": 0, "character": 5}}, 2)
+        self.same("a form", hint["contents"]["value"], "#(cl,f0)\nx\nDefined: line 1, column 6")
+        server.end()
+
 
 def units(text: str) -> int:
     """How many code units of UTF-16 a text has."""
