@@ -87,8 +87,8 @@ steps before 9961472 are forgotten; --journal keeps more
 """
 # What is typed to reach steps that are kept no more, in a walk that keeps few.
 FAR = ("s end", "g 5", "s end", "b start", "s end", "b 100", "b 100000", "s end", "g 37", "s end", "r ds", "r ds",
-       "s end", "r ds * * | none", "s end", "D", "s end", "O", "N", "s end", "b 3", "N", "l", "y", "s end", "y #",
-       "s end", "w #1", "s end", "u none", "b 20", "u none none | none")
+       "s end", "r ds * * | none", "s end", "D", "s end", "O", "N", "s end", "b 3", "N", "l", "y", "s end", "r ps",
+       "y . 1 1", "s end", "w #1", "s end", "u none", "b 20", "u none none | none")
 # Programs of which something grows without end.
 THOUSAND = b"x" * 1000
 GROWING = {
