@@ -628,9 +628,9 @@ def check_question(page: Deeds) -> None:
 
 TRIED = (rows(check_draft, check_opened, check_brought_back, check_many_opened, check_many_typed, check_replaced,
               check_same_time, check_at_once, check_without_pause, check_full, check_too_long,
-              check_too_long_replaced, check_forgotten, check_saved, check_older,
+              check_forgotten, check_saved, check_older,
               check_typed_before_a_link, check_lines_ahead, check_lines_stopped, check_raced, check_undo, check_undone,
               check_undo_elsewhere, check_not_read, check_question)
-         + rows(check_composed, where=CHROMIUM)
+         + rows(check_composed, check_too_long_replaced, where=CHROMIUM)
          + rows(check_large_files, seconds=10)
          + rows(check_two_tabs, check_early, check_not_ready, given=file_of, seconds=5))
