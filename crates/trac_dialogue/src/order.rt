@@ -25,7 +25,7 @@ const NO_SET: &[u8] =
 /// The commands, on one screen.
 pub const HELP: &[u8] = b"\
 s [N]      N steps forward, or 1         b [N]      N steps back, or 1
-s end      until it waits or ends        b start    to the first step kept
+s end      until it waits or ends        b start    to the first step
 n          over this call and its value  N          back over what gave this
 o          out of the begun call         O          back to where it began
 u CALL..   forward to a call             r CALL..   back to a call
@@ -59,7 +59,7 @@ pub enum Move<'a> {
     Back(u64),
     /// Forward until a step is refused.
     ToEnd,
-    /// Back to the first step that is kept.
+    /// Back to the first step.
     ToStart,
     /// Over the function that begins or is performed next.
     Over,
@@ -77,7 +77,7 @@ pub enum Move<'a> {
     UntilSet(&'a [u8]),
     /// Forward until a step is refused, or to one of these calls.
     ToEndOr(Calls<'a>),
-    /// Back to one of these calls, or to the first step that is kept.
+    /// Back to one of these calls, or to the first step.
     ToStartOr(Calls<'a>),
     /// Back to the call that changed the form of this name last.
     Changed(&'a [u8]),

@@ -1,6 +1,6 @@
 //! Tests of libraries beside the machine and its sessions: bytes followed back, what runs and sessions of the debugger
-//! count and print, tapes that are read, the limit on memory, the options of a command line. The library itself is
-//! empty.
+//! count and print, tapes that are read, walkers, the limit on memory, the options of a command line. The library itself
+//! is empty.
 #![tactic(auto)]
 
 #[cfg(test)]
@@ -15,5 +15,7 @@ mod new_sessions;
 mod printed;
 #[cfg(test)]
 mod tapes;
+#[cfg(test)]
+mod walkers;
 #[cfg(test)]
 mod words;

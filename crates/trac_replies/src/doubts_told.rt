@@ -52,7 +52,7 @@ fn place_into<W: Walks<A>, A: Allocator + Copy>(
 ) -> Result<(), AllocError> {
     let end = walker.step();
     let place = walker.place_doubted(doubt);
-    let found = walker.follow(alloc, place);
+    let found = walker.follow_far(alloc, place);
     let source = walker.step();
     let origin = match found {
         End::Untold | End::Memory => return Err(AllocError),

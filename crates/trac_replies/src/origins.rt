@@ -34,9 +34,29 @@ impl<W: Walks<A>, A: Allocator + Copy> Telling<'_, W, A> {
         if let Some(argument) = argument_meant(&self.walker.sight(), spot) {
             return self.argument_into(argument, true);
         }
-        match place_of(&self.walker, spot) {
+        let place = match place_of(&self.walker, spot) {
+            Err(Stop::PrintedEarlier) => self.place_earlier(spot),
+            place => place,
+        };
+        match place {
             Ok(place) => self.place_into(spot, place),
             Err(stop) => self.unfollowed_into(spot, stop),
+        }
+    }
+
+    // Where a byte stands that was printed before the first step that is kept: the walk goes back to after it was.
+    fn place_earlier<'s>(&mut self, spot: Spot<'s>) -> Result<Place<'s>, Stop> {
+        let number = match spot {
+            Spot::Printed(number) => number,
+            _ => self.walker.released(),
+        };
+        match self.walker.show_printed(number) {
+            None => of_output(printed(
+                self.walker.released(),
+                self.walker.pending(),
+                number,
+            )),
+            Some(refusal) => Err(Stop::Refused(refusal)),
         }
     }
 
@@ -127,7 +147,9 @@ impl<W: Walks<A>, A: Allocator + Copy> Telling<'_, W, A> {
             Ok(place) => place,
             Err(stop) => return self.stay(stop),
         };
-        match self.written(place)? {
+        let start = self.walker.step();
+        let end = self.walker.follow_far(self.alloc, place);
+        match self.written_from(start, end)? {
             Ok(written) => self.name_line_into(written),
             Err(stop) => self.stay(stop),
         }
@@ -176,6 +198,15 @@ impl<W: Walks<A>, A: Allocator + Copy> Telling<'_, W, A> {
     ) -> Result<Result<Written, Stop>, AllocError> {
         let start = self.walker.step();
         let end = self.walker.follow(self.alloc, place);
+        self.written_from(start, end)
+    }
+
+    // The same of one that was followed back from this step, to where its way ended so.
+    fn written_from(
+        &mut self,
+        start: u64,
+        end: End,
+    ) -> Result<Result<Written, Stop>, AllocError> {
         let source = self.walker.step();
         let is_idle = is_idle(&self.walker, end);
         if let Some(refusal) = self.walker.forward(start.saturating_sub(source)) {

@@ -59,7 +59,7 @@ impl<A: Allocator + Copy> Memo<A> {
 
     /// The step to which `m` goes, if it goes anywhere.
     pub(crate) fn recalled<W: Walks<A>>(&self, walker: &W) -> Option<u64> {
-        self.places.latest(walker.step(), walker.first_step())
+        self.places.latest(walker.step(), 0)
     }
 
     /// Forgets the steps at which moves began, since the walk begins anew.
@@ -340,7 +340,7 @@ impl<W: Walks<A>, A: Allocator + Copy> Telling<'_, W, A> {
     ) -> Result<Option<Stop>, AllocError> {
         let searched = memo.keep_line(self.alloc, line)?;
         let start = self.walker.step();
-        let stop = self.walker.carry_out(self.program.bytes(), way, searched);
+        let stop = self.walker.carry_out(way, searched);
         memo.keep_start(way, start, stop, self.walker.step())?;
         self.tell_moved(way, stop, &mut memo.told)?;
         Ok(stop)
@@ -366,13 +366,10 @@ impl<W: Walks<A>, A: Allocator + Copy> Telling<'_, W, A> {
     // Goes back to where the last move began of those that are kept, and says where it has come to.
     fn recall(&mut self, memo: &mut Memo<A>, line: &[u8]) -> Result<(), AllocError> {
         memo.keep_line(self.alloc, line)?;
-        let (step, first_step) = (self.walker.step(), self.walker.first_step());
-        match memo.places.take(step, first_step) {
+        match memo.places.take(self.walker.step(), 0) {
             None => self.say(NO_PLACE)?,
             Some(place) => {
-                let stop = self
-                    .walker
-                    .carry_out(self.program.bytes(), Move::To(place), 0);
+                let stop = self.walker.carry_out(Move::To(place), 0);
                 self.tell_stop(stop, &mut memo.told)?;
             }
         }

@@ -43,7 +43,11 @@ impl<W: Walks<A>, A: Allocator + Copy> Telling<'_, W, A> {
 
     /// Says why a move stopped.
     pub(crate) fn stop(&mut self, stop: Stop) -> Result<(), AllocError> {
-        let first_step = self.walker.first_step();
+        // These moves go back to the start of the program.
+        let first_step = match stop {
+            Stop::NotMet | Stop::NoForm => 0,
+            _ => self.walker.first_step(),
+        };
         stop_into(self.alloc, first_step, stop, &mut self.out)
     }
 

@@ -86,8 +86,12 @@ pub trait Walks<A: Allocator + Copy>: Sized + Drop {
     fn end_input(&mut self);
 
     /// Carries out a move, and says why it stopped before its goal, if it did. A search forward goes on after so many
-    /// steps on which it has met nothing. The walk is one through this program.
-    fn carry_out(&mut self, program: &[u8], way: Move<'_>, searched: u64) -> Option<Stop>;
+    /// steps on which it has met nothing.
+    fn carry_out(&mut self, way: Move<'_>, searched: u64) -> Option<Stop>;
+
+    /// Goes back to after the step that printed the byte of this number, counted from 1 from the start of the program.
+    /// That byte is then among those that are pending. What is refused is returned.
+    fn show_printed(&mut self, number: u64) -> Option<Refusal>;
 
     /// Goes forward by so many steps, until one is refused, which is returned.
     fn forward(&mut self, most: u64) -> Option<Refusal>;
@@ -101,8 +105,9 @@ pub trait Walks<A: Allocator + Copy>: Sized + Drop {
     /// Goes to this step, forward or back, until a step is refused, which is returned.
     fn go_to(&mut self, step: u64) -> Option<Refusal>;
 
-    /// Goes back to the last call of the program's own, and forward again if none is met: then `NotMet` is returned. If
-    /// a step was refused on the way forward again, it stands there, and that refusal is returned; here and below.
+    /// Goes back to the last call of the program's own, also over steps that are kept no more, and forward again if none
+    /// is met: then `NotMet` is returned. If a step was refused on the way forward again, it stands there, and that
+    /// refusal is returned; here and below.
     fn return_to_call(&mut self) -> Option<Refusal>;
 
     /// Goes back to where no more than so many bytes of the output were printed.
@@ -115,10 +120,13 @@ pub trait Walks<A: Allocator + Copy>: Sized + Drop {
     /// The place of the byte that a doubt of the next step is about, to which it may have to go back.
     fn place_doubted<'p>(&mut self, doubt: Doubt) -> Place<'p>;
 
-    /// Goes back to where the byte at a place comes from, or the item of a form.
+    /// Goes back to where the byte at a place comes from, or the item of a form, over the steps that are kept.
     fn follow(&mut self, alloc: A, place: Place<'_>) -> End;
 
-    /// The same, and keeps what is told of the calls on the way.
+    /// The same, also over steps that are kept no more.
+    fn follow_far(&mut self, alloc: A, place: Place<'_>) -> End;
+
+    /// The same as `follow_far`, and keeps what is told of the calls on the way.
     fn tell_way(&mut self, alloc: A, place: Place<'_>) -> (Self::Way, End);
 
     /// Of how many calls on a way lines are shown.

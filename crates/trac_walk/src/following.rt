@@ -37,8 +37,18 @@ impl<A: Allocator + Copy> Witness<A> for InForms<A> {
     }
 }
 
-/// Goes back to where the byte at a place comes from, or the item of a form, also over steps that are kept no more.
+/// Goes back to where the byte at a place comes from, or the item of a form.
 pub(crate) fn follow<A: Allocator + Copy>(
+    alloc: A,
+    walker: &mut Walker<A>,
+    place: Place<'_>,
+) -> End {
+    let found = traced(alloc, walker, place, &mut Unsaid);
+    end_of(walker, found)
+}
+
+/// The same, also over steps that are kept no more.
+pub(crate) fn follow_far<A: Allocator + Copy>(
     alloc: A,
     walker: &mut Walker<A>,
     place: Place<'_>,
@@ -49,7 +59,7 @@ pub(crate) fn follow<A: Allocator + Copy>(
     end_of(walker, found)
 }
 
-/// The same over the steps that are kept, with where it stood in forms that calls gave it from.
+/// The same as `follow`, with where it stood in forms that calls gave it from.
 pub(crate) fn follow_in_forms<A: Allocator + Copy>(
     alloc: A,
     walker: &mut Walker<A>,

@@ -46,7 +46,7 @@ pub(crate) fn seek_back<A: Allocator + Copy>(
     sought: Sought<'_>,
 ) -> Option<Refusal> {
     for _ in 0..walker.step() {
-        if let Some(refusal) = walker.return_far(Aim::Call(&[])) {
+        if let Some(refusal) = to_call_before(walker) {
             return Some(refusal);
         }
         if stands_at(walker, sought) {
@@ -54,6 +54,21 @@ pub(crate) fn seek_back<A: Allocator + Copy>(
         }
     }
     Some(Refusal::NotMet)
+}
+
+// Goes back to the last call, also over steps that are kept no more. It keeps many of these again, since more calls are
+// looked at. If it meets none, it stands somewhere before where it began.
+fn to_call_before<A: Allocator + Copy>(walker: &mut Walker<A>) -> Option<Refusal> {
+    match walker.return_to(Aim::Call(&[])) {
+        Some(Refusal::NotMet) if walker.first_step() > 0 => {
+            let _ = walker.back(u64::MAX);
+            match walker.recall() {
+                None => walker.return_far(Aim::Call(&[])),
+                refused => refused,
+            }
+        }
+        found => found,
+    }
 }
 
 // Whether the call that comes next is sought.

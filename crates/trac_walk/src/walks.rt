@@ -3,7 +3,7 @@
 use crate::afar::follow_on;
 use crate::calls_told::{Way, end_way, told_way};
 use crate::carrying_out::carry_out;
-use crate::following::{end_of, follow, follow_in_forms};
+use crate::following::{end_of, follow, follow_far, follow_in_forms};
 use crate::restarting::{Kept, begun};
 use std::alloc::{AllocError, Allocator};
 use trac_dialogue::Move;
@@ -134,8 +134,15 @@ impl<A: Allocator + Copy> Walks<A> for Walked<A> {
         self.walker.end_input();
     }
 
-    fn carry_out(&mut self, _program: &[u8], way: Move<'_>, searched: u64) -> Option<Stop> {
+    fn carry_out(&mut self, way: Move<'_>, searched: u64) -> Option<Stop> {
         carry_out(&mut self.walker, way, searched)
+    }
+
+    fn show_printed(&mut self, number: u64) -> Option<Refusal> {
+        let before = self
+            .walker
+            .return_far_to_printed(number.saturating_sub(1));
+        before.or_else(|| self.walker.forward(1))
     }
 
     fn forward(&mut self, most: u64) -> Option<Refusal> {
@@ -172,6 +179,10 @@ impl<A: Allocator + Copy> Walks<A> for Walked<A> {
 
     fn follow(&mut self, alloc: A, place: Place<'_>) -> End {
         follow(alloc, &mut self.walker, place)
+    }
+
+    fn follow_far(&mut self, alloc: A, place: Place<'_>) -> End {
+        follow_far(alloc, &mut self.walker, place)
     }
 
     fn tell_way(&mut self, alloc: A, place: Place<'_>) -> (Way<A>, End) {
