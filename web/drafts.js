@@ -16,6 +16,8 @@ const TAB = "trac.tab";
 const MOST_DRAFT = 1 << 20;
 const DRAFT_TIME = 250;
 const LATEST_TIME = 1000;
+// What is said of a program that was saved.
+export const GIVEN = "given to the browser to save";
 
 /**
  * @typedef {import("./undoing.js").Held} Held
@@ -27,14 +29,18 @@ const LATEST_TIME = 1000;
 /** @param {Uint8Array} bytes */
 const textToKeep = (bytes) => bytes.length > MOST_DRAFT ? null : textOf(bytes);
 
+// Whether there is nothing to go on with: it was given to the browser to save, or is as it was opened or replaced.
+/** @param {Work} work */
+const isLeft = ({ isTyped, isGiven }) => !isTyped || isGiven === true;
+
 // A program of an entry. Whether it is this tab's own: else another tab may have it, too.
 /** @param {Kept} entry @returns {Required<Held>} */
 export function heldOf({ id, raw, name, text, isSaved, isReplaced }, isMine = false) {
-  const work = { isTyped: !isSaved && !isReplaced, isKept: true, place: { id, raw }, isMine };
+  const work = { isTyped: !isReplaced, isGiven: isSaved, isKept: true, place: { id, raw }, isMine };
   return { name, bytes: new TextEncoder().encode(text), work };
 }
 
-// Whether what was typed in a work is neither kept nor saved.
+// Whether what was typed in a work is not kept. (No browser tells whether a file is there that it was given to save.)
 /** @param {Held} held */
 function isAtRisk({ bytes, work }) {
   if (!work?.isTyped || bytes.length === 0) return false;
@@ -66,7 +72,7 @@ export class Draft {
   // The program was typed: it is kept soon. (One that was deleted sign by sign was replaced, too.)
   typed() {
     if (this.editor.box.value === "") this.replace();
-    Object.assign(this.editor.work, { isTyped: true, isKept: false });
+    Object.assign(this.editor.work, { isTyped: true, isKept: false, isGiven: false });
     const now = performance.now();
     if (!this.later) this.since = now;
     clearTimeout(this.later);
@@ -114,7 +120,7 @@ export class Draft {
   keepHeld({ name, bytes, work }) {
     const text = textToKeep(bytes);
     if (!work) return;
-    const entry = text === null ? null : { name, text, time: Date.now(), isSaved: !work.isTyped, isReplaced: false };
+    const entry = text === null ? null : { name, text, time: Date.now(), isSaved: isLeft(work), isReplaced: false };
     const place = entry && writeEntry(work.place, entry);
     work.isKept = place !== null;
     if (place) Object.assign(work, { place, isMine: true });
@@ -125,7 +131,8 @@ export class Draft {
   show(held) {
     const count = countOfEntries();
     const why = textToKeep(held.bytes) === null ? "over 1 MiB, or no text" : "this browser refuses it";
-    const words = isAtRisk(held) ? `not kept (${why}): save it`
+    const what = held.work?.isGiven ? GIVEN : "save it";
+    const words = isAtRisk(held) ? `not kept (${why}): ${what}`
       : count > MOST_WORKS ? `Yours has ${count} programs: save or forget some` : "";
     if (words && words !== byId("kept-note").textContent) this.told(words);
     byId("kept-note").textContent = words;
@@ -167,7 +174,7 @@ export class Draft {
   restore() {
     takeOlder();
     const { editor } = this;
-    const all = entries(), last = all.find((one) => heldOf(one).work.isTyped) ?? all[0];
+    const all = entries(), last = all.find((one) => !isLeft(heldOf(one).work)) ?? all[0];
     const held = this.remembered() ?? (last ? heldOf(last) : null);
     const early = editor.box.value;
     if (early !== "" && early !== (held && textOf(held.bytes))) {
@@ -189,20 +196,21 @@ export class Draft {
     return !isAtRisk(held) || ask(`${words} Open another program in its place?`);
   }
 
-  // The program is in a file.
-  saved() {
+  // The program was given to the browser to save, which does not tell whether it is in a file then.
+  given() {
     this.leave();
     const { work } = this.editor;
-    work.isTyped = false;
+    work.isGiven = true;
     if (work.place && standOf(work.place) === "same") this.keep();
-    byId("kept-note").textContent = "";
+    else this.show(this.editor.held());
   }
 
   // Forgets the entry of what stands there, after a question. Returns whether it did.
   async forget() {
     this.leave();
     const { editor, editor: { name, work } } = this;
-    const words = `Forget ${legible(name)}, as it stands there?${work.isTyped ? " It is in no file." : ""}`;
+    const where = work.isGiven ? ` It was ${GIVEN}.` : work.isTyped ? " It is in no file." : "";
+    const words = `Forget ${legible(name)}, as it stands there?${where}`;
     if (!work.place || !await ask(words)) return false;
     if (work !== editor.work) return false;
     forgetEntry(work.place);

@@ -60,7 +60,7 @@ function saveProgram(page) {
   link.download = page.editor.name;
   link.click();
   setTimeout(() => URL.revokeObjectURL(link.href), 1000);
-  page.draft.saved();
+  page.draft.given();
 }
 
 /** @param {Page} page */

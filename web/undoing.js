@@ -1,7 +1,7 @@
 // What stood in the editor before another program was opened, and after it: it can be brought back. This is for
 // convenience: what was typed is kept besides (drafts.js), and what could not be kept stays in these lists.
 import { byId, elementOf, focused } from "./elements.js";
-import { isAside, isWriting } from "./focus.js";
+import { isAside } from "./focus.js";
 import { legible } from "./unseen.js";
 
 // So many programs that stood there before are held, and so many bytes of them.
@@ -9,11 +9,12 @@ const MOST_BEFORE = 20;
 const MOST_BEFORE_BYTES = 1 << 25;
 
 /**
- * The work on a program: whether something was typed that is in no file, whether that is kept, in which entry, whether
- * this tab has written that entry, and whether it was to be forgotten. And a program: its name, its bytes, and the work
- * on it.
+ * The work on a program: whether something was typed, whether that is kept, in which entry, whether this tab has
+ * written that entry, whether it was to be forgotten, and whether it was given to the browser to save. And a program:
+ * its name, its bytes, and the work on it.
  * @typedef {{
- *   isTyped: boolean, isKept?: boolean, place?: import("./works.js").Place, isMine?: boolean, isForgotten?: boolean
+ *   isTyped: boolean, isKept?: boolean, place?: import("./works.js").Place, isMine?: boolean, isForgotten?: boolean,
+ *   isGiven?: boolean
  * }} Work
  * @typedef {{ name: string, bytes: Uint8Array, work?: Work }} Held
  */
@@ -32,10 +33,10 @@ export class Undoing {
     /** @type {(name: string) => void} what is told that such a program is back */
     this.restored = () => {};
     document.addEventListener("keydown", (event) => this.key(event));
-    // (Chromium has one history for all boxes: from another box, or behind a dialog, nothing of it is to be undone)
+    // (Chromium has one history for all boxes: from elsewhere, or behind a dialog, nothing of it is to be undone)
     document.addEventListener("beforeinput", (event) => {
       const box = elementOf(event), held = focused();
-      const isElsewhere = held !== box && held !== editor.box && isWriting(held);
+      const isElsewhere = held !== box && held !== editor.box;
       if (event.inputType.startsWith("history") && (isElsewhere || isAside(box))) event.preventDefault();
     });
     byId("undo").addEventListener("click", () => this.goBack(this.before, this.after));
@@ -83,7 +84,7 @@ export class Undoing {
   key(event) {
     const { box, isTouched } = this.editor, key = event.key.toLowerCase();
     if (!(event.ctrlKey || event.metaKey) || event.altKey || !["z", "y"].includes(key)) return;
-    const isElsewhere = elementOf(event) !== box && (isWriting(elementOf(event)) || isAside(elementOf(event)));
+    const isElsewhere = elementOf(event) !== box || isAside(box);
     const isAgain = key === "y" || event.shiftKey;
     if (isElsewhere || isTouched || event.repeat || !(isAgain ? this.after : this.before).length) return;
     event.preventDefault();

@@ -1,5 +1,5 @@
 // The first programs of the list: those that someone has typed in this browser, the latest first.
-import { heldOf } from "./drafts.js";
+import { GIVEN, heldOf } from "./drafts.js";
 import { make } from "./elements.js";
 import { inTurn } from "./programs.js";
 import { legible } from "./unseen.js";
@@ -14,7 +14,7 @@ const WHEN = new Intl.DateTimeFormat([], { dateStyle: "short", timeStyle: "short
 function optionOf({ id, name, text, time, isSaved, isReplaced }) {
   const when = WHEN.format(time);
   const words = legible(text.slice(0, 4 * MOST_WORDS).replace(/\s+/g, " ")).slice(0, MOST_WORDS);
-  const came = `${isSaved ? ", saved" : ""}${isReplaced ? ", replaced" : ""}`;
+  const came = `${isSaved ? `, ${GIVEN}` : ""}${isReplaced ? ", replaced" : ""}`;
   return new Option(`${legible(name)}, ${when}${came}: ${words}`, OWN + id);
 }
 

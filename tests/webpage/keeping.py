@@ -308,8 +308,13 @@ def check_too_long(page: Deeds) -> None:
     check(page.script(ASKS), "and where another program is opened")
     page.click(UNDO)
     page.until(VALUE + ".length > 1000000", "it is back")
+    page.script("HTMLAnchorElement.prototype.click = () => {}")
     page.click("document.getElementById('save')")
-    check(not page.script(ASKS), "what is saved is left")
+    check(page.script(ASKS), "it is asked still: nobody knows whether it is saved")
+    check(page.script(NOTE).endswith("given to the browser to save"), "that is said: " + page.script(NOTE))
+    choose(page, "Hello")
+    page.until(QUESTION, "and before another program is opened")
+    page.press("Enter")
 
 
 def check_too_long_replaced(page: Deeds) -> None:
@@ -358,7 +363,7 @@ def check_saved(page: Deeds) -> None:
       for (let at = 0; at < 49; at++) localStorage[`trac.work.${at}`] = JSON.stringify(
         { name: `${at}.trac`, text: `#(ps,old ${at};)'`, time: at, isSaved: false });
     })()""")
-    check(choices(page, ", saved: #(ps,saved"), "the list says what is saved")
+    check(choices(page, ", given to the browser to save: #(ps,saved"), "the list says what is saved")
     for text, count in ("one", 50), ("two", 51):
         pick(page, "hello.trac")
         typed(page, text)
@@ -569,6 +574,35 @@ def check_undo_elsewhere(page: Deeds) -> None:
     check(page.script(VALUE) == "AAA#(ps,mine)'", "and done again: " + page.script(VALUE))
 
 
+def check_undo_beside(page: Deeds) -> None:
+    """Ctrl+Z in the search of calls, in the box of the step, in that of the input or on a button undoes nothing of the
+    program, which can be undone by itself later; and leaves the focus where it is."""
+    page.type("#(ps,mine)'")
+    pick(page, "hello.trac")
+    page.type("#(ps,##(rs))'")
+    page.script("document.getElementById('tab-tree').click()")
+    page.run()
+    for is_typed in False, True:
+        if is_typed:
+            page.script("document.getElementById('source').setSelectionRange(0, 0)")
+            page.script("document.getElementById('source').focus()")
+            page.insert("AAA")
+        text = page.script(VALUE)
+        for name in "filter", "place", "input", "output", "save", "theme":
+            page.script("document.getElementById('{}').focus()".format(name))
+            page.press("z", times=2, control=True)
+            page.press("y", control=True)
+            check(page.script("document.activeElement.id") == name,
+                  "the focus stays in {}: {}".format(name, page.script("document.activeElement.id")))
+            check(page.script(VALUE) == text, "from {} the program stays: {}".format(name, page.script(VALUE)))
+        page.script("document.activeElement.blur()")
+        page.press("z", times=2, control=True)
+        check(page.script(VALUE) == text, "nor from nowhere: " + page.script(VALUE))
+    page.script("document.getElementById('source').focus()")
+    page.press("z", control=True)
+    check(page.script(VALUE) == "#(ps,##(rs))'", "it is undone there: " + page.script(VALUE))
+
+
 def check_composed(page: Deeds) -> None:
     """A word that is composed in place of a whole program begins one entry; and is kept as far as it is there, where
     another program is opened before it is done."""
@@ -630,7 +664,7 @@ TRIED = (rows(check_draft, check_opened, check_brought_back, check_many_opened, 
               check_same_time, check_at_once, check_without_pause, check_full, check_too_long,
               check_too_long_replaced, check_forgotten, check_saved, check_older,
               check_typed_before_a_link, check_lines_ahead, check_lines_stopped, check_raced, check_undo, check_undone,
-              check_undo_elsewhere, check_not_read, check_question)
+              check_undo_elsewhere, check_undo_beside, check_not_read, check_question)
          + rows(check_composed, where=CHROMIUM)
          + rows(check_large_files, seconds=10)
          + rows(check_two_tabs, check_early, check_not_ready, given=file_of, seconds=5))
