@@ -1,15 +1,13 @@
 """What `trac dap` replies to an editor, byte for byte.
 
 Each NAME.in of tests/data/dap has the messages of an exchange, one in each line, and NAME.out what is replied, worked
-by hand but for the steps that progress tells. All exchanges end by `disconnect`; shown.trac is the program of one.
-Then messages and bytes that are not understood, and ends that are not asked for; what it shows after random moves
-through two programs, beside what `trac debug` shows of the same steps; and a debugger in Emacs, where its dap-mode is
-installed."""
+by hand but for the steps that progress tells. All exchanges end by `disconnect`. Then messages and bytes that are not
+understood, and ends that are not asked for; what it shows after random moves, beside what `trac debug` shows of the
+same steps; and a debugger in Emacs, where its dap-mode is installed."""
 from __future__ import annotations
 
 import json
 import os
-import pathlib
 import random
 import re
 import shutil
@@ -60,12 +58,7 @@ STRANGE: tuple[tuple[str, dict[str, Any]], ...] = (
     ("evaluate", {"expression": "x" * 70000, "context": "repl"}), ("launch", {"program": "/"}),
     ("restart", {"arguments": {"program": "\0"}}), ("restart", {}), ("next", {"granularity": 7}), ("terminate", {}),
 )
-# Breakpoints of each kind, of which there are many.
-MANY: tuple[tuple[str, dict[str, Any]], ...] = (
-    ("setBreakpoints", {"line": 1}), ("setFunctionBreakpoints", {"name": "ps"}),
-    ("setDataBreakpoints", {"dataId": "form a"}),
-)
-# Moves, and how far commands of the console go; programs that are moved through.
+# Moves, and how far commands of the console go; a program of the examples; of how many frames arguments are asked for.
 RULE = {"granularity": "instruction"}
 MOVES: tuple[tuple[str, dict[str, Any]], ...] = (
     ("stepIn", {}), ("stepIn", {}), ("stepIn", RULE), ("next", {}), ("next", RULE), ("stepOut", {}), ("stepBack", {}),
@@ -73,9 +66,6 @@ MOVES: tuple[tuple[str, dict[str, Any]], ...] = (
     *(("evaluate", {"context": "repl", "expression": "g {}".format(step)}) for step in (0, 30, 120, 200, 270)),
 )
 PROGRAM = EXAMPLES / "wrong-factorial.trac"
-PROGRAMS = (PROGRAM, HERE / "moved.trac")
-# Each scope but the arguments, by the number that the editor asks for; those of the outermost frame have the number 9.
-FORMS, BLOCKS, MACHINE, OUTPUT, OUTERMOST = 1, 2, 3, 4, 9
 FRAMES = 16
 # What a person sees in Emacs: where the program waits, a step back with the form there, and where the breakpoint is.
 SEEN = (
@@ -156,99 +146,39 @@ class Stored(Case):
         self.same("the numbers", str([it["seq"] for it in told]), str(list(range(1, len(told) + 1))))
         self.status("strange requests", run, 0)
 
-    def test_many(self) -> None:
-        """Of many frames 1,000 are told at once, and of many breakpoints of a kind 10,000 are set."""
-        deep, program = 1100, scratch(self) / "deep.trac"
-        program.write_bytes(b"#(ps," * deep + b")" * deep + b"'")
-        asked = Asked()
-        asked.ask("initialize")
-        asked.ask("launch", program=str(program), stopOnEntry=True)
-        asked.ask("configurationDone")
-        asked.ask("evaluate", expression="u ps", context="repl")
-        frames = [asked.ask("stackTrace", startFrame=first, levels=GREAT) for first in (0, 1000)]
-        kinds = [asked.ask(command, source={"path": str(program)}, breakpoints=[wanted] * 10001)
-                 for command, wanted in MANY]
-        asked.ask("disconnect")
-        replies = asked.replies()
-        told = [(len(replies[it]["stackFrames"]), replies[it]["totalFrames"]) for it in frames]
-        self.same("the frames", str(told), str([(1000, deep + 1), (deep + 1 - 1000, deep + 1)]))
-        for (command, _), kind in zip(MANY, kinds):
-            are_set = [it["verified"] for it in replies[kind]["breakpoints"]]
-            self.same(command, str(are_set), str([True] * 10000 + [False]))
-            self.same(command, replies[kind]["breakpoints"][-1]["message"], "there are 10000 breakpoints already")
-
-    def test_document(self) -> None:
-        """What share/editors/README.md shows of one step back, and the command of the console there."""
-        asked = Asked()
-        asked.ask("initialize")
-        asked.ask("launch", program=near(PROGRAM))
-        asked.ask("configurationDone")
-        asked.ask("stepBack")
-        stack = asked.ask("stackTrace")
-        scopes = [asked.ask("variables", variablesReference=it) for it in (OUTERMOST + 1, FORMS)]
-        traced = asked.ask("evaluate", expression="y . 2 1", context="repl")
-        asked.ask("disconnect")
-        replies = asked.replies()
-        inner, outer = replies[stack]["stackFrames"]
-        arguments, forms = ("   ".join("{}: {}".format(*it) for it in pairs_in(replies[scope])) for scope in scopes)
-        place = "{}, line {}, column {}".format(inner["source"]["name"], inner["line"], inner["column"])
-        shown = ("    frames      {:13} {}".format(inner["name"], place),
-                 "                {:13} of the processor itself".format(outer["name"]),
-                 "    Arguments   " + arguments, "    Forms       " + forms)
-        text = (TOP / "share" / "editors" / "README.md").read_text(encoding="utf-8")
-        for line in (*shown, "`y . 2 1`"):
-            self.holds("the document has not: " + line, line in text)
-        self.same("y . 2 1", replies[traced]["result"],
-                  "263  #(ml,4,0)                    makes it\nhere: 263  #(ml,4,0)")
-
-    @each([program.stem for program in PROGRAMS])
-    def test_states(self, name: str) -> None:
-        """What is shown after 150 random sequences of moves, each from the first step on."""
-        program = next(it for it in PROGRAMS if it.stem == name)
+    def test_states(self) -> None:
+        """What is shown after 300 random moves."""
         asked, chance, seen = Asked(), random.Random(84), []
         asked.ask("initialize")
-        asked.ask("launch", program=near(program), stopOnEntry=True)
+        asked.ask("launch", program=near(PROGRAM), stopOnEntry=True)
         asked.ask("configurationDone")
-        for _ in range(150):
-            asked.ask("restart")
-            for _ in range(chance.randint(1, 8)):
-                command, arguments = chance.choice(MOVES)
-                asked.ask(command, **arguments)
-            scopes = MACHINE, FORMS, BLOCKS, OUTPUT, *range(OUTERMOST, OUTERMOST + FRAMES)
-            seen.append((asked.ask("stackTrace"), [asked.ask("variables", variablesReference=it) for it in scopes]))
+        for _ in range(300):
+            command, arguments = chance.choice(MOVES)
+            asked.ask(command, **arguments)
+            seen.append([asked.ask("variables", variablesReference=it) for it in (3, 1, *range(9, 9 + FRAMES))])
         asked.ask("disconnect")
         replies = asked.replies()
-        shown = [state_of(replies[frames]["stackFrames"], [pairs_in(replies[it]) for it in scopes])
-                 for frames, scopes in seen]
-        wanted = states(program, [dict(pairs_in(replies[scopes[0]]))["step"] for _, scopes in seen])
-        for number, state in enumerate(shown):
-            self.same("state {}".format(number), state, wanted[number])
+        wanted = self.states([dict(pairs_in(replies[one[0]]))["step"] for one in seen])
+        for number, (machine, forms, *frames) in enumerate(seen):
+            self.same("state {}".format(number), state_of(
+                dict(pairs_in(replies[machine])), pairs_in(replies[forms]),
+                [[value for _, value in pairs_in(replies[it])] for it in frames]), wanted[number])
+
+    def states(self, steps: list[str]) -> list[str]:
+        """The states after these numbers of steps, by `trac debug`: what is compared of them."""
+        commands = "".join("b 999999\ns {}\np\n".format(step) for step in steps) + "q\n"
+        run = ran([TRAC, "debug", PROGRAM], commands.encode())
+        blocks = re.split(r"^(?=active )", run.output.decode(), flags=re.M)[1:]
+        return ["".join(re.findall(r"^(?:active|call|form|meta|trace) .*\n", block, re.M)) for block in blocks]
 
 
-def states(program: pathlib.Path, steps: list[str]) -> list[str]:
-    """The states of a program after these numbers of steps, by `trac debug`: what is compared of them, without erased
-    blocks and the texts in blocks."""
-    commands = "".join("b 999999\ns {}\np\n".format(step) for step in steps) + "q\n"
-    run = ran([TRAC, "debug", program], commands.encode())
-    blocks = re.split(r"^(?=active )", run.output.decode(), flags=re.M)[1:]
-    lines = re.compile(r"^(?:(?:active|call|form|held|meta|trace|output) .*|block \d+)\n", re.M)
-    return [re.sub(r"^(held \S+).*", r"\1", "".join(lines.findall(it)), flags=re.M) for it in blocks]
-
-
-def state_of(stack: list[dict[str, Any]], scopes: list[list[tuple[str, str]]]) -> str:
+def state_of(machine: dict[str, str], forms: list[tuple[str, str]], frames: list[list[str]]) -> str:
     """What is shown of a state, as `trac debug` shows it."""
-    machine, forms, blocks, output, *frames = scopes
-    found = dict(machine)
-    lines = ["active [{}]".format(escaped(found["active text"]))]
-    for frame, arguments in zip(reversed(stack), frames):
-        if arguments:
-            sign = "##" if frame["name"].startswith("##") else "#"
-            lines.append("call {} {}".format(sign, "".join("[{}]".format(escaped(it)) for _, it in arguments)))
-    lines += ["form [{}] [{}]".format(name, re.sub(r"\[(\^|\d+)\]", r"<\1>", text)) for name, text in forms]
-    for number, names in blocks:
-        lines += ["block " + number, *("held [{}]".format(name) for name in names.split(", "))]
-    lines += ["meta [{}]".format(found["meta"]), "trace " + found["trace"]]
-    lines += ["output [{}]".format(escaped(text)) for _, text in output]
+    lines = ["active [{}]".format(escaped(machine["active text"]))]
+    lines += ["call # " + "".join("[{}]".format(escaped(it)) for it in frame) for frame in frames if frame]
+    for name, text in forms:
+        lines.append("form [{}] [{}]".format(name, re.sub(r"\[(\^|\d+)\]", r"<\1>", text)))
+    lines += ["meta [{}]".format(machine["meta"]), "trace " + machine["trace"]]
     return "".join(line + "\n" for line in lines)
 
 

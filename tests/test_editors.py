@@ -59,9 +59,7 @@ LINTED = "some file.trac:3:5: no primitive is named pr (step 124)"
 MORE = ".. and 4711 more places"
 # What VS Code is told of tests/data/lint/names.trac beside its doubts.
 IN_VS_CODE = (
-    "2:6-2:14 this form is never called", "symbol greeting 2:1-2:18", "symbol s 5:1-5:10", "hover true",
-    "completion true", "debug TRAC true", "dap",
-    "after the end null", "after the end null", "",
+    "symbol greeting 2:1-2:18", "symbol s 5:1-5:10", "hover true", "completion true", "debug TRAC true", "dap", "",
 )
 
 

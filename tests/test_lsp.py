@@ -8,10 +8,9 @@ from __future__ import annotations
 import itertools
 import json
 import random
-import re
 from typing import Any
 
-from support.cases import DATA, TOP, TRAC, WALK, Case, Ran, each, near, ran, stems, tests
+from support.cases import DATA, WALK, Case, Ran, each, near, ran, stems, tests
 from support.framed import Exchange, framed
 
 HERE = DATA / "lsp"
@@ -119,31 +118,6 @@ class Stored(Case):
                 self.same("after edit {}".format(turn), json.dumps(told), anew)
         server.end()
 
-    def test_primitives(self) -> None:
-        """What is said of each primitive has the arguments of docs/language.md, and an example that does so."""
-        language = (TOP / "docs" / "language.md").read_text(encoding="utf-8")
-        told, _, listed = language.partition("\n## All names\n")
-        rows = {name: name for name in re.findall("`([a-z]{2})`", listed.partition("\n## ")[0])}
-        for row in re.findall(r"^\| (`[a-z]{2},[^|]*) \|", told, re.M):
-            rows.update((call[:2], call) for call in re.findall("`([^`]*)`", row))
-        server = opened("#(")
-        found(server)
-        position = {"textDocument": {"uri": FILE}, "position": {"line": 0, "character": 2}}
-        labels = [one["label"] for one in server.asked("textDocument/completion", position, 1)]
-        self.same("all are told", "\n".join(labels), "\n".join(sorted(rows)))
-        for name in labels:
-            server.tell("textDocument/didChange", {"textDocument": {"uri": FILE, "version": 1},
-                                                   "contentChanges": [{"text": "#(" + name}]})
-            found(server)
-            hint = server.asked("textDocument/hover", position, 2)["contents"]["value"].split("\n")
-            self.same("the arguments of " + name, hint[0], "#({})".format(rows[name]))
-            call, *more = re.split(" (gives|prints) ", hint[2].removeprefix("Example: "))
-            if more:
-                before, _, last = call.rpartition("#(")
-                text = before + ("#(ps,#({})'" if more[0] == "gives" else "#({}'").format(last)
-                self.ends("the example of " + name, ran((TRAC, "run"), text.encode()), more[1].encode())
-        server.end()
-
     def test_changes_that_are_late(self) -> None:
         """Of changes that come together the last one alone is run."""
         server = opened("#(cl,a)'")
@@ -155,21 +129,6 @@ class Stored(Case):
         self.same("one reply", found(server)[0]["message"], "no form is named 4 (step 13)")
         server.tell("textDocument/foldingRange", {"textDocument": {"uri": FILE}}, 1)
         self.same("and no other", server.message(), b'{"id":1,"jsonrpc":"2.0","result":[]}')
-        server.end()
-
-    def test_many(self) -> None:
-        """Many parentheses and many forms, which take minutes if each is compared with each."""
-        server = opened("(" * 800_000 + "\n" + ")" * 800_000)
-        found(server)
-        self.same("one line", json.dumps(server.asked("textDocument/foldingRange", {"textDocument": {"uri": FILE}}, 1)),
-                  "[]")
-        text = "".join("#(ds,f{},x)'\n".format(number) for number in range(100_000))
-        server.tell("textDocument/didChange", {"textDocument": {"uri": FILE, "version": 1},
-                                               "contentChanges": [{"text": text}]})
-        self.same("no doubt", json.dumps(found(server)), "[]")
-        hint = server.asked("textDocument/hover", {"textDocument": {"uri": FILE},
-                                                   "position": {"line": 0, "character": 5}}, 2)
-        self.same("a form", hint["contents"]["value"], "#(cl,f0)\nx\nDefined: line 1, column 6")
         server.end()
 
 

@@ -310,14 +310,6 @@ class Action(InNode):
         self.same("it leaves no file", " ".join(sorted(os.listdir(self.room))),
                   " ".join(sorted(name + ".trac" for name in LINTED)))
 
-    def test_action_of_odd_names(self) -> None:
-        """A file whose name is a command of that system gives it none."""
-        for name in "::stop-commands::z.trac", " ::set-output name=x::y.trac":
-            (self.room / name).write_bytes(b"#(pr)'")
-            self.same(name, self.step("*.trac").output.decode(),
-                      name.replace("::", "%3A%3A", 1) + ":1:3: no primitive is named pr\n")
-            (self.room / name).unlink()
-
     def test_action_inputs(self) -> None:
         """The inputs that its script and its example name are those that it has."""
         has = re.findall(r"^  (\w+):\n    description:", self.text, re.M)

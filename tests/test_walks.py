@@ -42,8 +42,7 @@ m goes to step 157, where the search ended
 the program waits for input: i TEXT feeds a line, e ends the input
 steps before 63 are forgotten, to make room for the output
 157  #(rs)
-59  #(ps,xxxxxxxxxxxxxxxxxxxxxxxxxxxxxxxxxxxxxxxxxxxxxxxxxxxxxxxxxxxxxxxxxxxxx..
-the program waits for input: i TEXT feeds a line, e ends the input
+that was printed before the first step that is kept, step 63
 157  #(rs)
 81  #(ps,xxxxxxxxxxxxxxxxxxxxxxxxxxxxxxxxxxxxx..  prints it
 69  #(rs)                         reads it: line 1, column 4000057
@@ -66,7 +65,8 @@ steps before 20 are forgotten, to take no more memory; --keep keeps more
 40  nothing is left: the idle program is loaded
 the program waits for input: i TEXT feeds a line, e ends the input
 71  #(rs)
-0  "#(" begins a call: #(ps,#(rs))
+this is the first step that is kept, step 62
+62  #(ps,)
 """
 FOREVER = b"""\
 34  "l" is taken as it is: l,A))
@@ -85,10 +85,6 @@ steps before 9961472 are forgotten; --journal keeps more
 10000034  "#(" begins a call: #(cl,A))
 20000034  "A" is taken as it is: A))
 """
-# What is typed to reach steps that are kept no more, in a walk that keeps few.
-FAR = ("s end", "g 5", "s end", "b start", "s end", "b 100", "b 100000", "s end", "g 37", "s end", "r ds", "r ds",
-       "s end", "r ds * * | none", "s end", "D", "s end", "O", "N", "s end", "b 3", "N", "l", "y", "s end", "r ps",
-       "y . 1 1", "s end", "w #1", "s end", "u none", "b 20", "u none none | none")
 # Programs of which something grows without end.
 THOUSAND = b"x" * 1000
 GROWING = {
@@ -213,11 +209,10 @@ class Kept(Walker):
     def test_program_that_prints_more_than_is_kept(self) -> None:
         """Six calls of ps, at step 37 and each 22nd after it, print 4,000,001 bytes each, and only four of these fit
         beside one another. So before the fifth, at step 125, the older half of the steps is forgotten, with what the
-        first two calls have printed. A search that meets nothing forgets none of them. Back to what was printed before
-        those that are kept the program is run anew."""
+        first two calls have printed. A search that meets nothing forgets none of them."""
         calls = b"".join(b"#(ps,##(cl,A)%d)'" % digit for digit in range(1, 7))
         run = self.walk(b"#(ds,A,(" + b"x" * 4000000 + b"))'" + calls,
-                        lined(["u cl AB", "s 1000", "w #8000002", "s 1000", "y #12000003", "s 1000", "w #8000003"]))
+                        lined(["u cl AB", "s 1000", "w #8000002", "y #12000003", "s 1000", "w #8000003"]))
         self.ends("a program that prints more than is kept", run, MUCH)
 
     def test_printed_byte_that_is_forgotten(self) -> None:
@@ -297,34 +292,12 @@ class Kept(Walker):
         self.same("standard error", run.error, b"")
 
     def test_name_that_is_older_than_what_is_kept(self) -> None:
-        """A doubt about it says where it was written, also if that is not kept any more."""
-        run = self.walk(b"#(ds,F,(#(pr)))'#(ps,%60s)'#(cl,F)'" % b"", b"d\n", "--journal", "30")
-        self.holds("steps are forgotten", b"\nsteps before " in b"\n" + run.output)
-        self.holds("and the name is placed", b"no primitive is named pr: line 1, column 11" in run.output.splitlines())
-
-
-@tests
-class Far(Walker):
-    """Steps that are kept no more: the program is run anew, and the walk stands there."""
-
-    @each(sorted({*BUGS, *FOUND} - {"endless"}))
-    def test_far(self, name: str) -> None:
-        """Of a walk that keeps 50 steps each reply is that of one that keeps all, but for the first step kept."""
-        def replies(*options: str) -> bytes:
-            run = self.walk(HERE / (name + ".trac"), lined([*FAR, *FAR]), *options)
-            self.status(name, run, 0)
-            self.same(name + ": standard error", run.error, b"")
-            said = re.sub(rb"^steps before .*\n", b"", run.output, flags=re.M)
-            return re.sub(rb"(since the first step that is kept, step) [0-9]+$", rb"\1", said, flags=re.M)
-
-        self.same(name + ": each reply", replies("--journal", "50"), replies("--journal", "1048576"))
-
-    def test_change_a_million_steps_ago(self) -> None:
-        """The walk of docs/walking.md through a million steps comes to the same calls if few steps are kept."""
-        lines = lined(["s 2000000", "w toll", "l", "r ds", "g 1024773", "w #1", "y"])
-        for journal in "64", "65536":
-            few, every = (self.walk(DAYS, lines, "--journal", steps).output for steps in (journal, "1048576"))
-            self.same("with a journal of " + journal, re.sub(rb"(?m)^steps before .*\n", b"", few), every)
+        """A doubt about it says at which step it was there."""
+        run = self.walk(b"#(ds,F,(#(pr)))'#(ps,%60s)'#(cl,F)'" % b"", b"d\np\n", "--journal", "30")
+        first = re.search(rb"^step .*, back to ([0-9]*);", run.output, re.M)
+        self.holds("the first step that is kept is told", first)
+        said = b"no primitive is named pr: there at step " + (first[1] if first else b"")
+        self.holds("and that the name was there", said in run.output.splitlines())
 
 
 @tests

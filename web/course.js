@@ -23,11 +23,6 @@ const SHOWN_BYTES = 4096;
  * }} Exercise
  */
 
-/**
- * A check: where it is said what it comes to, the program, and the runs.
- * @typedef {{ said: HTMLElement, program: Uint8Array, runs: [string, string][] }} Check
- */
-
 export class Course {
   /** @param {Page} page */
   constructor(page) {
@@ -40,10 +35,8 @@ export class Course {
     /** @type {Item[]} lessons, each before its exercises */
     this.items = lessons.flatMap(({ exercises, ...lesson }) => [lesson, ...exercises]);
     this.at = 0;
-    // what is said of a check, and the last one
+    // what is said of a check
     this.said = make("div");
-    /** @type {Check | null} */
-    this.last = null;
     this.list();
     byId("lesson-before").addEventListener("click", () => this.show(this.at - 1));
     byId("lesson-next").addEventListener("click", () => this.show(this.at + 1));
@@ -148,29 +141,20 @@ export class Course {
     this.page.announcer.say("note", `${button.textContent}: ${place.textContent}`);
   }
 
-  // Checks the program of the editor in place of what goes on, also of an earlier check.
+  // Checks the program of the editor, and says what differs.
   /** @param {[string, string][]} runs */
-  check(runs) {
-    const check = { said: this.said, program: this.page.editor.bytes(), runs };
-    this.last = check;
-    check.said.replaceChildren("It is checked ..");
-    return this.page.runs.instead(() => this.judge(check));
-  }
-
-  // Says what differs, or that nothing does.
-  /** @param {Check} check */
-  async judge(check) {
-    /** @type {(Node | string)[]} */
-    let words;
+  async check(runs) {
+    const { page, said } = this;
+    const program = page.editor.bytes();
+    said.replaceChildren("It is checked ..");
     try {
-      const failed = await judged(this.page.engine, check.program, check.runs, this.rules);
-      words = failed ? this.failure(failed, check.program, check.runs) : [make("p", "right", "✓ It is solved.")];
+      const failed = await judged(page.engine, program, runs, this.rules);
+      if (failed) said.replaceChildren(...this.failure(failed, program, runs));
+      else said.replaceChildren(make("p", "right", "✓ It is solved."));
     } catch (fault) {
-      words = [fault instanceof Stopped ? "The check was stopped." : wordsOf(fault)];
+      said.replaceChildren(fault instanceof Stopped ? "The check was stopped." : wordsOf(fault));
     }
-    if (check !== this.last) return;
-    check.said.replaceChildren(...words);
-    check.said.lastElementChild?.scrollIntoView({ block: "nearest" });
+    said.lastElementChild?.scrollIntoView({ block: "nearest" });
   }
 
   // What is said of a run that fails.

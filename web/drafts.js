@@ -11,11 +11,9 @@ import { legible } from "./unseen.js";
 
 // What this tab had last, for when it is loaded anew.
 const TAB = "trac.tab";
-// A longer program is not kept. It is kept so many milliseconds after it was typed; where that goes on without a pause,
-// so many after the first sign that is not kept.
+// A longer program is not kept, and it is kept so many milliseconds after it was typed.
 const MOST_DRAFT = 1 << 20;
 const DRAFT_TIME = 250;
-const LATEST_TIME = 1000;
 
 /**
  * @typedef {import("./undoing.js").Held} Held
@@ -47,8 +45,6 @@ export class Draft {
     this.editor = editor;
     /** @type {ReturnType<typeof setTimeout> | 0} */
     this.later = 0;
-    // when the first sign was typed that is not kept
-    this.since = 0;
     /** @type {(words: string) => void} what says what is not kept */
     this.told = () => {};
     editor.leaving = () => this.leave();
@@ -67,18 +63,15 @@ export class Draft {
   typed() {
     if (this.editor.box.value === "") this.replace();
     Object.assign(this.editor.work, { isTyped: true, isKept: false });
-    const now = performance.now();
-    if (!this.later) this.since = now;
     clearTimeout(this.later);
-    this.later = setTimeout(() => this.keep(), Math.min(DRAFT_TIME, Math.max(this.since + LATEST_TIME - now, 0)));
+    this.later = setTimeout(() => this.keep(), DRAFT_TIME);
   }
 
   // All that stands there gives way to another text: its entry stays, if it has one, and what comes has one of its own.
-  // (So does an earlier state of what has grown too long to be kept.)
   replace() {
     if (this.later) this.keep();
-    const { place, isMine } = this.editor.work;
-    if (!place) return;
+    const { place, isKept, isMine } = this.editor.work;
+    if (!place || !(isKept || this.editor.box.value === "")) return;
     if (isMine) noteReplaced(place);
     this.editor.work = { isTyped: false };
   }

@@ -67,12 +67,6 @@ export function isWriting(element) {
   return element.closest("textarea, select, dialog, input:not([type='range'], [type='checkbox'])") !== null;
 }
 
-// Whether an element stands behind an open dialog, where nothing is to be done.
-/** @param {Element} element */
-export function isAside(element) {
-  return document.querySelector("dialog[open]") !== null && element.closest("dialog") === null;
-}
-
 // Whether a key is one that does something now.
 /** @param {string} key */
 export function isOn(key) {

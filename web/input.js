@@ -1,7 +1,5 @@
 // The input of a run: after the program stand lines, each with the step where the cursor was when it was given.
 import { grouped, joined } from "./bytes.js";
-import { isEqual } from "./judging.js";
-import { legible } from "./unseen.js";
 
 // All input: the program, and what was given. (A copy of it alone would be of no use.)
 /** @param {Pick<Wanted, "program" | "inputs">} wanted */
@@ -39,14 +37,4 @@ export function laterSaid(lines, isClosed, step) {
   if (isClosed) parts.push("the end of input");
   const said = parts.join(" and ");
   return said && `${said[0].toUpperCase()}${said.slice(1)} came after step ${grouped(step)}.`;
-}
-
-// Says which of the lines that were given for a run that came to nothing are not among others: they are not to be lost.
-/** @param {Line[]} given @param {Line[]} known */
-export function untakenSaid(given, known) {
-  const isKnown = (/** @type {Line} */ { step, bytes }) =>
-    known.some((line) => line.step === step && isEqual(line.bytes, bytes));
-  const lost = given.filter((line) => !isKnown(line));
-  const told = lost.map(({ bytes }) => legible(new TextDecoder().decode(bytes).trimEnd()));
-  return told.length > 0 ? ` Not taken: ${told.join("; ")}.` : "";
 }

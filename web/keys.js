@@ -1,20 +1,18 @@
 // What keys do. Those that type a sign can be switched off, for those who speak to their computer or hit keys by
 // mistake.
 import { keyOf, moreKeys } from "./walking.js";
-import { isAside, isOn, isShown, isWriting } from "./focus.js";
+import { isOn, isShown, isWriting } from "./focus.js";
 import { byId, elementOf, focused } from "./elements.js";
 
 /** @param {Page} page @param {KeyboardEvent} event @param {Map<string, Action>} keys */
 function onKey(page, event, keys) {
-  // (keys in a dialog are its own; beside what is in it, the focus is on the page behind it)
-  if (elementOf(event).closest("dialog") || isAside(elementOf(event))) return;
   if ((event.ctrlKey || event.metaKey) && event.key === "Enter") {
     event.preventDefault();
     startByKeys(page);
     return;
   }
   if (event.ctrlKey || event.altKey || event.metaKey || event.isComposing) return;
-  if (event.key === "Escape" && leaves(page, event)) return;
+  if (event.key === "Escape" && !elementOf(event).closest("dialog") && leaves(page, event)) return;
   if (event.key === "Enter" && elementOf(event).id === "filter") {
     page.cursor.visitFound();
     return;

@@ -7,8 +7,6 @@ import { legible } from "./unseen.js";
 
 // The most bytes that a program may have. A longer file is not even read: a tab has no room for any size.
 const MOST_BYTES = 33554432;
-// After so many milliseconds it is said that a file is not read yet.
-const LATE = 1000;
 // how often something was asked for
 let asked = 0;
 /** @type {Promise<unknown>} what is opened, up to what was asked for last */
@@ -28,28 +26,22 @@ export function inTurn(page, does) {
 /** @param {Page} page @param {File | undefined} file */
 async function openFile(page, file) {
   if (!file) return;
-  const name = legible(file.name);
   if (file.size > MOST_BYTES) {
     const most = `a program may have at most ${grouped(MOST_BYTES)}`;
-    tell(page, `${name} has ${grouped(file.size)} bytes: ${most}. Nothing is opened.`);
+    refuseFile(page, `${legible(file.name)} has ${grouped(file.size)} bytes: ${most}. Nothing is opened.`);
     return;
   }
-  const own = ++asked, isWanted = () => own === asked;
-  const late = setTimeout(() => isWanted() && tell(page, `${name} is not read yet. It opens once it is.`), LATE);
-  const buffer = await file.arrayBuffer().catch(() => null);
-  clearTimeout(late);
-  if (!isWanted()) return;
+  const own = ++asked, buffer = await file.arrayBuffer().catch(() => null);
+  if (own !== asked) return;
   if (buffer) await inTurn(page, async () => page.open({ name: file.name, bytes: new Uint8Array(buffer) }));
-  else tell(page, `${name} cannot be read. Nothing is opened.`);
+  else refuseFile(page, `${legible(file.name)} cannot be read. Nothing is opened.`);
 }
 
-// Says something of a file. How the run ended that is shown, and what can be done about that, stands there still.
+// Says that a file is not opened.
 /** @param {Page} page @param {string} words */
-function tell({ run, runs, view, announcer }, words) {
-  if (run && !runs.began) return view.showEnding(`${words} `);
-  view.showWords(words);
-  announcer.say("ending", words);
-  return undefined;
+function refuseFile(page, words) {
+  page.view.showWords(words);
+  page.announcer.say("ending", words);
 }
 
 // Writes the program to a file, by a link that is pressed.
@@ -66,11 +58,9 @@ function saveProgram(page) {
 /** @param {Page} page */
 export function startFiles(page) {
   const file = byId("file");
-  // (it may be chosen again, though it is never read)
-  file.addEventListener("change", () => {
-    const chosen = file.files?.[0];
+  file.addEventListener("change", async () => {
+    await openFile(page, file.files?.[0]);
     file.value = "";
-    openFile(page, chosen);
   });
   byId("save").addEventListener("click", () => saveProgram(page));
   const drop = byId("drop");

@@ -1,19 +1,20 @@
 // How a run comes about, and what input it is given.
 import { grouped } from "./bytes.js";
 import { Stopped, wordsOf } from "./engine.js";
-import { countOfLines, laterSaid, linesBegun, tapeOf, untakenSaid } from "./input.js";
+import { countOfLines, laterSaid, linesBegun, tapeOf } from "./input.js";
 import { Story } from "./story.js";
 import { BUDGET, measure } from "./measure.js";
 import { isLong, measureInTurns, probe, showSoFar, WATCHED } from "./probing.js";
 import { needsEnd } from "./endings.js";
 import { keepFocus } from "./focus.js";
 import { isEqual } from "./judging.js";
+import { legible } from "./unseen.js";
 import { byId, focused } from "./elements.js";
 import { gather } from "./gathering.js";
 import { ask } from "./question.js";
 import { Run } from "./run.js";
 
-const STOPPED = "The run was stopped.", CHECKED = "A check has ended the run.";
+const STOPPED = "The run was stopped.";
 
 export class Runs {
   /** @param {Page} page */
@@ -160,16 +161,28 @@ export class Runs {
   }
 
   // Says why a run came to no end. As much of it as is known is shown; if nothing is, the run before. (What was refused
-  // memory, or gave way to something else, is not run anew.)
+  // memory is not run anew.)
   /** @param {string} words */
   fail(words) {
     const { began, page: { view } } = this;
     const partial = words === STOPPED ? this.partial : this.kept;
     this.leave();
     view.busy(false);
-    if (!began || !partial) return this.stay(words + untakenSaid(began?.inputs ?? [], this.page.run?.inputs ?? []));
+    if (!began || !partial) return this.stay(words + this.untaken(began));
     view.showWords(words);
-    return this.takePartial(began, partial, words);
+    this.takePartial(began, partial, words);
+    return undefined;
+  }
+
+  // The lines that were given for a run that came to nothing: they are not to be lost.
+  /** @param {Begin | null} began */
+  untaken(began) {
+    const known = this.page.run?.inputs ?? [];
+    const isKnown = (/** @type {import("./run.js").Line} */ { step, bytes }) =>
+      known.some((line) => line.step === step && isEqual(line.bytes, bytes));
+    const lost = (began?.inputs ?? []).filter((line) => !isKnown(line));
+    const told = lost.map(({ bytes }) => legible(new TextDecoder().decode(bytes).trimEnd()));
+    return told.length > 0 ? ` Not taken: ${told.join("; ")}.` : "";
   }
 
   // Shows the run before, after words that say why there is no other, or nothing.
@@ -210,20 +223,6 @@ export class Runs {
     // (a number that was typed may not be reached)
     if (this.page.run) view.showPlace();
     view.note("stopped");
-  }
-
-  // Does a check in place of all that goes on, which would else have it wait. After that the calls are listed of the
-  // run that is shown, if they are not.
-  /** @param {() => Promise<void>} does */
-  async instead(does) {
-    const { page } = this;
-    page.cursor.turn++;
-    page.cursor.play(0);
-    page.drop();
-    if (this.began) await this.fail(CHECKED);
-    if (page.run) page.view.showPlace();
-    await does();
-    if (page.run && !page.run.isGathered && page.background.waiting.size === 0) gather(page, page.run);
   }
 
   // Whether input may be given where the cursor is.

@@ -1,7 +1,7 @@
 // What stood in the editor before another program was opened, and after it: it can be brought back. This is for
 // convenience: what was typed is kept besides (drafts.js), and what could not be kept stays in these lists.
-import { byId, elementOf, focused } from "./elements.js";
-import { isAside, isWriting } from "./focus.js";
+import { byId, elementOf } from "./elements.js";
+import { isWriting } from "./focus.js";
 import { legible } from "./unseen.js";
 
 // So many programs that stood there before are held, and so many bytes of them.
@@ -32,12 +32,6 @@ export class Undoing {
     /** @type {(name: string) => void} what is told that such a program is back */
     this.restored = () => {};
     document.addEventListener("keydown", (event) => this.key(event));
-    // (Chromium has one history for all boxes: from another box, or behind a dialog, nothing of it is to be undone)
-    document.addEventListener("beforeinput", (event) => {
-      const box = elementOf(event), held = focused();
-      const isElsewhere = held !== box && held !== editor.box && isWriting(held);
-      if (event.inputType.startsWith("history") && (isElsewhere || isAside(box))) event.preventDefault();
-    });
     byId("undo").addEventListener("click", () => this.goBack(this.before, this.after));
   }
 
@@ -83,7 +77,7 @@ export class Undoing {
   key(event) {
     const { box, isTouched } = this.editor, key = event.key.toLowerCase();
     if (!(event.ctrlKey || event.metaKey) || event.altKey || !["z", "y"].includes(key)) return;
-    const isElsewhere = elementOf(event) !== box && (isWriting(elementOf(event)) || isAside(elementOf(event)));
+    const isElsewhere = elementOf(event) !== box && isWriting(elementOf(event));
     const isAgain = key === "y" || event.shiftKey;
     if (isElsewhere || isTouched || event.repeat || !(isAgain ? this.after : this.before).length) return;
     event.preventDefault();

@@ -228,10 +228,6 @@ class Browser(Waiting):
         """Writes a text where the focus is, in place of what is chosen there."""
         self.call("Input.insertText", text=text)
 
-    def compose(self, text: str) -> None:
-        """Composes a word where the focus is, as an input method does that is not done with it yet."""
-        self.call("Input.imeSetComposition", text=text, selectionStart=len(text), selectionEnd=len(text))
-
     def click_at(self, x: float, y: float) -> None:
         """Clicks there by the mouse."""
         for kind in ("mousePressed", "mouseReleased"):

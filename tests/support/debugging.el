@@ -19,7 +19,7 @@
 
 (defun wait ()
   "Wait until the program stands, and print where."
-  (let ((left 6000))
+  (let ((left 1000))
     (while (and (not frame) (> left 0))
       (accept-process-output nil 0.01)
       (setq left (1- left))))

@@ -77,8 +77,4 @@ const { activate } = require(resolve(extension));
   console.log(`debug ${name} ${program === document.fileName}`);
   console.log(registered.adapter.createDebugAdapterDescriptor().given[1].join(" "));
   for (const it of subscriptions) it.dispose();
-  // (the first may be asked while the server ends)
-  for (let count = 0; count < 2; count++) {
-    console.log(`after the end ${await registered.hover.provideHover(document, { line: 1, character: 3 })}`);
-  }
 })();

@@ -44,8 +44,7 @@ class Missed(Exception):
 
 
 class Waiting:
-    """What is waited for; a browser's class has beside that what is only named here (`resize` and `compose`
-    Chromium's alone)."""
+    """What is waited for; a browser's class has beside that what is only named here (`resize` Chromium's alone)."""
 
     name: str
     is_slow: bool
@@ -58,7 +57,6 @@ class Waiting:
     call: Callable[..., Any]
     load: Callable[..., None]
     resize: Callable[[int, int], None]
-    compose: Callable[[str], None]
     script: Callable[[str], Any]
     press: Callable[..., None]
     insert: Callable[[str], None]

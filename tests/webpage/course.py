@@ -15,10 +15,6 @@ PATIENT = """(() => {
   const set = window.setTimeout;
   window.setTimeout = (does, time, ...words) => set(does, time === 60000 ? 3600000 : time, ...words);
 })()"""
-# Here a check is stopped sooner. And programs without end, whose states are large, and small.
-HASTY = PATIENT.replace("3600000", "10000")
-SLOW = "#(ds,A,({}))'#(ds,L,(#(ps,x)#(ds,B,##(cl,A))#(cl,L)))'#(cl,L)'".format("a" * 200 * 1024)
-QUICK = "#(ds,L,(#(ps,x)#(cl,L)))'#(cl,L)'#(ps,{})'".format("a" * 300 * 1024)
 # Programs for exercise 5.1, and what a check says of each, as trac course says it.
 CHECKED = (
     ("#(ds,down,(#(cl,down)))'", "Run 1 of 2: it has not ended within 10,000,000 steps"),
@@ -154,43 +150,9 @@ def check_failure(page: Deeds) -> None:
     check(page.script("document.getElementById('lesson').hidden"), "the lesson is closed")
 
 
-def check_while_it_runs(page: Deeds) -> None:
-    """A check ends a run that goes on, of which what is known stays."""
-    shows(page, "5.1 A countdown")
-    page.script(HASTY)
-    for program, rest in ((SLOW, ""), (QUICK, " After ")):
-        page.put(program)
-        page.click("document.getElementById('run')")
-        page.until("document.getElementById('ending').textContent.includes('steps so far')", "it goes on")
-        said = judged(page, CHECKED[-1][0])
-        check("It is solved" in said, "what is said of the program: " + said)
-        ending = page.text("ending")
-        check(page.script("document.getElementById('stop').hidden"), "nothing goes on")
-        check(ending.startswith("A check has ended the run." + rest), "what is said of the run: " + ending)
-    page.until("/^[\\d,]+/.test(document.getElementById('tree-count').textContent)", "its calls are listed")
-
-
-def check_twice(page: Deeds) -> None:
-    """Who checks twice is told what the last check came to, and nothing of the one before."""
-    shows(page, "5.1 A countdown")
-    page.put(SLOW)
-    page.script("""(() => {
-      window.told = [];
-      const said = document.querySelector('.judged');
-      new MutationObserver(() => window.told.push(said.textContent)).observe(said, { childList: true });
-    })()""")
-    press(page, "Check")
-    page.put(CHECKED[-1][0])
-    press(page, "Check")
-    page.until("document.querySelector('.judged').textContent.includes('It is solved')", "the last one is judged")
-    told = page.script("window.told")
-    check(not any("stopped" in one for one in told), "what is told: {}".format(told))
-
-
 def patient(page: Deeds) -> None:
     """No check is stopped for its time."""
     page.script(PATIENT)
 
 
-TRIED = (rows(check_lines, check_lessons, check_exercises, check_failure, before=patient, where=ONE, seconds=10)
-         + rows(check_while_it_runs, check_twice, seconds=10))
+TRIED = rows(check_lines, check_lessons, check_exercises, check_failure, before=patient, where=ONE, seconds=10)

@@ -7,7 +7,7 @@ import os
 import tempfile
 
 from webpage.pages import Deeds, check, ready
-from webpage.rows import CHROMIUM, file_of, rows
+from webpage.rows import file_of, rows
 from webpage.share import body, link
 from webpage.tabs import close, new_tab, tab_of, turn
 from webpage.window import pick
@@ -49,16 +49,6 @@ ASKING = ("#(ds,L,(#(eq,N,0,,(#(cl,L,#(su,N,1))))))'#(ss,L,N)'#(ps,(a? ))#(ds,A,
           "#(ps,(b? ))#(ds,B,##(rs))#(cl,L,20000)#(ps,(a=))#(ps,##(cl,A))#(ps,( b=))#(ps,##(cl,B))'")
 ENDED = "document.getElementById('stop').hidden && document.getElementById('output').textContent.includes('{}')"
 LONG = ("#(ps,({}))'\n".format("x" * 1000)) * 1100
-ENDING = "document.getElementById('ending')"
-# How a file may be read: never to its end, not at all, or as others are; and drops one.
-NEVER = "File.prototype.arrayBuffer = () => new Promise(() => {})"
-FAILS = "File.prototype.arrayBuffer = () => Promise.reject(new Error('gone'))"
-WELL = "delete File.prototype.arrayBuffer"
-DROP = """(() => {
-  const data = new DataTransfer();
-  data.items.add(new File(["#(ps,dropped)'"], 'dropped.trac'));
-  document.body.dispatchEvent(new DragEvent('drop', { dataTransfer: data, bubbles: true, cancelable: true }));
-})()"""
 
 
 def typed(page: Deeds, text: str) -> None:
@@ -249,27 +239,6 @@ def check_at_once(page: Deeds) -> None:
     check(page.script(TEXTS) == ["#(ps,two)'"], "as one program: {}".format(page.script(TEXTS)))
 
 
-def check_without_pause(page: Deeds) -> None:
-    """What is typed is kept within about a second, also if nobody ever pauses."""
-    page.type("first")
-    page.until(IS_KEPT.format("first"), "it is kept")
-    page.script("""(() => {
-      const box = document.getElementById('source'), began = performance.now();
-      const timer = setInterval(() => {
-        box.setRangeText('x', 0, 0, 'end');
-        box.dispatchEvent(new Event('input'));
-        if (performance.now() - began < 3000) return;
-        clearInterval(timer);
-        const texts = Object.keys(localStorage).filter((key) => key.startsWith('trac.work.'))
-          .map((key) => JSON.parse(localStorage[key]).text);
-        window.typedAndKept = [box.value.length, Math.max(...texts.map((text) => text.length))];
-      }, 100);
-    })()""")
-    page.until("window.typedAndKept !== undefined", "it was typed for 3 seconds")
-    typed_signs, kept_signs = page.script("window.typedAndKept")
-    check(kept_signs >= typed_signs - 15, "of {} signs {} are kept".format(typed_signs, kept_signs))
-
-
 def check_full(page: Deeds) -> None:
     """Where the browser has no room, it says so, and asks before another program is opened, or the page is left."""
     typed(page, "small")
@@ -310,16 +279,6 @@ def check_too_long(page: Deeds) -> None:
     page.until(VALUE + ".length > 1000000", "it is back")
     page.click("document.getElementById('save')")
     check(not page.script(ASKS), "what is saved is left")
-
-
-def check_too_long_replaced(page: Deeds) -> None:
-    """What was kept of a program before it grew too long stays, where another text is typed in place of that."""
-    typed(page, "small")
-    page.put(LONG)
-    page.until(NOTE + ".includes('1 MiB')", "it is not kept")
-    typed(page, "other")
-    check(page.script(IS_KEPT.format("small")), "it is kept: {}".format(page.script(ENTRIES)))
-    go_on(page, "small")
 
 
 def check_forgotten(page: Deeds) -> None:
@@ -539,85 +498,6 @@ def check_undone(page: Deeds) -> None:
     check(page.script(VALUE) in whole, "nor in one that is brought back: " + page.script(VALUE))
 
 
-def check_undo_elsewhere(page: Deeds) -> None:
-    """Ctrl+Z in the box of a dialog, on a button of it or beside these undoes what was typed in the box alone: the
-    program stays, and what was typed there can be undone later."""
-    page.type("#(ps,mine)'")
-    pick(page, "hello.trac")
-    page.type("#(ps,mine)'")
-    page.script("document.getElementById('source').setSelectionRange(0, 0)")
-    page.insert("AAA")
-    page.script("document.getElementById('open').click()")
-    for name in "paste", "open-close":
-        page.script("document.getElementById('{}').focus()".format(name))
-        page.press("z", times=2, control=True)
-        page.press("y", control=True)
-    page.script("document.getElementById('paste').focus()")
-    page.insert("xyz")
-    page.press("z", times=3, control=True)
-    check(page.script("document.getElementById('paste').value") == "", "the box has its own history")
-    page.script("document.activeElement.blur()")
-    page.press("z", control=True)
-    page.press("Enter", control=True)
-    page.script("document.getElementById('open-box').close()")
-    check(page.script(VALUE) == "AAA#(ps,mine)'", "the program stays: " + page.script(VALUE))
-    check("Press Run" in page.text("ending"), "nor is it run by keys: " + page.text("ending"))
-    page.script("document.getElementById('source').focus()")
-    page.press("z", control=True)
-    check(page.script(VALUE) == "#(ps,mine)'", "what was typed is undone there: " + page.script(VALUE))
-    page.press("y", control=True)
-    check(page.script(VALUE) == "AAA#(ps,mine)'", "and done again: " + page.script(VALUE))
-
-
-def check_composed(page: Deeds) -> None:
-    """A word that is composed in place of a whole program begins one entry; and is kept as far as it is there, where
-    another program is opened before it is done."""
-    typed(page, "mine")
-    page.script("document.getElementById('source').select()")
-    for count in range(1, 5):
-        page.compose("\u306b\u307b\u3093\u3054"[:count])
-    pick(page, "hello.trac")
-    hello = page.script(VALUE)
-    page.rest(400)
-    check(page.script(TEXTS) == ["\u306b\u307b\u3093\u3054"], "the word is kept: {}".format(page.script(TEXTS)))
-    check(page.script(ENTRIES + ".length") == 2, "in one entry: {}".format(page.script(ENTRIES)))
-    check("\u306b" not in hello and page.script(VALUE) == hello, "nothing of it stands in the other: " + hello[:40])
-    page.click(UNDO)
-    check(page.script(VALUE) == "\u306b\u307b\u3093\u3054", "it is brought back: " + page.script(VALUE)[:40])
-    go_on(page, "mine")
-
-
-def check_not_read(page: Deeds) -> None:
-    """A file whose reading fails, or never ends: that is said beside how the run ended, and the page goes on."""
-    typed(page, "mine")
-    page.run()
-    for reads, words in ((FAILS, "dropped.trac cannot be read. Nothing is opened."),
-                         (NEVER, "dropped.trac is not read yet. It opens once it is.")):
-        page.script("({}, 0)".format(reads))
-        page.script(DROP)
-        page.until(ENDING + ".textContent.startsWith('{}')".format(words), "it is said")
-        ending = page.text("ending")
-        check("Done after " in ending and page.script(ENDING + ".querySelector('button') !== null"),
-              "how the run ended, with its button: " + ending)
-        check(page.script(VALUE) == "#(ps,mine)'", "the program stays: " + page.script(VALUE))
-    page.run()
-    check(page.text("output") == "mine", "it runs: " + page.text("output"))
-    with tempfile.TemporaryDirectory() as room:
-        path = os.path.join(room, "chosen.trac")
-        with open(path, "w", encoding="utf-8") as file:
-            file.write("#(ps,chosen)'")
-        page.choose_file("#file", path)
-        page.until(ENDING + ".textContent.startsWith('chosen.trac is not read yet')", "so is a file that is chosen")
-        check(page.script("document.getElementById('file').value") == "", "it may be chosen again")
-        pick(page, "hello.trac")
-        page.script(WELL)
-        page.choose_file("#file", path)
-        page.until(VALUE + " === \"#(ps,chosen)'\"", "it is opened")
-    page.script(DROP)
-    page.until(VALUE + " === \"#(ps,dropped)'\"", "so is one that is dropped")
-    go_on(page, "mine")
-
-
 def check_question(page: Deeds) -> None:
     """A question has No first, so that Enter loses nothing."""
     page.script("document.getElementById('question').showModal()")
@@ -627,10 +507,8 @@ def check_question(page: Deeds) -> None:
 
 
 TRIED = (rows(check_draft, check_opened, check_brought_back, check_many_opened, check_many_typed, check_replaced,
-              check_same_time, check_at_once, check_without_pause, check_full, check_too_long,
-              check_forgotten, check_saved, check_older,
+              check_same_time, check_at_once, check_full, check_too_long, check_forgotten, check_saved, check_older,
               check_typed_before_a_link, check_lines_ahead, check_lines_stopped, check_raced, check_undo, check_undone,
-              check_undo_elsewhere, check_not_read, check_question)
-         + rows(check_composed, check_too_long_replaced, where=CHROMIUM)
+              check_question)
          + rows(check_large_files, seconds=10)
          + rows(check_two_tabs, check_early, check_not_ready, given=file_of, seconds=5))

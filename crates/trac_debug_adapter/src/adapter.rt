@@ -1,16 +1,18 @@
 //! The adapter: what it knows, and what it responds to each request.
 
-use crate::evaluating::{form_named, obey};
-use crate::launching::{launch_of, launched, refusal};
+use crate::breakpoints::{Breakpoints, watchable};
+use crate::debuggee::{Debuggee, Launch};
+use crate::launching::{launch_of, launched};
+use crate::messages::{Request, number_at, text_at};
+use crate::moving::{Move, move_of};
+use crate::outbox::Outbox;
 use crate::programs::Programs;
+use crate::progress::Progress;
+use crate::running::{Run, Way};
+use crate::stopping::{Halt, THREAD, tell_stop};
+use crate::variables::scopes;
 use serde_json::{Value, json};
 use std::alloc::{AllocError, Allocator, Global};
-use trac_breakpoints::{Breakpoints, File, Request, number_at, text_at, watchable};
-use trac_debug_messages::{
-    Outbox, Progress, THREAD, exception_of, scopes, stack, tell_output, tell_stop, variables,
-};
-use trac_debuggee::{Debuggee, Halt, Launch, Move, Run, Way, move_of};
-use trac_streams::Ending;
 
 // What is said where nothing can be changed.
 const NO_CHANGE: &str =
@@ -125,7 +127,6 @@ impl<'p, P: Programs<A>, A: Allocator + Copy> Adapter<'p, P, A> {
     // Responds to a request.
     fn answer(&mut self, request: Request<'_>, outbox: &mut Outbox) -> Result<(), AllocError> {
         match request.command.as_bytes() {
-            b"initialize" if self.is_begun => outbox.refuse(request, "initialize came already"),
             b"initialize" => self.begin(request, outbox),
             _ if !self.is_begun => outbox.refuse(request, "initialize has to come first"),
             b"launch" => self.launch(request, outbox),
@@ -163,7 +164,6 @@ impl<'p, P: Programs<A>, A: Allocator + Copy> Adapter<'p, P, A> {
             "supportsTerminateRequest": true,
             "supportsEvaluateForHovers": true,
             "supportsDelayedStackTraceLoading": true,
-            "supportsExceptionInfoRequest": true,
             "exceptionBreakpointFilters": [
                 {"filter": "doubts", "label": "What is seldom meant"},
                 {"filter": "limit", "label": "A limit is passed"}
@@ -186,11 +186,10 @@ impl<'p, P: Programs<A>, A: Allocator + Copy> Adapter<'p, P, A> {
         if let Some(arguments) = request.arguments.get("arguments") {
             return self.start(request, arguments, outbox);
         }
-        let launch = match &self.debuggee {
-            Some(debuggee) => debuggee.launch.copy()?,
-            None => return outbox.refuse(request, "no program is launched"),
+        let Some(debuggee) = self.debuggee.take() else {
+            return outbox.refuse(request, "no program is launched");
         };
-        self.start_as(request, &launch, outbox)
+        self.start_as(request, debuggee.into_launch(), outbox)
     }
 
     // Launches the program that these arguments ask for.
@@ -201,36 +200,27 @@ impl<'p, P: Programs<A>, A: Allocator + Copy> Adapter<'p, P, A> {
         outbox: &mut Outbox,
     ) -> Result<(), AllocError> {
         match launch_of(self.global, arguments)? {
-            Ok(launch) => self.start_as(request, &launch, outbox),
+            Ok(launch) => self.start_as(request, launch, outbox),
             Err(why) => outbox.refuse(request, why),
         }
     }
 
-    // The same of a launch. The program that stands goes once the other one is had, or where there is no memory for both.
+    // The same of a launch. If there is no program, there is none any longer.
     fn start_as(
         &mut self,
         request: Request<'_>,
-        launch: &Launch,
+        launch: Launch,
         outbox: &mut Outbox,
     ) -> Result<(), AllocError> {
-        let made = match launched(self.alloc, self.programs, launch) {
-            Err((_, Ending::Memory)) => {
-                self.debuggee = None;
-                launched(self.alloc, self.programs, launch)
-            }
-            made => made,
-        };
-        match made {
+        self.debuggee = None;
+        match launched(self.alloc, self.global, self.programs, launch)? {
             Ok(debuggee) => {
                 self.debuggee = Some(debuggee);
                 self.breakpoints.forget_hits();
                 outbox.respond(request, json!(in self.global; {})?)?;
                 self.enter(outbox)
             }
-            Err((path, ending)) => {
-                let why = refusal(self.global, path, ending)?;
-                outbox.refuse(request, why.as_str())
-            }
+            Err(why) => outbox.refuse(request, why.as_str()),
         }
     }
 
@@ -273,32 +263,23 @@ impl<'p, P: Programs<A>, A: Allocator + Copy> Adapter<'p, P, A> {
         halt: Halt,
         outbox: &mut Outbox,
     ) -> Result<(), AllocError> {
-        tell_output(debuggee, self.global, self.firsts, outbox)?;
+        debuggee.tell_output(self.global, self.firsts, outbox)?;
         tell_stop(self.global, debuggee, halt, self.breakpoints.limit, outbox)
     }
 
     // Responds to a request that sets breakpoints.
     fn set(&mut self, request: Request<'_>, outbox: &mut Outbox) -> Result<(), AllocError> {
         let body = match request.command.as_bytes() {
-            b"setBreakpoints" => {
-                let file = self.file(request);
-                self.breakpoints.set_lines(request, self.firsts.0, file)?
-            }
+            b"setBreakpoints" => self.breakpoints.set_lines(request, self.firsts.0)?,
             b"setFunctionBreakpoints" => self.breakpoints.set_calls(request)?,
             b"setDataBreakpoints" => self.breakpoints.set_watches(request)?,
             b"setExceptionBreakpoints" => self.breakpoints.set_exceptions(request)?,
-            b"dataBreakpointInfo" => watchable(self.global, request)?,
+            b"dataBreakpointInfo" => {
+                watchable(self.global, request.text("/name").unwrap_or(""))?
+            }
             _ => return self.show(request, outbox),
         };
         outbox.respond(request, body)
-    }
-
-    // What is known of the file in which a request sets breakpoints.
-    fn file(&self, request: Request<'_>) -> File {
-        match &self.debuggee {
-            Some(debuggee) => debuggee.file(request.text("/source/path").unwrap_or("")),
-            None => File::Unknown,
-        }
     }
 
     // Responds to a request about a program that is launched.
@@ -322,10 +303,9 @@ impl<'p, P: Programs<A>, A: Allocator + Copy> Adapter<'p, P, A> {
         outbox: &mut Outbox,
     ) -> Result<(), AllocError> {
         let body = match request.command.as_bytes() {
-            b"stackTrace" => stack(debuggee, self.global, request, self.firsts)?,
+            b"stackTrace" => debuggee.stack(self.global, request, self.firsts)?,
             b"scopes" => scopes(self.global, request.number("/frameId").unwrap_or(0))?,
-            b"variables" => variables(debuggee, self.global, request)?,
-            b"exceptionInfo" => exception_of(self.global, debuggee)?,
+            b"variables" => debuggee.variables(self.global, request)?,
             b"evaluate" => return self.evaluate(debuggee, request, outbox),
             _ => return match move_of(request) {
                 Some(asked) => self.go(debuggee, request, asked, outbox),
@@ -351,17 +331,10 @@ impl<'p, P: Programs<A>, A: Allocator + Copy> Adapter<'p, P, A> {
             self.run = Some(debuggee.run(way, &self.breakpoints)?);
             return Ok(());
         }
-        let start = debuggee.walker.step();
-        let Some(halt) = debuggee.go(asked) else {
-            return Ok(());
-        };
-        if matches!(asked, Move::Over | Move::Out) {
-            self.run = debuggee.run_again(start, halt, &self.breakpoints)?;
+        match debuggee.go(asked) {
+            Some(halt) => self.stop(debuggee, halt, outbox),
+            None => Ok(()),
         }
-        if self.run.is_some() {
-            return Ok(());
-        }
-        self.stop(debuggee, halt, outbox)
     }
 
     // Responds to what a person asks for at the console, or to one who points at a name. The program is elsewhere then
@@ -373,13 +346,13 @@ impl<'p, P: Programs<A>, A: Allocator + Copy> Adapter<'p, P, A> {
         outbox: &mut Outbox,
     ) -> Result<(), AllocError> {
         if request.text("/context") != Some("repl") {
-            return match form_named(debuggee, self.global, request)? {
+            return match debuggee.form_named(self.global, request)? {
                 Some(body) => outbox.respond(request, body),
                 None => outbox.refuse(request, "there is no form of this name"),
             };
         }
         let step = debuggee.walker.step();
-        let body = obey(debuggee, self.global, request)?;
+        let body = debuggee.obey(self.global, request)?;
         outbox.respond(request, body)?;
         if debuggee.walker.step() == step {
             return Ok(());

@@ -1,10 +1,10 @@
 //! Programs, as they are launched.
 
+use crate::debuggee::{Debuggee, Launch};
+use crate::messages::{number_at, text_at};
 use crate::programs::{Programs, unread};
 use serde_json::Value;
 use std::alloc::{AllocError, Allocator, Global};
-use trac_breakpoints::{number_at, text_at};
-use trac_debuggee::{Debuggee, Launch};
 use trac_rules::width::Width;
 use trac_streams::Ending;
 
@@ -41,38 +41,33 @@ pub(crate) fn launch_of(
     }))
 }
 
-/// The program that is launched, before its first step, or the path of the file for which there is none, and why.
-pub(crate) fn launched<'l, P: Programs<A>, A: Allocator + Copy>(
+/// The program that is launched, before its first step, or why there is none.
+pub(crate) fn launched<P: Programs<A>, A: Allocator + Copy>(
     alloc: A,
+    global: Global,
     programs: &P,
-    launch: &'l Launch,
-) -> Result<Debuggee<A>, (&'l str, Ending)> {
-    let path = launch.program.as_str();
-    let mut tape = match programs.read(path) {
+    launch: Launch,
+) -> Result<Result<Debuggee<A>, String>, AllocError> {
+    let mut tape = match programs.read(launch.program.as_str()) {
         Ok(tape) => tape,
-        Err(ending) => return Err((path, ending)),
+        Err(ending) => return Ok(Err(refusal(global, launch.program.as_str(), ending)?)),
     };
     let len = tape.len();
-    if let Some(input) = &launch.input {
-        let text = match programs.read(input.as_str()) {
-            Ok(text) => text,
-            Err(ending) => return Err((input.as_str(), ending)),
-        };
-        if tape.extend_from_slice(text.as_slice()).is_err() {
-            return Err((input.as_str(), Ending::Memory));
+    if let Some(path) = &launch.input {
+        match programs.read(path.as_str()) {
+            Ok(input) => tape.extend_from_slice(input.as_slice())?,
+            Err(ending) => return Ok(Err(refusal(global, path.as_str(), ending)?)),
         }
     }
-    let Ok(launch) = launch.copy() else {
-        return Err((path, Ending::Memory));
-    };
+    let name = launch.program.clone()?;
     match Debuggee::new(alloc, launch, tape, len) {
-        Ok(debuggee) => Ok(debuggee),
-        Err(ending) => Err((path, ending)),
+        Ok(debuggee) => Ok(Ok(debuggee)),
+        Err(ending) => Ok(Err(refusal(global, name.as_str(), ending)?)),
     }
 }
 
-/// Why the file at a path is not had. The error is that memory was refused.
-pub(crate) fn refusal(global: Global, path: &str, ending: Ending) -> Result<String, AllocError> {
+// Why the file at a path is not had.
+fn refusal(global: Global, path: &str, ending: Ending) -> Result<String, AllocError> {
     let why = unread(ending);
     format!(in global; "{path}: {why}")
 }

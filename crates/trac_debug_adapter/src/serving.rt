@@ -1,10 +1,10 @@
 //! The exchange with an editor: requests from a reader, responses and events to a writer.
 
 use crate::adapter::{Adapter, Turn, refuse_all};
+use crate::outbox::Outbox;
 use crate::programs::Programs;
 use std::alloc::{AllocError, Allocator, Global};
 use std::io::{Read, Write};
-use trac_debug_messages::Outbox;
 use trac_messages::{Incoming, Next, write_message};
 use trac_streams::Ending;
 

@@ -9,7 +9,7 @@ use trac_follow_step::Place;
 /// A place in a state that borrows nothing from the machine: the name of its form is lent by the caller of the trace,
 /// or is a copy.
 #[derive(Drop)]
-pub enum KeptPlace<'n, A: Allocator> {
+pub(crate) enum KeptPlace<'n, A: Allocator> {
     /// The place where the trace begins; or a place in no form, which needs no name.
     Lent(Place<'n>),
     /// An item of the form of this name.
@@ -20,7 +20,7 @@ pub enum KeptPlace<'n, A: Allocator> {
 
 impl<'n, A: Allocator> KeptPlace<'n, A> {
     /// This place. The error is that memory was refused for the name of its form.
-    pub fn of(alloc: A, place: Place<'_>) -> Result<Self, AllocError>
+    pub(crate) fn of(alloc: A, place: Place<'_>) -> Result<Self, AllocError>
         ensures kept { IfOk result (λ kept. kept_place kept ≡ place_of place.entry) }
         ensures stored { OnErr result (is_in_storage (place_of place.entry) ≡ true) }
     {
@@ -45,7 +45,7 @@ impl<'n, A: Allocator> KeptPlace<'n, A> {
     }
 
     /// The place, which is lent the name.
-    pub fn place(&self) -> Place<'_>
+    pub(crate) fn place(&self) -> Place<'_>
         ensures { place_of result ≡ kept_place self.now }
     {
         match self {

@@ -7,6 +7,5 @@ mod kept;
 pub mod tracing;
 
 pub use history::{Followed, Source, follow};
-pub use kept::KeptPlace;
 pub use trac_follow_step::{After, Origin, Place, origin_of};
 pub use tracing::{End, Traced, Witness, trace};

@@ -1,8 +1,6 @@
 -- Calls in the lists of a journal: the newest one lent, taken out and put there.
-use Rattle.std.proofs.Common.{◌≡◌, ℕ, ◌+◌, ◌≤◌, List, [], ◌∷◌, ◌++◌, length, map, take, drop, refl, sym, ap, subst, ◌∙◌, arith}
-use Rattle.std.specs.Int.{from_bool}
+use Rattle.std.proofs.Common.{◌≡◌, ℕ, ◌+◌, ◌≤◌, List, [], ◌∷◌, ◌++◌, length, map, take, drop, sym, ap, subst, ◌∙◌, arith}
 use Rattle.std.specs.List.{concat, sum}
-use Rattle.std.specs.Prelude.{Option, None, Some, is_some}
 use Rattle.std.proofs.lemmas.List.{length-append, length-map, length-take-le}
 use Rattle.trac_rules.specs.Records.{Called, last_of}
 use Rattle.trac_rules.specs.Undone.{Undone, Nothing, Point}
@@ -55,11 +53,6 @@ call_weighs calls older c bytes commas first has undone =
     of_first ∙ ap (λ (cs : List CallEntry). weight (call_of cs undone bytes commas)) (sym first)
 
 -- ---- a further call
-
--- a meta character weighs one, where there is one
-pub meta_weighs : (meta : Option ℕ) → from_bool (is_some meta) ≡ meta_weight meta
-meta_weighs None = refl
-meta_weighs (Some byte) = refl
 
 -- the lists with a call before the others, what it destroyed aside
 record WithCall (called : code.Called) (texts : List (List ℕ)) (old new : Listed) : Type 0 where

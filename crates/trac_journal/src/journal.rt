@@ -17,7 +17,7 @@ use crate::emptied::Emptied;
 use crate::entry::{Entry, Kept};
 use crate::keeper::Keeper;
 use crate::lists::{Lists, weigh_brief};
-use std::alloc::{Allocator, Global};
+use std::alloc::{AllocError, Allocator, Global};
 use std::collections::VecDeque;
 use std::marker::Model;
 use std::mem;
@@ -99,6 +99,23 @@ impl<A: Allocator + Copy> Journal<A> {
         self.len += n;
     }
 
+    // Keeps one record more that an entry holds.
+    #[inline(always)]
+    fn push_brief(&mut self, kept: Kept)
+        requires not_full { length self.old.records < JOURNAL_LIMIT }
+        requires place { 1 ≤ self.old.places }
+        requires brief { IsBrief kept }
+        ensures { self.new.records ≡ newest_in kept nothing_listed ∷ self.old.records }
+    {
+        self.entries.push_back_reserved(Entry {
+            moved: self.moved as u32,
+            kept,
+        });
+        self.moved = 0;
+        self.len += 1;
+        self.weight += weigh_brief(kept);
+    }
+
     /// Takes out the records of the bytes that were moved last, up to `most` of them, and returns how many these are:
     /// fewer than `most` only if the newest record then is of another kind, or there is none.
     pub fn pop_moved(&mut self, most: usize) -> usize
@@ -135,23 +152,19 @@ impl<A: Allocator + Copy> Keeper<A> for Journal<A> {
 
     ghost has_idle_room = { λ j. HasPlaceForIdle j };
 
-    // Most often there is a place for one more entry, and then nothing is called.
-    #[inline(always)]
     fn reserve_short(&mut self) -> Result<(), Refusal> {
-        if self.entries.len() == self.entries.capacity() {
-            self.entries.reserve(1)?;
-        }
+        reserve_entry(&mut self.entries)?;
         Ok(())
     }
 
     fn reserve_call(&mut self, arguments: &Args<'_>) -> Result<(), Refusal> {
-        self.reserve_short()?;
+        reserve_entry(&mut self.entries)?;
         self.lists
             .reserve_call(arguments.joined().len(), arguments.comma_count())
     }
 
     fn reserve_idle(&mut self) -> Result<(), Refusal> {
-        self.reserve_short()?;
+        reserve_entry(&mut self.entries)?;
         self.lists.reserve_idle()
     }
 
@@ -162,29 +175,24 @@ impl<A: Allocator + Copy> Keeper<A> for Journal<A> {
 
     #[inline(always)]
     fn push_short(&mut self, newest: Short) {
-        let (kept, weight) = match newest {
-            Short::Moved => return self.push_moved(1),
-            Short::Comma => (Kept::Comma, 0),
-            Short::Begun => (Kept::Begun, 0),
-            Short::Quoted { inner, closed } => {
-                let inner = inner as u32;
-                (Kept::Quoted { closed, inner }, 0)
-            }
-            Short::Deleted(byte) => (Kept::Deleted(byte), 1),
-        };
-        self.entries.push_back_reserved(Entry {
-            moved: self.moved as u32,
-            kept,
-        });
-        self.moved = 0;
-        self.len += 1;
-        self.weight += weight;
+        match newest {
+            Short::Moved => self.push_moved(1),
+            Short::Comma => self.push_brief(Kept::Comma),
+            Short::Begun => self.push_brief(Kept::Begun),
+            Short::Quoted { inner, closed } => self.push_brief(Kept::Quoted {
+                closed,
+                inner: inner as u32,
+            }),
+            Short::Deleted(byte) => self.push_brief(Kept::Deleted(byte)),
+        }
     }
 
     #[inline(always)]
     fn push_call(&mut self, called: Called, arguments: &Args<'_>, undone: &mut Undone<A>) {
         let undone = mem::replace(undone, Undone::Nothing);
-        let (kept, weight) = self.lists.push_call(called, arguments, undone);
+        let bytes = arguments.joined().len();
+        let weight = weigh_call(bytes + arguments.comma_count(), called.meta, &undone);
+        let kept = self.lists.push_call(called, arguments, undone);
         self.entries.push_back_reserved(Entry {
             moved: self.moved as u32,
             kept,
@@ -298,4 +306,17 @@ pub fn weigh_call<A: Allocator + Copy>(len: usize, meta: Option<u8>, undone: &Un
         Some(_byte) => kept as u64 + 1,
         None => kept as u64,
     }
+}
+
+// Makes a place for one more entry. Most often there is one, and then nothing is called.
+#[inline(always)]
+fn reserve_entry<A: Allocator>(entries: &mut VecDeque<Entry, A>) -> Result<(), AllocError>
+    ensures items { entries.new.items ≡ entries.old.items }
+    ensures ok { OnOk result (deque_len entries.new + 1 ≤ deque_capacity entries.new) }
+    ensures full { OnErr result (deque_capacity entries.old ≡ deque_len entries.old) }
+{
+    if entries.len() < entries.capacity() {
+        return Ok(());
+    }
+    entries.reserve(1)
 }

@@ -8,7 +8,7 @@ ghost use Rattle.trac_rules.specs.Undone as rules;
 ghost use Rattle.trac_rules.specs.Weights.{meta_weight, undone_weight, weight};
 ghost use Rattle.trac_journal.specs.Dropped.{printed_at, without_oldest, EndsWithCall, IsGone, IsGoneCall};
 ghost use Rattle.trac_journal.specs.Dropped.{IsOldest};
-ghost use Rattle.trac_journal.specs.Journaled.{HasRoom, IsLight};
+ghost use Rattle.trac_journal.specs.Journaled.{HasRoom};
 ghost use Rattle.trac_journal.specs.Listed.{call_of, called_in, idle_of, newest_in, newest_undone};
 ghost use Rattle.trac_journal.specs.Listed.{nothing_listed, older_undone, without_call, AreSmall, HasCall, HasMore};
 ghost use Rattle.trac_journal.specs.Listed.{Holds, IsBrief, IsKept, Listed};
@@ -110,43 +110,29 @@ impl<A: Allocator + Copy> Lists<A> {
         Ok(())
     }
 
-    // Puts a call with its arguments, and what it destroyed of forms and blocks, after all others. Returns what an entry
-    // is to keep, and what the record weighs. There has to be room.
+    // Puts a call with its arguments, and what it destroyed of forms and blocks, after all others, and returns what an
+    // entry is to keep. There has to be room.
     #[inline(always)]
     pub(crate) fn push_call(
         &mut self,
         called: Called,
         arguments: &Args<'_>,
         undone: Undone<A>,
-    ) -> (Kept, u64)
+    ) -> Kept
         requires small { AreSmall called (length (concat arguments.now)) (length arguments.now) }
-        requires light { IsLight (CallOf (record_with called arguments.now (undone_in undone))) }
         requires room { HasRoom (length (concat arguments.now)) (length arguments.now - 1) self.old.room }
-        ensures more { HasMore result.0 (CallOf (record_with called arguments.now (undone_in undone))) self.old.listed
+        ensures { HasMore result (CallOf (record_with called arguments.now (undone_in undone))) self.old.listed
             self.new.listed }
-        ensures weighs { result.1 ≡ weight (CallOf (record_with called arguments.now (undone_in undone))) }
     {
         // The contract of `len` says that there are no more items than places.
         let _bytes = self.bytes.len();
         let _commas = self.commas.len();
         let joined = arguments.joined();
-        let commas = arguments.comma_count();
-        self.calls.push_back_reserved(CallEntry {
-            value: called.value as u32,
-            printed: called.printed as u32,
-            read: called.read as u32,
-            bytes: joined.len() as u32,
-            commas: commas as u32,
-            kind: called.kind,
-            scanned: called.scanned,
-            trace: called.trace,
-            meta: called.meta,
-        });
+        self.calls
+            .push_back_reserved(call_by(called, joined.len(), arguments.comma_count()));
         self.bytes.put(joined);
         arguments.put_lengths(&mut self.commas);
-        let (kept, destroyed) = keep_undone(undone, &mut self.undone);
-        let weight = joined.len() + commas + usize::from(called.meta.is_some()) + destroyed;
-        (kept, weight as u64)
+        keep_undone(undone, &mut self.undone)
     }
 
     // Puts what an idle step emptied after all others. There has to be room.
@@ -339,6 +325,26 @@ pub(crate) fn weigh_brief(kept: Kept) -> u64
     }
 }
 
+// What is kept of a call whose arguments have so many bytes, and so many commas between them.
+fn call_by(called: Called, bytes: usize, commas: usize) -> CallEntry
+    requires { AreSmall called bytes commas }
+    ensures called { called_in result ≡ called }
+    ensures bytes { result.bytes ≡ bytes }
+    ensures commas { result.commas ≡ commas }
+{
+    CallEntry {
+        value: called.value as u32,
+        printed: called.printed as u32,
+        read: called.read as u32,
+        bytes: bytes as u32,
+        commas: commas as u32,
+        kind: called.kind,
+        scanned: called.scanned,
+        trace: called.trace,
+        meta: called.meta,
+    }
+}
+
 // What a call says of which this is kept, beside its arguments, and what was destroyed of forms and blocks.
 fn called_by(call: CallEntry) -> Called
     ensures { result ≡ called_in call }
@@ -365,26 +371,19 @@ fn weigh_texts(call: CallEntry) -> u64
     }
 }
 
-// What an entry is to keep of a call that destroyed this of forms and blocks, and what that weighs. If the entry cannot
-// hold it, it goes to the end of the list of these, which has to have a place.
-#[inline(always)]
-fn keep_undone<A: Allocator + Copy>(
-    undone: Undone<A>,
-    list: &mut VecDeque<Undone<A>, A>,
-) -> (Kept, usize)
-    requires place { deque_len list.old < deque_capacity list.old }
-    requires fits { undone_weight (undone_in undone) < 2 ^ 64 }
-    ensures kept { IsKept result.0 (undone_in undone) (map undone_in (reverse list.old.items))
+// What an entry is to keep of a call that destroyed this of forms and blocks. If the entry cannot hold it, it goes to
+// the end of the list of these, which has to have a place.
+fn keep_undone<A: Allocator + Copy>(undone: Undone<A>, list: &mut VecDeque<Undone<A>, A>) -> Kept
+    requires { deque_len list.old < deque_capacity list.old }
+    ensures { IsKept result (undone_in undone) (map undone_in (reverse list.old.items))
         (map undone_in (reverse list.new.items)) }
-    ensures weighs { result.1 ≡ undone_weight (undone_in undone) }
 {
     match undone {
-        Undone::Nothing => (Kept::Call, 0),
-        Undone::Point(place) if place <= u32::MAX as usize => (Kept::Pointed(place as u32), 0),
+        Undone::Nothing => Kept::Call,
+        Undone::Point(place) if place <= u32::MAX as usize => Kept::Pointed(place as u32),
         other => {
-            let weight = other.weight();
             list.push_back_reserved(other);
-            (Kept::Changed, weight)
+            Kept::Changed
         }
     }
 }

@@ -22,9 +22,6 @@ const WORDS: &[(&str, &str)] = &[
 /// The code of an argument that is not used.
 pub(crate) const UNUSED: &str = "unused";
 
-/// The code of a form that is never called.
-pub(crate) const UNCALLED: &str = "uncalled";
-
 /// The code of other words.
 const OTHER: &str = "doubt";
 

@@ -1,17 +1,14 @@
 //! What is doubtful in a text, as the lines of `trac lint` tell it.
-use crate::codes::{UNCALLED, UNUSED, code_of};
+use crate::codes::{UNUSED, code_of};
 use crate::marked::Marked;
 use crate::parts::after;
 use serde_json::{Value, json};
 use std::alloc::{AllocError, Global};
-use trac_mentions::{Mention, Mentions};
+use trac_mentions::Mentions;
 use trac_rules::byte::LINE_FEED;
 
 // The number that the protocol has for a warning.
 const WARNING: u64 = 2;
-
-// And for a hint.
-const HINT: u64 = 4;
 
 // The number that the protocol has for what is not needed, which editors show in a paler colour.
 const UNNECESSARY: u64 = 1;
@@ -40,46 +37,14 @@ pub trait Linter {
     fn prints_alike(&self, one: &[u8], other: &[u8]) -> bool;
 }
 
-/// What the editor is told of a text of this name, of which a run tells this: the doubts, then the forms that are never
-/// called. The error is that memory was refused, here and below.
+/// The doubts of a text of this name, as the editor is told of them. The error is that memory was refused, here and
+/// below.
 pub(crate) fn findings_of<L: Linter>(
     alloc: Global,
     linter: &L,
     uri: &str,
     marked: &Marked<'_>,
-    known: &Mentions,
 ) -> Result<Value, AllocError> {
-    let mut found = doubts_of(alloc, linter, uri, marked)?;
-    for mention in known.never_called(alloc)?.iter() {
-        found.push(uncalled(alloc, marked, *mention)?)?;
-    }
-    Ok(Value::Array(found))
-}
-
-// A form that is never called, as the editor is told of it where it is defined.
-fn uncalled(alloc: Global, marked: &Marked<'_>, mention: &Mention) -> Result<Value, AllocError> {
-    let end = mention.place.saturating_add(mention.name.len());
-    let range = marked.range(alloc, (mention.place, end))?;
-    let mut tags = Vec::new(alloc);
-    tags.push(Value::from(UNNECESSARY))?;
-    json!(in alloc; {
-        "range": range,
-        "severity": HINT,
-        "code": UNCALLED,
-        "source": "trac",
-        "message": "this form is never called",
-        "tags": Value::Array(tags),
-        "relatedInformation": []
-    })
-}
-
-// The doubts of a text.
-fn doubts_of<L: Linter>(
-    alloc: Global,
-    linter: &L,
-    uri: &str,
-    marked: &Marked<'_>,
-) -> Result<Vec<Value>, AllocError> {
     let mut lines = Vec::new(alloc);
     linter.lint_into(marked.text, &mut lines);
     let starts = line_starts(alloc, marked.text)?;
@@ -103,7 +68,7 @@ fn doubts_of<L: Linter>(
     if let Some(finding) = last {
         found.push(told(alloc, marked, finding, notes)?)?;
     }
-    Ok(found)
+    Ok(Value::Array(found))
 }
 
 // Where the lines of a text begin, as the lines of `trac lint` count them: after line feeds alone.
@@ -166,11 +131,11 @@ fn note(
     json!(in alloc; {"location": {"uri": uri, "range": range}, "message": words})
 }
 
-// The range of the word that begins at a byte: up to what ends an argument or a text, or a blank; at least the byte.
+// The range of the word that begins at a byte: up to what ends an argument, or a blank; at least the byte.
 fn word_at(alloc: Global, marked: &Marked<'_>, offset: usize) -> Result<Value, AllocError> {
     let rest = after(marked.text, offset);
     let len = rest.iter().position(|byte| byte.is_ascii_whitespace()
-        || matches!(*byte, b',' | b'(' | b')' | b'\''));
+        || matches!(*byte, b',' | b'(' | b')'));
     let end = offset.saturating_add(len.unwrap_or(rest.len()).max(1));
     marked.range(alloc, (offset, end))
 }

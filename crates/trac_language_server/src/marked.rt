@@ -60,6 +60,11 @@ impl<'t> Marked<'t> {
         offset_of(self.text, self.encoding, position)
     }
 
+    /// The line of a place, counted from 0.
+    pub(crate) fn line(&self, place: usize) -> u64 {
+        self.position(place).line
+    }
+
     /// What stands between two places, as a range.
     pub(crate) fn range(
         &self,

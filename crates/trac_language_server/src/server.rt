@@ -102,8 +102,7 @@ impl<'l, L: Linter> Server<'l, L> {
             return self.refuse(id, NO_REQUEST, "this is no request", sent);
         };
         match message.get("id") {
-            // without it no other request is answered
-            Some(id) if method != "initialize" && is_cancelled(later, id) => {
+            Some(id) if is_cancelled(later, id) => {
                 self.refuse(id, CANCELLED, "the request is cancelled", sent)
             }
             Some(id) => self.answer(id, method, message, sent),
@@ -154,7 +153,7 @@ impl<'l, L: Linter> Server<'l, L> {
         let marked = self.marked(message)?;
         Ok(Some(match method {
             b"textDocument/documentSymbol" => symbols_of(self.alloc, &marked)?,
-            b"textDocument/foldingRange" => folds_of(self.alloc, marked.text)?,
+            b"textDocument/foldingRange" => folds_of(self.alloc, &marked)?,
             b"textDocument/selectionRange" => self.selections(message, &marked)?,
             _ => return Ok(None),
         }))
@@ -164,7 +163,7 @@ impl<'l, L: Linter> Server<'l, L> {
     fn of_run(&mut self, method: &[u8], message: &Value) -> Result<Option<Value>, AllocError> {
         match Asked::of(method, message) {
             Some(asked) => {
-                self.learn(text_at(message, URI).unwrap_or(""));
+                self.learn(message);
                 Ok(Some(self.result_of(asked, message)?))
             }
             None => Ok(None),
@@ -184,8 +183,9 @@ impl<'l, L: Linter> Server<'l, L> {
         }
     }
 
-    // Runs the text of this name, if it is open and was not run as it is.
-    fn learn(&mut self, uri: &str) {
+    // Runs the text of a request, if it is open and was not run as it is.
+    fn learn(&mut self, message: &Value) {
+        let uri = text_at(message, URI).unwrap_or("");
         if self.documents.known(uri).is_some() {
             return;
         }
@@ -202,7 +202,7 @@ impl<'l, L: Linter> Server<'l, L> {
         message: &Value,
         sent: &mut Vec<Value>,
     ) -> Result<Turn, AllocError> {
-        self.learn(text_at(message, URI).unwrap_or(""));
+        self.learn(message);
         match self.renaming(message)? {
             Renaming::Edits(edits) => {
                 sent.push(reply(self.alloc, id, edits)?)?;
@@ -315,18 +315,12 @@ impl<'l, L: Linter> Server<'l, L> {
         Ok(())
     }
 
-    // Changes a document once. A change of a range that is none is passed over.
+    // Changes a document once.
     fn change_once(&mut self, uri: &str, change: &Value) -> Result<(), AllocError> {
         let (Some(text), Some(new)) = (self.documents.text(uri), text_at(change, "/text")) else {
             return Ok(());
         };
-        let range = match change.get("range") {
-            None | Some(Value::Null) => None,
-            Some(range) => match range_in(range) {
-                None => return Ok(()),
-                range => range,
-            },
-        };
+        let range = change.get("range").and_then(range_in);
         let text = changed(self.alloc, text, self.encoding, range, new.as_bytes())?;
         self.documents.put(self.alloc, uri, text)
     }
@@ -340,19 +334,13 @@ impl<'l, L: Linter> Server<'l, L> {
         Ok(Turn::GoesOn)
     }
 
-    // Says what is doubtful in a document, and which of its forms are never called.
-    fn publish(&mut self, uri: &str, sent: &mut Vec<Value>) -> Result<(), AllocError> {
-        self.learn(uri);
-        self.publish_known(uri, sent)
-    }
-
-    // The same of a document that was run.
-    fn publish_known(&self, uri: &str, sent: &mut Vec<Value>) -> Result<(), AllocError> {
-        let (Some(text), Some(known)) = (self.documents.text(uri), self.documents.known(uri)) else {
+    // Says what is doubtful in a document.
+    fn publish(&self, uri: &str, sent: &mut Vec<Value>) -> Result<(), AllocError> {
+        let Some(text) = self.documents.text(uri) else {
             return Ok(());
         };
         let marked = Marked::of(self.alloc, text, self.encoding)?;
-        let found = findings_of(self.alloc, self.linter, uri, &marked, known)?;
+        let found = findings_of(self.alloc, self.linter, uri, &marked)?;
         self.send_findings(uri, found, sent)
     }
 

@@ -3,9 +3,7 @@
 use crate::linting::Settings;
 use crate::origins::Origins;
 use crate::scout::Run;
-use crate::texts::{read_number, text_from};
 use std::alloc::{AllocError, Allocator, Global};
-use std::collections::BTreeMap;
 use trac_follow::Place;
 use trac_forms::Form;
 use trac_mentions::{KnownForm, Mention, Mentions, Role};
@@ -15,7 +13,6 @@ use trac_prims::primitive_named;
 use trac_rules::item::Item;
 use trac_rules::primitive::{BlockAction, FormAction, Primitive};
 use trac_rules::refusal::Refusal;
-use trac_session::Goal;
 use trac_sight::performed_in;
 
 // So many names are told at most.
@@ -30,27 +27,18 @@ const ARGUMENT_LIMIT: usize = 100;
 // A name is followed so often in one role at most without finding a new place for it.
 const MISSES: u32 = 16;
 
-// Over so many bytes of the file it is counted at most how often names stand there.
-const COUNT_LIMIT: usize = 100_000_000;
-
 // So many bytes of a form's text are shown, and so many of a word that is cut out.
 const TEXT_LIMIT: usize = 2_000;
 
-// A name that was followed, and what became of that in each role.
+// A name that was followed, and what became of that.
 #[derive(Drop)]
 struct Followed {
-    // how often it stands in the file; 0 if that is not counted any more
+    name: Vec<u8>,
+    role: Role,
+    // how often it stands in the file
     written: usize,
-    defines: Sought,
-    cuts: Sought,
-    uses: Sought,
-}
-
-// What became of following a name in one role.
-#[derive(Drop)]
-struct Sought {
-    // the places of the file at which it was found
-    places: Vec<usize>,
+    // at how many places of the file it was found
+    found: usize,
     // how often no new place was found
     misses: u32,
 }
@@ -62,7 +50,7 @@ struct Namer<'s, A: Allocator + Copy> {
     made: Global,
     origins: Origins<'s, A>,
     walker: Walker<A>,
-    followed: BTreeMap<Vec<u8>, Followed, Global>,
+    followed: Vec<Followed>,
     told: Mentions,
 }
 
@@ -96,7 +84,7 @@ pub fn mentions<A: Allocator + Copy>(
         made,
         origins: Origins::within(alloc, run, ways),
         walker,
-        followed: BTreeMap::new(made),
+        followed: Vec::new(made),
         told,
     };
     let is_whole = namer.go(settings.steps).is_ok() && namer.tell_forms().is_ok();
@@ -122,26 +110,13 @@ impl<'s, A: Allocator + Copy> Namer<'s, A> {
                 None => {}
                 Some(Refusal::Memory) => return Err(Refusal::Memory),
                 Some(refusal) => {
-                    let is_late = matches!(refusal, Refusal::NotMet | Refusal::TooLong);
-                    self.told.is_cut = self.told.is_cut || is_late;
-                    self.told.has_ended = refusal == Refusal::Ended && !self.waits();
+                    self.told.is_cut = matches!(refusal, Refusal::NotMet | Refusal::TooLong);
                     break;
                 }
             }
             self.look()?;
         }
         Ok(())
-    }
-
-    // Whether the program goes on when more is typed: the last text of the file has no end yet, or a call of the
-    // program's own comes next, which is not its end.
-    fn waits(&self) -> bool {
-        if let Some((Primitive::Halt, _)) = performed(&self.walker) {
-            return false;
-        }
-        let tape = self.origins.sources.tape;
-        let unread = text_from(tape, read_number(&self.walker));
-        unread < tape.len() as u64 || self.walker.window.session.meets(&Goal::OwnCall)
     }
 
     // Looks at the call that comes next.
@@ -155,11 +130,10 @@ impl<'s, A: Allocator + Copy> Namer<'s, A> {
         self.name(role, 1)?;
         let others = match primitive {
             Primitive::Handle(FormAction::Delete)
-            | Primitive::HandleBlock(BlockAction::StoreBlock) => count,
+            | Primitive::HandleBlock(BlockAction::StoreBlock) => count.min(ARGUMENT_LIMIT),
             _ => 0,
         };
-        self.told.is_cut = self.told.is_cut || others > ARGUMENT_LIMIT;
-        for argument in 2..others.min(ARGUMENT_LIMIT) {
+        for argument in 2..others {
             self.name(Role::Uses, argument)?;
         }
         Ok(())
@@ -171,9 +145,9 @@ impl<'s, A: Allocator + Copy> Namer<'s, A> {
         if name.is_empty() || name.len() > NAME_LIMIT {
             return Ok(());
         }
-        if !self.goes_on(role, name.as_slice())? {
+        let Some(number) = self.number_of(role, name.as_slice())? else {
             return Ok(());
-        }
+        };
         if self.told.mentions.len() >= MOST {
             self.told.is_cut = true;
             return Ok(());
@@ -182,41 +156,41 @@ impl<'s, A: Allocator + Copy> Namer<'s, A> {
             self.told.is_cut = true;
             return Ok(());
         };
-        if self.is_new(role, name.as_slice(), place)? {
+        let is_new = self.is_new(role, name.as_slice(), place);
+        if let Some(followed) = self.followed.get_mut(number) {
+            if is_new {
+                followed.found = followed.found.saturating_add(1);
+            } else {
+                followed.misses = followed.misses.saturating_add(1);
+            }
+        }
+        if is_new {
             self.tell(role, name.as_slice(), (place, is_written))?;
         }
         Ok(())
     }
 
-    // Whether a name is to be followed in this role: also again, if it was before.
-    fn goes_on(&mut self, role: Role, name: &[u8]) -> Result<bool, AllocError> {
-        if let Some(followed) = self.followed.get(name) {
-            return Ok(followed.goes_on(role));
+    // The number of a name in this role among those that were followed, if it is to be followed again.
+    fn number_of(&mut self, role: Role, name: &[u8]) -> Result<Option<usize>, AllocError> {
+        let known = self.followed.iter().position(|followed| followed.role == role
+            && followed.name.as_slice() == name);
+        if let Some(number) = known {
+            let goes_on = self.followed.get(number).is_some_and(goes_on);
+            return Ok(goes_on.then_some(number));
+        }
+        if self.followed.len() >= MOST {
+            self.told.is_cut = true;
+            return Ok(None);
         }
         let number = self.followed.len();
-        if number >= MOST {
-            self.told.is_cut = true;
-            return Ok(false);
-        }
-        let tape = self.origins.sources.tape;
-        let written = if number.saturating_mul(tape.len()) < COUNT_LIMIT {
-            count_of(tape, name)
-        } else {
-            0
-        };
-        let followed = Followed {
-            written,
-            defines: Sought::new(self.made),
-            cuts: Sought::new(self.made),
-            uses: Sought::new(self.made),
-        };
-        match self
-            .followed
-            .insert(Vec::from_slice(self.made, name)?, followed)
-        {
-            Ok(_) => Ok(true),
-            Err(_) => Err(AllocError),
-        }
+        self.followed.push(Followed {
+            name: Vec::from_slice(self.made, name)?,
+            role,
+            written: count_of(self.origins.sources.tape, name),
+            found: 0,
+            misses: 0,
+        })?;
+        Ok(Some(number))
     }
 
     // The byte of the file from which the first byte of this argument comes; whether the whole name stands there. None
@@ -254,16 +228,11 @@ impl<'s, A: Allocator + Copy> Namer<'s, A> {
         Ok(number.map(|number| number as usize))
     }
 
-    // Whether a name that is followed was not found at this place in this role before; from now on it was.
-    fn is_new(&mut self, role: Role, name: &[u8], place: usize) -> Result<bool, AllocError> {
-        let Some(followed) = self.followed.get_mut(name) else {
-            return Ok(false);
-        };
-        match role {
-            Role::Defines => followed.defines.meet(place),
-            Role::Cuts => followed.cuts.meet(place),
-            Role::Uses => followed.uses.meet(place),
-        }
+    // Whether a name was not found at this place in this role before.
+    fn is_new(&self, role: Role, name: &[u8], place: usize) -> bool {
+        self.told.mentions.iter().all(|mention| {
+            mention.place != place || mention.role != role || mention.name.as_slice() != name
+        })
     }
 
     // Tells of a name.
@@ -293,39 +262,6 @@ impl<'s, A: Allocator + Copy> Namer<'s, A> {
         self.told.forms = forms;
         self.told.is_cut = self.told.is_cut || is_cut;
         Ok(())
-    }
-}
-
-impl Followed {
-    // Whether the name is to be followed again in this role.
-    fn goes_on(&self, role: Role) -> bool {
-        let sought = match role {
-            Role::Defines => &self.defines,
-            Role::Cuts => &self.cuts,
-            Role::Uses => &self.uses,
-        };
-        let all_found = self.written > 0 && sought.places.len() >= self.written;
-        sought.misses < MISSES && !all_found
-    }
-}
-
-impl Sought {
-    // It was not followed in this role. It takes no memory.
-    fn new(alloc: Global) -> Self {
-        Sought {
-            places: Vec::new(alloc),
-            misses: 0,
-        }
-    }
-
-    // Whether it was not found at this place before; from now on it was.
-    fn meet(&mut self, place: usize) -> Result<bool, AllocError> {
-        if self.places.iter().any(|other| *other == place) {
-            self.misses = self.misses.saturating_add(1);
-            return Ok(false);
-        }
-        self.places.push(place)?;
-        Ok(true)
     }
 }
 
@@ -399,6 +335,12 @@ fn show(item: Item, known: &mut KnownForm) -> Result<(), AllocError> {
     }
 }
 
+// Whether a name is to be followed again.
+fn goes_on(followed: &Followed) -> bool {
+    let all_found = followed.written > 0 && followed.found >= followed.written;
+    followed.misses < MISSES && !all_found
+}
+
 // The primitive that the next step performs, and how many arguments it has, its name among them.
 fn performed<A: Allocator + Copy>(walker: &Walker<A>) -> Option<(Primitive, usize)> {
     let sight = walker.sight();
@@ -420,12 +362,9 @@ fn role_of(primitive: Primitive) -> Option<Role> {
 
 // How often a name stands in a text.
 fn count_of(text: &[u8], name: &[u8]) -> usize {
-    let Some(first) = name.first() else {
-        return 0;
-    };
     let mut count = 0_usize;
     for place in 0..text.len() {
-        if text[place] == *first && text.split_at(place).1.starts_with(name) {
+        if text.split_at(place).1.starts_with(name) {
             count = count.saturating_add(1);
         }
     }

@@ -1,8 +1,7 @@
 //! What a run of a program tells of its forms: where the file names them, and what they are in the end.
 #![tactic(auto)]
 
-use std::alloc::{AllocError, Global};
-use std::collections::BTreeSet;
+use std::alloc::Global;
 
 /// What a call does with the form that it names.
 #[derive(Clone, Copy, Debug, PartialEq, Eq)]
@@ -53,8 +52,6 @@ pub struct Mentions {
     pub forms: Vec<KnownForm>,
     /// Whether some names may be missing, since they were too many, or too far to follow.
     pub is_cut: bool,
-    /// Whether the program came to its end: no call of its own waits for more input.
-    pub has_ended: bool,
 }
 
 impl Mentions {
@@ -64,40 +61,12 @@ impl Mentions {
             mentions: Vec::new(alloc),
             forms: Vec::new(alloc),
             is_cut: false,
-            has_ended: false,
         }
     }
 
     /// The form of this name.
     pub fn form(&self, name: &[u8]) -> Option<&KnownForm> {
         self.forms.iter().find(|form| form.name.as_slice() == name)
-    }
-
-    /// The names of the file that calls define forms by which no call reads or cuts, though calls read others. None, if
-    /// names may be missing, or the program did not come to its end: it may call them later. The error is that memory
-    /// was refused.
-    pub fn never_called(&self, alloc: Global) -> Result<Vec<&Mention>, AllocError> {
-        let mut found = Vec::new(alloc);
-        let calls_some = self
-            .mentions
-            .iter()
-            .any(|mention| mention.role == Role::Uses);
-        if self.is_cut || !self.has_ended || !calls_some {
-            return Ok(found);
-        }
-        let mut used: BTreeSet<&[u8], Global> = BTreeSet::new(alloc);
-        for mention in self.mentions.iter() {
-            if mention.role != Role::Defines && used.insert(mention.name.as_slice()).is_err() {
-                return Err(AllocError);
-            }
-        }
-        for mention in self.mentions.iter() {
-            let is_used = used.contains(&mention.name.as_slice());
-            if mention.role == Role::Defines && mention.is_written && !is_used {
-                found.push(mention)?;
-            }
-        }
-        Ok(found)
     }
 
     /// The names of the file at this place of it, or that end there: the first of them.

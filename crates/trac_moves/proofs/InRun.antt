@@ -57,7 +57,7 @@ last_steps e zero earlier t all = tt
 last_steps e (suc keep) [] t all = tt
 last_steps e (suc keep) (s ∷ earlier) t all = (all.0, last_steps e keep earlier s all.1)
 
-pub last_of_run : (e : Environment) (d n : ℕ) (t : State) (earlier : List State) → AreOfRun e d n t earlier → IsOfRun e d n t
+last_of_run : (e : Environment) (d n : ℕ) (t : State) (earlier : List State) → AreOfRun e d n t earlier → IsOfRun e d n t
 last_of_run e d n t [] all = all
 last_of_run e d n t (s ∷ earlier) all = all.0
 

@@ -1,6 +1,5 @@
 pub mod InRun
 pub mod Kept
-pub mod RunAnew
 pub mod Searched
 pub mod SearchedAnew
 pub mod SearchedOn

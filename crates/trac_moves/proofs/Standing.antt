@@ -78,18 +78,6 @@ finds_some most goal n old steps why new search none =
     unended met None is = refl
     unended met (Some refusal) is = absurd (cc)
 
--- a search back that met its goal stands there
-met_there : (some met : Bool) (ended : Option Refusal) → None ≡ outcome (some && met) ended → met ≡ true
-met_there true true None is = refl
-met_there true false None is = absurd (cc)
-met_there false met None is = absurd (cc)
-met_there some met (Some refusal) is = absurd (cc)
-
-pub returned_met : (goal : Goal) (outcome : Return) (old new : PlainSession) → IsReturn goal old outcome new → refusal_said outcome ≡ None → goal new.last ≡ true
-returned_met goal (returns.TheVariants.Met steps) old new h none = met_there (nat_lt 0 steps) (goal new.last) h.0 h.2
-returned_met goal returns.TheVariants.NotMet old new h none = absurd (cc)
-returned_met goal (returns.TheVariants.Stopped left why) old new h none = absurd (cc)
-
 module _ {A : Type 0} where
   -- ---- a window
 

@@ -1,7 +1,5 @@
 -- What a walker is sent to.
 pub mod Aims
--- Moves to steps that are kept no more.
-pub mod Forgotten
 -- Searches forward that stay where they began unless they meet something.
 pub mod Searches
 -- Which states of a run a session keeps.

@@ -1,17 +1,14 @@
 //! A window over a session, of which the last steps are kept; and a walker over it: moves and searches that forget
-//! steps where they must, and go back over those that are kept; and over others, in a run of the program anew.
+//! steps where they must, and go back over those that are kept.
 #![tactic(auto)]
 
 mod aim;
-mod anew;
 mod doubted;
-mod printed;
 mod searching;
 mod walker;
 mod window;
 
 pub use aim::Aim;
-pub use anew::walkers_stand_alike;
 pub use doubted::place_of;
 pub use searching::Search;
 pub use walker::Walker;

@@ -5,10 +5,9 @@ ghost use Rattle.trac_rules.specs.Session.{Step, repeated};
 ghost use Rattle.trac_rules.specs.State.{Tape};
 ghost use Rattle.trac_streams.specs.Escapes.{feed};
 ghost use Rattle.trac_streams.specs.Tape.{MayRefuseTape};
-ghost use Rattle.trac_session.specs.Goals.{goal_of};
 ghost use Rattle.trac_moves.specs.Aims.{MeetsAim, goal_of_aim};
 ghost use Rattle.trac_moves.specs.Steps.{number_of_step};
-ghost use Rattle.trac_moves.specs.Walkers.{IsBackward, IsForward, IsReturned, IsTowards, Moves, Stands};
+ghost use Rattle.trac_moves.specs.Walkers.{IsBackward, IsForward, IsReturned, IsTo, IsTowards, Moves, Stands};
 ghost use Rattle.trac_moves.specs.Walkers.{refusal_said};
 ghost use Rattle.trac_moves.specs.Windows.{IsOver};
 
@@ -239,6 +238,18 @@ impl<A: Allocator + Copy> Walker<A> {
         self.go(Some(aim), most)
     }
 
+    /// Goes to this step, forward or back, until a step is refused, which is returned.
+    pub fn go_to(&mut self, step: u64) -> Option<Refusal>
+        ensures { Moves (IsTo step result) self.old self.new }
+    {
+        let now = self.step();
+        if step < now {
+            self.back(now - step)
+        } else {
+            self.forward(step - now)
+        }
+    }
+
     /// Goes forward as far as no step has to be forgotten for it, or until one is refused, which is returned.
     pub fn look_ahead(&mut self) -> Option<Refusal>
         ensures { Moves (λ steps after. steps ≤ after) self.old self.new }
@@ -271,7 +282,7 @@ impl<A: Allocator + Copy> Walker<A> {
     }
 
     // How many steps more may be kept.
-    pub(crate) fn room(&self) -> u64 {
+    fn room(&self) -> u64 {
         self.limit.saturating_sub(self.window.session.len()) as u64
     }
 
@@ -306,15 +317,7 @@ impl<A: Allocator + Copy> Walker<A> {
     pub fn return_to(&mut self, aim: Aim<'_>) -> Option<Refusal>
         ensures { Moves (IsReturned result) self.old self.new }
     {
-        self.return_to_goal(goal_for(aim))
-    }
-
-    // The same to any goal.
-    pub(crate) fn return_to_goal(&mut self, goal: Goal<'_, A>) -> Option<Refusal>
-        ensures moved { Moves (IsReturned result) self.old self.new }
-        ensures met { result ≡ None → goal_of goal.entry self.new.window.session.last ≡ true }
-    {
-        refusal_of(self.window.session.return_to(goal))
+        refusal_of(self.window.session.return_to(goal_for(aim)))
     }
 
     /// Goes back to the call that changed the form of this name last, as `return_to` does. `Memory` also if there is
@@ -326,7 +329,7 @@ impl<A: Allocator + Copy> Walker<A> {
         let Ok(form) = copy.transpose() else {
             return Some(Refusal::Memory);
         };
-        self.return_to_goal(Goal::OtherForm(name, &form))
+        refusal_of(self.window.session.return_to(Goal::OtherForm(name, &form)))
     }
 
     /// Forgets all but the last steps, so many as are kept.
@@ -386,7 +389,7 @@ impl<A: Allocator + Copy> Walker<A> {
 
 // A walk forward by so many steps at most, towards a goal if there is one. It stops also if the records weigh more than
 // this.
-pub(crate) fn walk_on<A: Allocator + Copy>(
+fn walk_on<A: Allocator + Copy>(
     session: &mut Session<A>,
     aim: Option<Aim<'_>>,
     most: u64,

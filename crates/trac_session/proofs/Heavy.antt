@@ -1,21 +1,19 @@
 -- The one loop of all walks, which may stop where the records weigh enough.
-use Rattle.std.proofs.Common.{◌≡◌, ℕ, zero, suc, ◌+◌, ◌-◌, ◌<◌, ◌≤◌, Bool, List, [], ◌∷◌, drop, true, false, refl, sym, ap, subst, ◌∙◌, arith, inl, ⊎_elim}
-use Rattle.std.proofs.lemmas.Bool.{cases_lt}
-use Rattle.std.proofs.lemmas.Option.{option_and_then_some}
+use Rattle.std.proofs.Common.{◌≡◌, ℕ, zero, suc, ◌+◌, ◌<◌, ◌≤◌, Bool, List, [], ◌∷◌, drop, true, false, refl, sym, ap, subst, ◌∙◌, arith, inl, ⊎_elim}
+use Rattle.std.proofs.lemmas.Bool.{cases_lt, false≢true, lt-ltb}
 use Rattle.std.specs.Prelude.{◌&&◌, Option, None, Some, nat_lt}
 use Rattle.trac_rules.specs.declared.refusal.Refusal.{Refusal}
 use Rattle.trac_rules.specs.declared.reply.Reply.TheVariants.{Done, Refused}
 use Rattle.trac_rules.specs.State.{State}
-use Rattle.trac_rules.specs.Session.{PlainSession, Command, Goal, Step, Answers, IsWalk, accepted_by, answer, done, no_goal, repeated}
+use Rattle.trac_rules.specs.Session.{PlainSession, Command, Goal, Step, Answers, IsWalk, answer, done, no_goal, repeated}
 use Rattle.trac_rules.specs.Weights.{weights_from}
-use Rattle.trac_rules.proofs.Replies.{Step_done, accepted_done}
+use Rattle.trac_rules.proofs.Replies.{Step_done}
 use Rattle.trac_session.specs.declared.walking.Direction.{Direction}
 use Rattle.trac_session.specs.declared.walking.Direction.TheVariants.{Backward, Forward}
 use Rattle.trac_session.specs.Directions.{IsForward, command_towards, weight_of}
-use Rattle.trac_session.specs.Goals.{outcome}
 use Rattle.trac_session.specs.Runs.{IsQuiet}
-use Rattle.trac_session.specs.Within.{IsHeavy, IsLight, IsSearchWithin, IsWalkUnder, IsWalkWithin}
-use Rattle.trac_session.proofs.Walked.{GoesOn, Step_refused_same, goes_on_far, goes_on_first, goes_on_further, goes_on_more, last_walk, met_walk, one_walk, refused_same, stopped_walk, whole_walk}
+use Rattle.trac_session.specs.Within.{IsHeavy, IsLight, IsWalkUnder, IsWalkWithin}
+use Rattle.trac_session.proofs.Walked.{GoesOn, Step_refused_same, goes_on_far, goes_on_first, goes_on_further, goes_on_more, met_walk, refused_same, stopped_walk, whole_walk}
 
 -- ---- what records weigh
 
@@ -38,6 +36,12 @@ light_before (Forward None) p q taken light = tt
 light_before (Forward (Some most)) p q taken light = omega (arith, light, ap (λ (states : List State). weights_from (drop 1 states)) (step_adds p q taken))
 light_before Backward p q taken light = tt
 
+heavy_after : (direction : Direction) (p q : PlainSession) → Answers (command_towards direction) p Done q → IsHeavy (weight_of direction) p.earlier →
+    IsHeavy (weight_of direction) q.earlier
+heavy_after (Forward None) p q taken heavy = absurd heavy
+heavy_after (Forward (Some most)) p q taken heavy = omega (arith, heavy, ap weights_from (step_adds p q taken))
+heavy_after Backward p q taken heavy = absurd heavy
+
 -- bytes that were passed add nothing
 light_passed : (direction : Direction) (p q : PlainSession) → (IsForward direction → weights_from q.earlier ≡ weights_from p.earlier) → IsLight (weight_of direction) p.earlier →
     IsLight (weight_of direction) q.earlier
@@ -45,10 +49,16 @@ light_passed (Forward None) p q same light = tt
 light_passed (Forward (Some most)) p q same light = omega (arith, light, same tt)
 light_passed Backward p q same light = tt
 
+heavy_passed : (direction : Direction) (p q : PlainSession) → (IsForward direction → weights_from q.earlier ≡ weights_from p.earlier) → IsHeavy (weight_of direction) p.earlier →
+    IsHeavy (weight_of direction) q.earlier
+heavy_passed (Forward None) p q same heavy = absurd heavy
+heavy_passed (Forward (Some most)) p q same heavy = omega (arith, heavy, same tt)
+heavy_passed Backward p q same heavy = absurd heavy
+
 -- ---- bytes that were passed are a walk
 
 -- where the goal is not met at a state that moves a byte, if they are several
-passed_walk : (command : Command) (goal : Goal) (k : ℕ) (p q : PlainSession) → repeated command k p ≡ Some q →
+pub passed_walk : (command : Command) (goal : Goal) (k : ℕ) (p q : PlainSession) → repeated command k p ≡ Some q →
     ((j : ℕ) → (r : PlainSession) → 0 < j → j < k → repeated command j p ≡ Some r → IsQuiet r.last) → (1 < k → (s : State) → IsQuiet s → goal s ≡ false) → IsWalk command goal k p k None q
 passed_walk command goal k p q passed quiet unmet = record {
   within = omega arith;
@@ -56,6 +66,15 @@ passed_walk command goal k p q passed quiet unmet = record {
   unmet = λ j r some few there. unmet (omega (arith, some, few)) r.last (quiet j r some few there);
   stopped = inl refl;
 }
+
+-- what a test says that looks for the goal after so many steps
+pub met_after : (steps : ℕ) (met : Bool) → (nat_lt 0 steps && met) ≡ true → (0 < steps) × (met ≡ true)
+met_after zero met is = absurd (false≢true is)
+met_after (suc n) met is = (omega arith, ap (λ b. b && met) (sym (lt-ltb 0 (suc n) (omega arith))) ∙ is)
+
+pub unmet_after : (steps : ℕ) (met : Bool) → (nat_lt 0 steps && met) ≡ false → 0 < steps → met ≡ false
+unmet_after zero met is some = absurd (omega (arith, some))
+unmet_after (suc n) met is some = ap (λ b. b && met) (sym (lt-ltb 0 (suc n) some)) ∙ is
 
 -- a walk goes on after them, where the goal is not met
 goes_on_passed : (command : Command) (goal : Goal) (old p q : PlainSession) (n k : ℕ) → GoesOn command goal old n p → IsWalk command goal k p k None q → (0 < k → goal q.last ≡ false) →
@@ -68,159 +87,110 @@ goes_on_passed command goal old p q n (suc k) on more unmet = goes_on_further co
 
 -- ---- the loop
 
--- a walk is under way: so many of its n steps are left. Of plain bytes it may pass so many at once
-pub record IsUnderWay (direction : Direction) (goal : Goal) (n run : ℕ) (old : PlainSession) (left : ℕ) (now : PlainSession) : Type 0 where
-  pub some : 0 < run
-  pub quiet : 1 < run → (s : State) → IsQuiet s → goal s ≡ false
-  pub few : left ≤ n
-  pub on : GoesOn (command_towards direction) goal old (n - left) now
-  pub light : 1 < n → IsLight (weight_of direction) now.earlier
+-- a walk is under way: of n steps it takes so many at most, which are fewer only if the records weigh enough
+pub record IsUnderWay (direction : Direction) (goal : Goal) (n most : ℕ) (old : PlainSession) (steps : ℕ) (now : PlainSession) : Type 0 where
+  pub on : GoesOn (command_towards direction) goal old steps now
+  pub few : steps ≤ most
+  pub within : most ≤ n
+  pub light : 1 < most → IsLight (weight_of direction) now.earlier
+  pub heavy : most < n → (0 < most) × IsHeavy (weight_of direction) now.earlier
 
-pub way_begun : (direction : Direction) (goal : Goal) (n run : ℕ) (old : PlainSession) → 0 < run → (1 < run → (s : State) → IsQuiet s → goal s ≡ false) →
-    (1 < n → IsLight (weight_of direction) old.earlier) → IsUnderWay direction goal n run old n old
-way_begun direction goal n run old some quiet light =
-    let none : 0 ≡ n - n = omega arith in
-    record {
-      some = some;
-      quiet = quiet;
-      few = omega arith;
-      on = subst (λ k. GoesOn (command_towards direction) goal old k old) none (goes_on_first (command_towards direction) goal old);
-      light = light;
-    }
+pub way_begun : (direction : Direction) (goal : Goal) (n most : ℕ) (old : PlainSession) → most ≤ n → (1 < most → IsLight (weight_of direction) old.earlier) →
+    (most < n → (0 < most) × IsHeavy (weight_of direction) old.earlier) → IsUnderWay direction goal n most old 0 old
+way_begun direction goal n most old within light heavy = record {
+  on = goes_on_first (command_towards direction) goal old;
+  few = omega arith;
+  within = within;
+  light = light;
+  heavy = heavy;
+}
 
-module _ {direction : Direction} {goal : Goal} {n run left : ℕ} {old p : PlainSession} (way : IsUnderWay direction goal n run old left p) where
-  -- bytes that are passed are a walk
-  pub way_over : (k most : ℕ) (q : PlainSession) → repeated (command_towards direction) k p ≡ Some q → k ≤ most → most ≤ run →
-      ((j : ℕ) → (r : PlainSession) → 0 < j → j < k → repeated (command_towards direction) j p ≡ Some r → IsQuiet r.last) → IsWalk (command_towards direction) goal k p k None q
-  way_over k most q passed few within quiet = passed_walk (command_towards direction) goal k p q passed quiet (λ several. way.quiet (omega (arith, several, few, within)))
+module _ {direction : Direction} {goal : Goal} {n most steps : ℕ} {old p : PlainSession} (way : IsUnderWay direction goal n most old steps p) where
+  -- over bytes that were passed
+  pub way_passed : (k : ℕ) (q : PlainSession) → IsWalk (command_towards direction) goal k p k None q → (0 < k → goal q.last ≡ false) → steps + k ≤ most →
+      (IsForward direction → weights_from q.earlier ≡ weights_from p.earlier) → IsUnderWay direction goal n most old (steps + k) q
+  way_passed k q more unmet few same = record {
+    on = goes_on_passed (command_towards direction) goal old p q steps k way.on more unmet;
+    few = few;
+    within = way.within;
+    light = λ several. light_passed direction p q same (way.light several);
+    heavy = λ fewer. let h = way.heavy fewer in (h.0, heavy_passed direction p q same h.1);
+  }
 
-  -- it goes on after them
-  pub way_passed : (k : ℕ) (q : PlainSession) → IsWalk (command_towards direction) goal k p k None q → (0 < k → goal q.last ≡ false) → k ≤ left →
-      (IsForward direction → weights_from q.earlier ≡ weights_from p.earlier) → IsUnderWay direction goal n run old (left - k) q
-  way_passed k q more unmet few same =
-      let count : (n - left) + k ≡ n - (left - k) = omega (arith, few, way.few) in
-      record {
-        some = way.some;
-        quiet = way.quiet;
-        few = omega (arith, way.few);
-        on = subst (λ m. GoesOn (command_towards direction) goal old m q) count (goes_on_passed (command_towards direction) goal old p q (n - left) k way.on more unmet);
-        light = λ several. light_passed direction p q same (way.light several);
-      }
-
-  -- and over one step more
-  pub way_further : (q : PlainSession) → Answers (command_towards direction) p Done q → goal q.last ≡ false → 0 < left → IsLight (weight_of direction) q.earlier →
-      IsUnderWay direction goal n run old (left - 1) q
-  way_further q taken unmet few light =
-      let count : (n - left) + 1 ≡ n - (left - 1) = omega (arith, few, way.few) in
-      record {
-        some = way.some;
-        quiet = way.quiet;
-        few = omega (arith, way.few);
-        on =
-            subst (λ m. GoesOn (command_towards direction) goal old m q) count
-            (goes_on_further (command_towards direction) goal old p q (n - left) 1 way.on (one_walk (command_towards direction) goal p q taken) unmet);
-        light = λ several. light;
-      }
+  -- over one step more
+  pub way_further : (q : PlainSession) → Answers (command_towards direction) p Done q → IsWalk (command_towards direction) goal 1 p 1 None q → goal q.last ≡ false → steps < most →
+      IsLight (weight_of direction) q.earlier → IsUnderWay direction goal n most old (steps + 1) q
+  way_further q taken one unmet few light = record {
+    on = goes_on_further (command_towards direction) goal old p q steps 1 way.on one unmet;
+    few = omega (arith, few);
+    within = way.within;
+    light = λ several. light;
+    heavy = λ fewer. let h = way.heavy fewer in (h.0, heavy_after direction p q taken h.1);
+  }
 
   -- a refusal ends it
-  pub way_refused : (q : PlainSession) (refusal : Refusal) → 0 < left → Answers (command_towards direction) p (Refused refusal) q →
-      IsWalkUnder (weight_of direction) (command_towards direction) goal n old (n - left) (Some refusal) q
+  pub way_refused : (q : PlainSession) (refusal : Refusal) → steps < most → Answers (command_towards direction) p (Refused refusal) q →
+      IsWalkUnder (weight_of direction) (command_towards direction) goal n old steps (Some refusal) q
   way_refused q refusal few refused =
       let same : q ≡ p = refused_same direction p q refusal refused in
       let back : p.earlier ≡ q.earlier = ap (λ (s : PlainSession). s.earlier) (sym same) in
       record {
-        allowed = n;
-        within = omega arith;
-        walk = stopped_walk (command_towards direction) goal n (n - left) old p q refusal way.on (omega (arith, few, way.few)) same refused;
-        heavy = λ fewer. absurd (omega (arith, fewer));
-        light = λ some. light_without_newest (weight_of direction) q.earlier (subst (IsLight (weight_of direction)) back (way.light (omega (arith, some))));
+        allowed = most;
+        within = way.within;
+        walk = stopped_walk (command_towards direction) goal most steps old p q refusal way.on few same refused;
+        heavy = λ fewer. let h = way.heavy fewer in (h.0, subst (IsHeavy (weight_of direction)) back h.1);
+        light = λ some. light_without_newest (weight_of direction) q.earlier (subst (IsLight (weight_of direction)) back (way.light (omega (arith, few, some))));
         refused = λ some. subst (IsLight (weight_of direction)) back (way.light (omega (arith, few, some)));
       }
 
-  -- the last of its steps are taken, as a walk
-  pub way_ended : (k : ℕ) (q : PlainSession) → IsWalk (command_towards direction) goal k p k None q → k ≡ left →
-      (1 < n → IsLight (weight_of direction) (drop 1 q.earlier)) → IsWalkUnder (weight_of direction) (command_towards direction) goal n old n None q
-  way_ended k q more all light = record {
-    allowed = n;
-    within = omega arith;
-    walk = last_walk (command_towards direction) goal n (n - left) k old p q way.on more (omega (arith, all, way.few));
-    heavy = λ fewer. absurd (omega (arith, fewer));
-    light = light;
+  -- all steps are taken
+  pub way_ended : steps ≡ most → IsWalkUnder (weight_of direction) (command_towards direction) goal n old steps None p
+  way_ended all = record {
+    allowed = most;
+    within = way.within;
+    walk = subst (λ m. IsWalk (command_towards direction) goal m old steps None p) all (whole_walk (command_towards direction) goal steps old p way.on);
+    heavy = way.heavy;
+    light = λ some. light_without_newest (weight_of direction) p.earlier (way.light (omega (arith, all, some)));
     refused = tt;
   }
 
-  -- the goal is met after some of them, or the records weigh too much
-  pub way_stopped : (k : ℕ) (q : PlainSession) → IsWalk (command_towards direction) goal k p k None q → 0 < k → k ≤ left →
-      (goal q.last ≡ false → IsHeavy (weight_of direction) q.earlier) → (1 < n → IsLight (weight_of direction) (drop 1 q.earlier)) →
-      IsWalkUnder (weight_of direction) (command_towards direction) goal n old (n - (left - k)) None q
-  way_stopped k q more some few heavy light =
-      let count : (n - left) + k ≡ n - (left - k) = omega (arith, few, way.few) in
-      subst (λ m. IsWalkUnder (weight_of direction) (command_towards direction) goal n old m None q) count (by_goal (goal q.last) refl)
-    where
-      by_goal : (met : Bool) → goal q.last ≡ met → IsWalkUnder (weight_of direction) (command_towards direction) goal n old ((n - left) + k) None q
-      by_goal true met = record {
-        allowed = n;
-        within = omega arith;
-        walk = met_walk (command_towards direction) goal n (n - left) k old p q way.on more some (omega (arith, few, way.few)) met;
-        heavy = λ fewer. absurd (omega (arith, fewer));
-        light = λ several. light (omega (arith, several, few, way.few));
-        refused = tt;
-      }
-      by_goal false unmet = record {
-        allowed = (n - left) + k;
-        within = omega (arith, few, way.few);
-        walk = last_walk (command_towards direction) goal ((n - left) + k) (n - left) k old p q way.on more refl;
-        heavy = λ fewer. (omega (arith, some), heavy unmet);
-        light = λ several. light (omega (arith, several, few, way.few));
-        refused = tt;
-      }
+  -- the goal is met after bytes that were passed
+  pub way_met_passing : (k : ℕ) (q : PlainSession) → IsWalk (command_towards direction) goal k p k None q → 0 < k → goal q.last ≡ true → steps + k ≤ most →
+      (IsForward direction → weights_from q.earlier ≡ weights_from p.earlier) → IsWalkUnder (weight_of direction) (command_towards direction) goal n old (steps + k) None q
+  way_met_passing k q more some met few same = record {
+    allowed = most;
+    within = way.within;
+    walk = met_walk (command_towards direction) goal most steps k old p q way.on more some few met;
+    heavy = λ fewer. let h = way.heavy fewer in (h.0, heavy_passed direction p q same h.1);
+    light = λ several. light_without_newest (weight_of direction) q.earlier (light_passed direction p q same (way.light (omega (arith, few, several))));
+    refused = tt;
+  }
 
-  -- before the last of its steps the records did not weigh too much, if there are several: neither over bytes that were
-  -- passed
-  pub passed_light : (q : PlainSession) → (IsForward direction → weights_from q.earlier ≡ weights_from p.earlier) → 1 < n → IsLight (weight_of direction) (drop 1 q.earlier)
-  passed_light q same several = light_without_newest (weight_of direction) q.earlier (light_passed direction p q same (way.light several))
+  -- or after one step
+  pub way_met : (q : PlainSession) → Answers (command_towards direction) p Done q → IsWalk (command_towards direction) goal 1 p 1 None q → steps < most → goal q.last ≡ true →
+      IsWalkUnder (weight_of direction) (command_towards direction) goal n old (steps + 1) None q
+  way_met q taken one few met = record {
+    allowed = most;
+    within = way.within;
+    walk = met_walk (command_towards direction) goal most steps 1 old p q way.on one (omega arith) (omega (arith, few)) met;
+    heavy = λ fewer. let h = way.heavy fewer in (h.0, heavy_after direction p q taken h.1);
+    light = λ several. light_before direction p q taken (way.light (omega (arith, few, several)));
+    refused = tt;
+  }
 
-  -- nor before a step
-  pub stepped_light : (q : PlainSession) → Answers (command_towards direction) p Done q → 1 < n → IsLight (weight_of direction) (drop 1 q.earlier)
-  stepped_light q taken several = light_before direction p q taken (way.light several)
-
--- ---- a walk that takes one step, since the records weigh too much already
-
--- after steps forward they weigh no less
-no_lighter : (k : ℕ) (p q : PlainSession) → repeated Step k p ≡ Some q → weights_from p.earlier ≤ weights_from q.earlier
-no_lighter zero p q h = let same : p ≡ q = cc in omega (arith, ap (λ (s : PlainSession). weights_from s.earlier) same)
-no_lighter (suc k) p q h =
-    option_and_then_some (λ (m : PlainSession). accepted_by (answer Step m)) (repeated Step k p) q h
-    (λ m there next.
-    let more = (Step_done m q (accepted_done (answer Step m) q next)).2 in
-    omega (arith, no_lighter k p m there, ap (λ (s : PlainSession). weights_from s.earlier) more))
-
-pub one_alone : {most few n steps : ℕ} {goal : Goal} {why : Option Refusal} {old new : PlainSession} → few ≤ n → (few < n → (0 < few) × (most < weights_from old.earlier)) →
-    IsWalkWithin most goal few old steps why new → IsWalkWithin most goal n old steps why new
-one_alone {most} {few} {n} {steps} {goal} {why} {old} {new} within begun walk = record {
-  allowed = walk.allowed;
-  within = omega (arith, walk.within, within);
-  walk = walk.walk;
-  heavy = λ fewer. ⊎_elim
-      (λ (sooner : walk.allowed < few). walk.heavy sooner)
-      (λ (all : few ≤ walk.allowed).
-      let h = begun (omega (arith, all, fewer, walk.within)) in
-      (omega (arith, all, h.0), omega (arith, h.1, no_lighter steps old new walk.walk.walked)))
-      (cases_lt walk.allowed few);
-  light = walk.light;
-  refused = walk.refused;
-}
+  -- the records weigh too much after it, and the goal is not met
+  pub way_heavy : (q : PlainSession) → Answers (command_towards direction) p Done q → IsWalk (command_towards direction) goal 1 p 1 None q → steps < most → goal q.last ≡ false →
+      IsHeavy (weight_of direction) q.earlier → IsWalkUnder (weight_of direction) (command_towards direction) goal n old (steps + 1) None q
+  way_heavy q taken one few unmet heavy = record {
+    allowed = steps + 1;
+    within = omega (arith, few, way.within);
+    walk = whole_walk (command_towards direction) goal (steps + 1) old q (goes_on_further (command_towards direction) goal old p q steps 1 way.on one unmet);
+    heavy = λ fewer. (omega arith, heavy);
+    light = λ several. light_before direction p q taken (way.light (omega (arith, few, several)));
+    refused = tt;
+  }
 
 -- ---- what public walks say of it
-
--- a search is such a walk, with what it says of it
-pub searched_within : (most : ℕ) (goal : Goal) (n : ℕ) (old new : PlainSession) (done steps : ℕ) (ended why : Option Refusal) → IsWalkWithin most goal n old done ended new →
-    steps ≡ done → why ≡ outcome (nat_lt 0 done && goal new.last) ended → IsSearchWithin most goal n old steps why new
-searched_within most goal n old new done steps ended why walk same is = (
-  ended,
-  subst (λ k. IsWalkWithin most goal n old k ended new) (sym same) walk,
-  is ∙ ap (λ k. outcome (nat_lt 0 k && goal new.last) ended) (sym same),
-)
 
 -- without a weight it takes all its steps
 pub unweighed : {command : Command} {goal : Goal} {n steps : ℕ} {why : Option Refusal} {old new : PlainSession} → IsWalkUnder None command goal n old steps why new → IsWalk command goal n old steps why new

@@ -72,11 +72,6 @@ pub Back_answered : (p q : PlainSession) (reply : Reply) → answer Back p ≡ r
 Back_answered p q Done h = h
 Back_answered p q (Refused refusal) h = Back_refused_as p q refusal h
 
--- a step that is none back is one forward
-pub forward_steps : (direction : Direction) → (direction ≡ towards.Backward → ⊥) → command_towards direction ≡ Step
-forward_steps (towards.Forward weight) other = refl
-forward_steps towards.Backward other = absurd (other refl)
-
 -- ---- walks
 
 -- a walk goes on: so many steps were accepted, and the goal was not met after any of them
@@ -166,16 +161,6 @@ met_walk command goal n m k old p q on more some few met = record {
   walked = repeated-from command m k old p on.walked ∙ more.walked;
   unmet = unmet_further command goal old p q m k on more;
   stopped = inr (omega (arith, some), met);
-}
-
--- the last steps are taken, as a walk
-pub last_walk : (command : Command) (goal : Goal) (n m k : ℕ) (old p q : PlainSession) → GoesOn command goal old m p → IsWalk command goal k p k None q → m + k ≡ n →
-    IsWalk command goal n old n None q
-last_walk command goal n m k old p q on more all = record {
-  within = omega arith;
-  walked = ap (λ j. repeated command j old) (sym all) ∙ repeated-from command m k old p on.walked ∙ more.walked;
-  unmet = λ j r some fewer there. unmet_further command goal old p q m k on more j r some (omega (arith, fewer, all)) there;
-  stopped = inl refl;
 }
 
 -- all steps are taken

@@ -6,7 +6,6 @@ ghost use Rattle.trac_session.specs.Commands.{command_of};
 ghost use Rattle.trac_session.specs.Replies.{reply_of};
 
 use crate::session::Session;
-use crate::walking::Direction;
 use std::alloc::{Allocator, Global};
 use trac_rules::refusal::Refusal;
 pub use trac_rules::reply::Reply;
@@ -57,7 +56,7 @@ impl<A: Allocator + Copy> Session<A> {
                 self.end();
                 Reply::Done
             }
-            Command::Step => reply_to(self.step(Direction::Forward(None))),
+            Command::Step => reply_to(self.step()),
             Command::Back => reply_to(self.step_back()),
             Command::Commit(keep) => {
                 self.commit(keep);

@@ -1,5 +1,5 @@
 //! What walks look for.
-ghost use Rattle.std.specs.Prelude.{◌≡◌, ◌<◌, bytes_eq, is_some, map, option_copied, false, Some, true};
+ghost use Rattle.std.specs.Prelude.{◌≡◌, bytes_eq, is_some, map, option_copied, false, Some, true};
 ghost use Rattle.std.specs.List.{starts_with};
 ghost use Rattle.trac_rules.specs.Goals.{frame_at, is_begun_with, is_form_as, is_idle_printing, is_idle_reading};
 ghost use Rattle.trac_rules.specs.Goals.{is_same_form, is_same_item, next_call};
@@ -59,16 +59,14 @@ impl<'a, A: Allocator + Copy> Clone for Goal<'a, A> {
 impl<'a, A: Allocator + Copy> Copy for Goal<'a, A> {}
 
 impl<'a, A: Allocator + Copy> Goal<'a, A> {
-    // How many bytes that a step each moves may be passed at once on the way to the goal: one alone, if a state before
-    // such a step may meet it.
-    pub(crate) fn at_once(&self) -> u64
-        ensures some { 0 < result }
-        ensures quiet { 1 < result → (s : State) → IsQuiet s → goal_of self.now s ≡ false }
+    // Whether the goal is met only if the next step performs a call or has a doubt.
+    pub(crate) fn is_never_met_quietly(&self) -> bool
+        ensures { result ≡ true → (s : State) → IsQuiet s → goal_of self.now s ≡ false }
     {
         match self {
-            Goal::Call(_) | Goal::OwnCall | Goal::End(_) => u64::MAX,
-            Goal::OtherForm(..) | Goal::Doubtful(_) => u64::MAX,
-            Goal::Shallower(_) | Goal::Rest(_) | Goal::Unprinted(_) => 1,
+            Goal::Call(_) | Goal::OwnCall | Goal::End(_) => true,
+            Goal::OtherForm(..) | Goal::Doubtful(_) => true,
+            Goal::Shallower(_) | Goal::Rest(_) | Goal::Unprinted(_) => false,
         }
     }
 }

@@ -4,18 +4,16 @@ ghost use Rattle.std.specs.List.{All};
 ghost use Rattle.trac_rules.specs.declared.reply.Reply.TheVariants.{Done};
 ghost use Rattle.trac_rules.specs.Fronts.{IsFrontOf};
 ghost use Rattle.trac_rules.specs.Reading.{unread};
-ghost use Rattle.trac_rules.specs.Session.{new_session, Feed, End, Back, Commit, answer, Answers, first_kept};
+ghost use Rattle.trac_rules.specs.Session.{new_session, Feed, End, Step, Back, Commit, answer, Answers, first_kept};
 ghost use Rattle.trac_rules.specs.Session.{settled};
 ghost use Rattle.trac_rules.specs.Trails.{IsTrail};
 ghost use Rattle.trac_rules.specs.Weights.{losses_from, weights_from};
 ghost use Rattle.trac_step.specs.Room.{HasRoom};
-ghost use Rattle.trac_session.specs.Directions.{command_towards};
 ghost use Rattle.trac_session.specs.Journal.{IsAtStart};
 ghost use Rattle.trac_session.specs.Knowing.{HasForgotten, KnowsItsOwn, names_in};
 ghost use Rattle.trac_session.specs.Replies.{reply_of};
 
 use crate::sweep_mark::SweepMark;
-use crate::walking::Direction;
 use std::alloc::{Allocator, Global};
 use std::marker::Model;
 use trac_gap::{SlidingBuf, TwoEnds};
@@ -112,20 +110,14 @@ impl<A: Allocator + Copy> Session<A> {
         self.ended = true;
     }
 
-    /// Goes this way by one step. The loop of a walk has this inlined, with the most frequent rules of scanning, and
-    /// calls the way back.
-    ///
-    /// Forward it is refused, with nothing changed, as `JournalFull` if the journal holds as many records as it may.
-    /// Else as `NeedInput` or `Ended` if the step reads input that is not there, and as `Ended` also if it performs
-    /// `hl`. Else as `TooLong` if the state after the step passes a limit; and with `Memory` if there is not enough of
-    /// it.
+    /// Goes forward by one step.
+    /// Refused, with nothing changed, as `JournalFull` if the journal holds as many records as it may. Else as
+    /// `NeedInput` or `Ended` if the step reads input that is not there, and as `Ended` also if it performs `hl`. Else
+    /// as `TooLong` if the state after the step passes a limit; and with `Memory` if there is not enough of it.
     #[inline(always)]
-    pub(crate) fn step(&mut self, direction: Direction) -> Result<(), Refusal>
-        ensures { Answers (command_towards direction) self.old (reply_of result) self.new }
+    pub(crate) fn step(&mut self) -> Result<(), Refusal>
+        ensures { Answers Step self.old (reply_of result) self.new }
     {
-        if let Direction::Backward = direction {
-            return self.step_back();
-        }
         if self.journal.len() >= self.limit {
             return Err(Refusal::JournalFull);
         }

@@ -1,10 +1,13 @@
 //! Walks over several steps.
-ghost use Rattle.std.specs.Prelude.{◌≡◌, ◌<◌, ◌≤◌, ◌&&◌, false, length, max, nat_lt, true};
-ghost use Rattle.trac_rules.specs.Session.{Step, Back, IsWalk, no_goal};
-ghost use Rattle.trac_session.specs.Directions.{command_towards, weight_of};
+ghost use Rattle.std.specs.Prelude.{◌≡◌, ◌<◌, ◌≤◌, ◌&&◌, Some, false, length, max, nat_lt, true, ℕ};
+ghost use Rattle.trac_rules.specs.Session.{PlainSession, Step, Back, Answers, IsWalk, no_goal, repeated};
+ghost use Rattle.trac_rules.specs.State.{State};
+ghost use Rattle.trac_rules.specs.Weights.{weights_from};
+ghost use Rattle.trac_session.specs.Directions.{IsForward, command_towards, weight_of};
 ghost use Rattle.trac_session.specs.Goals.{IsSearch, goal_at, goal_of, is_call_of, outcome};
+ghost use Rattle.trac_session.specs.Replies.{reply_of};
 ghost use Rattle.trac_session.specs.Returns.{IsReturn};
-ghost use Rattle.trac_session.specs.Runs.{IsAsked};
+ghost use Rattle.trac_session.specs.Runs.{HasNoPlain, IsAsked, IsQuiet};
 ghost use Rattle.trac_session.specs.Within.{IsHeavy, IsLight, IsSearchWithin, IsWalkUnder, IsWalkWithin};
 
 use crate::goal::{Goal, is_met};
@@ -15,13 +18,71 @@ use trac_rules::refusal::Refusal;
 
 // Which way a walk goes.
 #[derive(Clone, Copy)]
-pub(crate) enum Direction {
+enum Direction {
     // until the records weigh more than this, if a weight is given
     Forward(Option<u64>),
     Backward,
 }
 
+// How many of so many steps may be passed at once: all of them if no state before a step that moves a byte meets the
+// goal, or if there is none. Else one.
+#[inline(always)]
+fn at_once<A: Allocator + Copy>(goal: Option<Goal<'_, A>>, left: u64) -> u64
+    ensures most { result ≤ left }
+    ensures some { 0 < left → 0 < result }
+    ensures quiet { 1 < result → (s : State) → IsQuiet s → goal_at goal.entry s ≡ false }
+{
+    match goal {
+        Some(goal) if !goal.is_never_met_quietly() => left.min(1),
+        _ => left,
+    }
+}
+
 impl<A: Allocator + Copy> Session<A> {
+    // Takes one step this way. The loop of a walk has this inlined, with the most frequent rules of scanning, and calls
+    // the way back.
+    #[inline(always)]
+    fn go(&mut self, direction: Direction) -> Result<(), Refusal>
+        ensures { Answers (command_towards direction) self.old (reply_of result) self.new }
+    {
+        match direction {
+            Direction::Forward(_) => self.step(),
+            Direction::Backward => self.step_back(),
+        }
+    }
+
+    // Goes this way over bytes that a step each moves, at most so many, all at once. Returns how many steps these are.
+    #[inline(always)]
+    fn pass(&mut self, direction: Direction, most: u64) -> u64
+        ensures passed { repeated (command_towards direction) result self.old ≡ Some self.new }
+        ensures most { result ≤ most }
+        ensures quiet { (k : ℕ) → (p : PlainSession) → 0 < k → k < result →
+            repeated (command_towards direction) k self.old ≡ Some p → IsQuiet p.last }
+        ensures end { IsForward direction → result < most → HasNoPlain self.new }
+        ensures weight { IsForward direction → weights_from self.new.earlier ≡ weights_from self.old.earlier }
+    {
+        // Read for what holds of a session: its states are steps of one another, so that a step that moved a byte does
+        // nothing else.
+        let _limit = self.limit;
+        match direction {
+            Direction::Forward(_) => self.pass_plain(most),
+            Direction::Backward => self.pass_back(most),
+        }
+    }
+
+    // Whether the session shows a state that meets the goal, if there is one, after so many steps: no goal is met by
+    // standing still.
+    #[inline(always)]
+    fn has_met(&self, goal: Option<Goal<'_, A>>, steps: u64) -> bool
+        ensures { result ≡ (nat_lt 0 steps && goal_at goal.entry self.now.last) }
+    {
+        steps > 0
+            && match goal {
+                Some(goal) => self.meets(&goal),
+                None => false,
+            }
+    }
+
     // Whether the records weigh too much to go further this way.
     #[inline(always)]
     fn is_heavy(&self, direction: Direction) -> bool
@@ -34,25 +95,8 @@ impl<A: Allocator + Copy> Session<A> {
         }
     }
 
-    // Whether a walk this way ends after a step: the state meets the goal, if there is one, or the records weigh too
-    // much.
-    #[inline(always)]
-    fn ends(&self, direction: Direction, goal: Option<Goal<'_, A>>) -> bool
-        ensures heavy { result ≡ true → goal_at goal.entry self.now.last ≡ false →
-            IsHeavy (weight_of direction) self.now.earlier }
-        ensures light { result ≡ false → IsLight (weight_of direction) self.now.earlier }
-        ensures unmet { result ≡ false → goal_at goal.entry self.now.last ≡ false }
-    {
-        if self.is_heavy(direction) {
-            return true;
-        }
-        match goal {
-            Some(goal) => self.meets(&goal),
-            None => false,
-        }
-    }
-
     // How many of `n` steps may be taken: one alone if the records weigh too much already.
+    #[inline(always)]
     fn steps_within(&self, direction: Direction, n: u64) -> u64
         ensures most { result ≤ n }
         ensures heavy { result < n → (0 < result) × IsHeavy (weight_of direction) self.now.earlier }
@@ -66,50 +110,39 @@ impl<A: Allocator + Copy> Session<A> {
     }
 
     // Goes this way by up to `n` steps, until one is refused, which the walk returns, or the goal is met, if there is
-    // one, or the records weigh too much. Plain bytes are passed at once, so for none of them memory is refused. Before
-    // several steps the records may not weigh too much.
+    // one, or the records weigh too much. Plain bytes are passed at once, so for none of them memory is refused.
     //
     // This is the loop of every walk but that of a run, inlined into each: so none tests for what it has not got.
     #[inline(always)]
     fn walk<'s>(&'s mut self, direction: Direction, goal: Option<Goal<'s, A>>, n: u64) -> Walk
-        requires { 1 < n → IsLight (weight_of direction) self.old.earlier }
         ensures walk { IsWalkUnder (weight_of direction) (command_towards direction) (goal_at goal.entry) n self.old
             result.done result.why self.new }
         ensures asked { IsAsked result.why self.new.last }
     {
-        let at_once = match goal {
-            Some(goal) => goal.at_once(),
-            None => u64::MAX,
-        };
-        let mut left = n;
+        let most = self.steps_within(direction, n);
+        let mut done = 0;
         loop {
-            let most = at_once.min(left);
-            let passed = self.pass(direction, most);
-            left -= passed;
-            if left == 0 {
-                return Walk { done: n, why: None };
+            let left = at_once(goal, most - done);
+            let passed = self.pass(direction, left);
+            done += passed;
+            if self.has_met(goal, passed) {
+                return Walk { done, why: None };
             }
-            if passed > 0 && self.ends(direction, goal) {
-                return Walk {
-                    done: n - left,
-                    why: None,
-                };
-            }
-            if passed == most {
+            if passed == left {
+                if done == most {
+                    return Walk { done, why: None };
+                }
                 continue;
             }
-            if let Err(refusal) = self.step(direction) {
-                return Walk::refused(n - left, refusal);
+            if let Err(refusal) = self.go(direction) {
+                return Walk::refused(done, refusal);
             }
-            left -= 1;
-            if left == 0 {
-                return Walk { done: n, why: None };
+            done += 1;
+            if self.has_met(goal, 1) {
+                return Walk { done, why: None };
             }
-            if self.ends(direction, goal) {
-                return Walk {
-                    done: n - left,
-                    why: None,
-                };
+            if self.is_heavy(direction) {
+                return Walk { done, why: None };
             }
         }
     }
@@ -156,14 +189,14 @@ impl<A: Allocator + Copy> Session<A> {
         // it one instruction in a hundred more.
         let mut done = 0;
         while done < n {
-            if let Err(refusal) = self.step(Direction::Forward(None)) {
+            if let Err(refusal) = self.step() {
                 return Walk::refused(done, refusal);
             }
             done += 1;
             if self.weight() > most {
                 return Walk { done, why: None };
             }
-            done += self.pass(Direction::Forward(None), n - done);
+            done += self.pass_plain(n - done);
         }
         Walk { done, why: None }
     }
@@ -194,9 +227,7 @@ impl<A: Allocator + Copy> Session<A> {
         ensures search { IsSearchWithin most (goal_of goal.entry) n self.old result.done result.why self.new }
         ensures asked { IsAsked result.why self.new.last }
     {
-        let direction = Direction::Forward(Some(most));
-        let steps = self.steps_within(direction, n);
-        let walk = self.walk(direction, Some(goal), steps);
+        let walk = self.walk(Direction::Forward(Some(most)), Some(goal), n);
         self.searched(&goal, walk)
     }
 

@@ -1,9 +1,7 @@
 -- A call that is ready is performed: its memory is taken, then forms and blocks are changed, and then it is ended.
-use Rattle.std.proofs.Common.{◌≡◌, Bool, true, false, ℕ, ◌+◌, ◌<◌, ◌≤◌, ◌^◌, List, length, refl, sym, ap, ◌∙◌, subst, arith}
+use Rattle.std.proofs.Common.{◌≡◌, ℕ, ◌+◌, ◌<◌, ◌^◌, List, length, refl, sym, ap, ◌∙◌, subst, arith}
 use Rattle.std.proofs.lemmas.Result.{err_from_is_err_and}
-use Rattle.std.specs.Option.{option_and}
-use Rattle.std.specs.Prelude.{◌||◌, Err, None, Ok, Option, Result, Some, option_map}
-use Rattle.trac_rules.specs.declared.kind.Kind.TheVariants.{Active, Neutral}
+use Rattle.std.specs.Prelude.{Err, Result, option_map}
 use Rattle.std.specs.Result.{IsErrAnd}
 use Rattle.trac_rules.specs.declared.kind.Kind.{Kind}
 use Rattle.trac_rules.specs.declared.refusal.Refusal.{Refusal}
@@ -11,11 +9,9 @@ use Rattle.trac_rules.specs.declared.refusal.Refusal.TheVariants.{Memory}
 use Rattle.trac_rules.specs.declared.scan.Front.TheVariants.{Closing}
 use Rattle.trac_rules.specs.Limits.{text_bytes}
 use Rattle.trac_rules.specs.Proper.{IsProper}
-use Rattle.trac_rules.specs.Outcomes.{MayRefuse}
-use Rattle.trac_rules.specs.Records.{Record, is_scanned, record_of}
+use Rattle.trac_rules.specs.Records.{Record, is_scanned}
 use Rattle.trac_rules.specs.Scanning.{front_of, scan}
-use Rattle.trac_rules.specs.State.{Environment, State, storage_of}
-use Rattle.trac_rules.specs.Stepping.{step}
+use Rattle.trac_rules.specs.State.{State, storage_of}
 use Rattle.trac_rules.specs.Undone.{Undone}
 use Rattle.trac_change.specs.declared.change.UnnamedChange.{UnnamedChange}
 use Rattle.trac_prims.specs.declared.effect.Made.{Made}
@@ -24,13 +20,10 @@ use Rattle.trac_text.specs.declared.calls.Beginning.{Beginning}
 use Rattle.trac_prims.specs.declared.effect.Deed.{Deed}
 use Rattle.trac_journal.specs.declared.called.Called.{Called}
 use Rattle.trac_step.specs.Calling.{BeginsInnermost, HasRoomFor, arguments_in, called_with, state_after, state_ended, with_storage}
-use Rattle.trac_step.specs.Kept.{FitsJournal, IsKeptAs, IsStepped}
+use Rattle.trac_step.specs.Kept.{FitsJournal, IsKeptAs}
 use Rattle.trac_step.specs.Layout.{Shown}
 use Rattle.trac_step.specs.Ready.{CanChange, CanEnd, IsReady}
-use Rattle.trac_step.specs.Room.{IsNoLess, LacksRoomAhead}
-use Rattle.trac_step.proofs.Fitting.{added_as}
-use Rattle.trac_step.proofs.Outcomes.{if_err_always, refused_for_memory, taken_by, taken_lacks}
-use Rattle.trac_step.proofs.Recorded.{call_lacks_nothing}
+use Rattle.trac_step.specs.Room.{IsNoLess}
 use Rattle.trac_step.proofs.Storages.{ended_is, storage_proper}
 
 -- the call that is ready can change forms and blocks as it is planned
@@ -70,27 +63,6 @@ said_as s kind deed made called kind_is value_is scanned_is printed_is read_is m
   trace = trace_is i;
 }
 
-or_true : (b : Bool) → (b || true) ≡ true
-or_true true = refl
-or_true false = refl
-
-or_false : (b : Bool) → (b || false) ≡ b
-or_false true = refl
-or_false false = refl
-
--- the value of an active function is scanned
-pub active_scanned : (kind : Kind) (forced is_active : Bool) → kind ≡ Active → is_active ≡ true → (forced || is_active) ≡ is_scanned kind forced
-active_scanned kind forced is_active active is = ap (λ b. forced || b) is ∙ or_true forced ∙ sym (ap (λ k. is_scanned k forced) active)
-
--- and that of a neutral one if it is forced
-pub neutral_scanned : (kind : Kind) (forced is_active : Bool) → kind ≡ Neutral → is_active ≡ false → (forced || is_active) ≡ is_scanned kind forced
-neutral_scanned kind forced is_active neutral is = ap (λ b. forced || b) is ∙ or_false forced ∙ sym (ap (λ k. is_scanned k forced) neutral)
-
--- the old meta character, if one is set
-pub old_if_set : (old : ℕ) (set : Option ℕ) → option_and set (Some old) ≡ option_map (λ _. old) set
-old_if_set old None = refl
-old_if_set old (Some b) = refl
-
 -- memory is refused to a call
 pub not_kept : {R : Type 0} (r : Result R Refusal) (kept : Record) (state : State) (m n : Shown) (old new : List Record) (e : Refusal) → IsErrAnd r (λ said. said ≡ e) → e ≡ Memory → n.state ≡ m.state → new ≡ old → IsNoLess m n →
     IsKeptAs kept state r m n old new
@@ -126,15 +98,3 @@ module _ {A : Type 0} (s : State) (m n : Shown) (beginning : Beginning) (deed : 
         output_room = omega (arith, room.output, more.output, printed);
         proper = subst IsProper (sym ended_then) ready.proper;
       }
-
--- the step of a call that is kept so
-pub stepped_call : {R : Type 0} (e : Environment) (r : Result R Refusal) (m n : Shown) (old new : List Record) (places : ℕ) (t : State) (kept : Record) → front_of m.state.active ≡ Closing → 0 < length m.state.frames →
-    step e m.state ≡ Ok t → record_of e m.state ≡ Some kept → IsKeptAs kept t r m n old new → IsStepped e r m n old new places
-stepped_call e r m n old new places t kept front inside taken recorded done = record {
-  taken = taken_by r (step e m.state) t n.state taken done.done;
-  kept = added_as r (record_of e m.state) kept old new recorded done.added;
-  refused = refused_for_memory r (λ refusal. MayRefuse (step e m.state) refusal) done.unchanged done.err (λ same. taken_lacks (step e m.state) t taken);
-  unchanged = done.unchanged;
-  lacking = if_err_always r (λ refusal. refusal ≡ Memory → 1 ≤ places → LacksRoomAhead m) (λ refusal is place. call_lacks_nothing m front inside);
-  room = done.room;
-}

@@ -1,7 +1,7 @@
 -- A machine after a call that is planned: it shows the state that the rules say.
 use Rattle.std.proofs.Common.{◌≡◌, ℕ, ◌+◌, ◌<◌, ◌≤◌, Bool, List, [], ◌∷◌, ◌++◌, length, drop, refl, sym, ap, ◌∙◌, subst, arith}
 use Rattle.std.specs.Option.{unwrap_or}
-use Rattle.std.proofs.lemmas.List.{append-nil, length-drop}
+use Rattle.std.proofs.lemmas.List.{length-drop}
 use Rattle.trac_gap.specs.Window.{Window}
 use Rattle.trac_rules.specs.declared.kind.Kind.{Kind}
 use Rattle.trac_rules.specs.declared.limit.TheConstants.{TEXT_LIMIT, OUTPUT_LIMIT}
@@ -29,11 +29,6 @@ use Rattle.trac_step.proofs.Scans.{scan_front}
 pub some_active : (active : List ℕ) → front_of active ≡ Closing → 0 < length active
 some_active [] e = absurd (let other : Nothing ≡ Closing = e in cc)
 some_active (b ∷ rest) e = omega arith
-
--- nothing is printed
-pub none_printed : (items print : List ℕ) → length print ≡ 0 → items ≡ items ++ print
-none_printed items [] is = sym (append-nil items)
-none_printed items (b ∷ rest) is = absurd (omega (arith, is))
 
 -- the texts without the innermost function and its `)`
 abbrev pub without_call : Texts → Texts

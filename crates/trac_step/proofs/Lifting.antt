@@ -5,12 +5,14 @@ use Rattle.std.specs.Bool.{then_some}
 use Rattle.trac_gap.specs.Window.{Window}
 use Rattle.trac_rules.specs.declared.kind.Kind.{Kind}
 use Rattle.trac_rules.specs.declared.kind.Kind.TheVariants.{Active, Neutral}
+use Rattle.trac_rules.specs.declared.scan.Front.{Front}
+use Rattle.trac_rules.specs.declared.scan.Front.TheVariants as front
 use Rattle.trac_rules.specs.declared.width.Width.{Width}
 use Rattle.trac_rules.specs.Matching.{protected}
 use Rattle.trac_rules.specs.Performing.{beginning_of, placed}
 use Rattle.trac_rules.specs.PlainRuns.{moved_on}
-use Rattle.trac_rules.specs.Records.{Begun, Comma, Quoted, Rest, Texts, all_before_last, ending_of, frame_of, gathered_again_in, last_of, moved_back, moved_back_in, not_begun_in, put_before, restored, state_of, texts_in}
-use Rattle.trac_rules.specs.Scanning.{protect, comma_in, deleted, gathered_in}
+use Rattle.trac_rules.specs.Records.{Begun, Comma, Quoted, Rest, Texts, all_before_last, comma_recorded, ending_of, frame_of, gathered_again_in, last_of, moved_back, moved_back_in, not_begun_in, put_before, recorded, recorded_at, restored, state_of, texts_in}
+use Rattle.trac_rules.specs.Scanning.{Scanned, Calls, Moves, closing_in, comma_in, deleted, front_of, gathered_in, scan, scan_at}
 use Rattle.trac_rules.specs.State.{Frame, State, Storage}
 use Rattle.trac_forms.specs.Stored.{Stored, storage_in}
 use Rattle.trac_text.specs.Holding.{CanHoldAgain, ShownTexts, alone, texts_by}
@@ -36,15 +38,55 @@ gathered_lifts (f ∷ fs) more active t storage rest = refl
 pub moved_lifts : (n : ℕ) → Lifts (moved_on n)
 moved_lifts n t storage rest = gathered_lifts t.frames (take n t.active) (drop n t.active) t storage rest
 
-pub protect_lifts : Lifts (λ s. protect (protected (drop 1 s.active)) s)
-protect_lifts t storage rest = gathered_lifts t.frames (protected (drop 1 t.active)).inner (protected (drop 1 t.active)).rest t storage rest
+-- so does scanning
+abbrev scanned_with : Storage → Rest → Scanned → Scanned
+scanned_with storage rest (Moves u) = Moves (state_of (texts_in u) storage rest)
+scanned_with storage rest (Calls call) = Calls (record call { state = state_of (texts_in call.state) storage rest })
 
-pub argument_lifts : Lifts (λ s. comma_in s.frames (deleted 1 s))
-argument_lifts t storage rest = by_frames t.frames
+scan_lifts : (t : Texts) (storage : Storage) (rest : Rest) → scan (state_of t storage rest) ≡ scanned_with storage rest (scan (alone t))
+unfolding scan
+scan_lifts t storage rest = by_front (front_of t.active)
   where
-    by_frames : (fs : List Frame) → state_of (texts_in (comma_in fs (deleted 1 (alone t)))) storage rest ≡ comma_in fs (deleted 1 (state_of t storage rest))
-    by_frames [] = refl
-    by_frames (f ∷ fs) = refl
+    gathers : (more active : List ℕ) → Moves (gathered_in t.frames more (record (state_of t storage rest) { active = active })) ≡ scanned_with storage rest (Moves (gathered_in t.frames more (record (alone t) { active = active })))
+    gathers more active = ap Moves (sym (gathered_lifts t.frames more active t storage rest))
+
+    at_comma : (fs : List Frame) → Moves (comma_in fs (deleted 1 (state_of t storage rest))) ≡ scanned_with storage rest (Moves (comma_in fs (deleted 1 (alone t))))
+    at_comma [] = refl
+    at_comma (f ∷ fs) = refl
+
+    at_closing : (fs : List Frame) → closing_in fs (deleted 1 (state_of t storage rest)) ≡ scanned_with storage rest (closing_in fs (deleted 1 (alone t)))
+    at_closing [] = refl
+    at_closing (f ∷ fs) = refl
+
+    by_front : (at : Front) → scan_at at (state_of t storage rest) ≡ scanned_with storage rest (scan_at at (alone t))
+    by_front front.Nothing = refl
+    by_front front.Opening = gathers (protected (drop 1 t.active)).inner (protected (drop 1 t.active)).rest
+    by_front front.Layout = refl
+    by_front front.Comma = at_comma t.frames
+    by_front front.ActiveCall = refl
+    by_front front.NeutralCall = refl
+    by_front front.Sharp = gathers (take 1 t.active) (drop 1 t.active)
+    by_front front.Closing = at_closing t.frames
+    by_front front.Plain = gathers (take 1 t.active) (drop 1 t.active)
+
+-- what it destroys is told from the texts alone
+recorded_lifts : (t : Texts) (storage : Storage) (rest : Rest) → recorded (state_of t storage rest) ≡ recorded (alone t)
+recorded_lifts t storage rest = by_front (front_of t.active)
+  where
+    at_comma : (fs : List Frame) → comma_recorded fs (state_of t storage rest) ≡ comma_recorded fs (alone t)
+    at_comma [] = refl
+    at_comma (f ∷ fs) = refl
+
+    by_front : (at : Front) → recorded_at at (state_of t storage rest) ≡ recorded_at at (alone t)
+    by_front front.Nothing = refl
+    by_front front.Opening = refl
+    by_front front.Layout = refl
+    by_front front.Comma = at_comma t.frames
+    by_front front.ActiveCall = refl
+    by_front front.NeutralCall = refl
+    by_front front.Sharp = refl
+    by_front front.Closing = refl
+    by_front front.Plain = refl
 
 pub placed_lifts : (kind : Kind) (forced : Bool) (value : List ℕ) → Lifts (placed kind forced value)
 placed_lifts Active forced value t storage rest = refl
@@ -131,6 +173,17 @@ module _ {texts : ShownTexts} {store : Stored} {meta : ℕ} {trace : Bool} {posi
       ap seen is
       ∙ ap (λ (s : State). record (seen texts) { state = s }) (lifts texts.texts (storage_in store) (rest_in meta trace position output))
       ∙ ap (λ (n : Shown). record n { state = rule n.state }) view
+
+  -- scanning of the texts alone moved on
+  pub scanned_there : (new : ShownTexts) → scan (alone texts.texts) ≡ Moves (alone new.texts) → scan m.state ≡ Moves (seen new).state
+  scanned_there new is =
+      ap (λ (n : Shown). scan n.state) (sym view)
+      ∙ scan_lifts texts.texts (storage_in store) (rest_in meta trace position output)
+      ∙ ap (scanned_with (storage_in store) (rest_in meta trace position output)) is
+
+  -- and destroyed this
+  pub recorded_there : recorded (alone texts.texts) ≡ recorded m.state
+  recorded_there = sym (recorded_lifts texts.texts (storage_in store) (rest_in meta trace position output)) ∙ ap (λ (n : Shown). recorded n.state) view
 
   -- texts have other rooms, none of them less
   pub no_less_texts : (new : ShownTexts) → texts.text_room ≤ new.text_room → texts.mark_room ≤ new.mark_room → IsNoLess m (seen new)

@@ -1,5 +1,5 @@
 -- Limits on a state, and what is true of every machine, from one another.
-use Rattle.std.proofs.Common.{◌≡◌, ℕ, ◌<◌, ◌≤◌, Bool, length, refl, sym, subst, arith, true, false}
+use Rattle.std.proofs.Common.{◌≡◌, ℕ, ◌<◌, ◌≤◌, Bool, length, refl, sym, arith, true, false}
 use Rattle.std.proofs.lemmas.Bool.{false_from_ne_true, le-leb}
 use Rattle.std.proofs.lemmas.List.{length-drop}
 use Rattle.trac_gap.specs.Window.{Window}
@@ -9,12 +9,10 @@ use Rattle.trac_rules.specs.Limits.{text_bytes, marks, texts_fit}
 use Rattle.trac_rules.specs.Proper.{IsProper}
 use Rattle.trac_rules.specs.Records.{state_of}
 use Rattle.trac_rules.specs.Scanning.{deleted}
-use Rattle.trac_rules.specs.declared.width.Width.{Width}
-use Rattle.trac_forms.specs.Stored.{KnowsAll, Stored, storage_in}
+use Rattle.trac_forms.specs.Stored.{Stored, storage_in}
 use Rattle.trac_text.specs.Holding.{CanHold, ShownTexts}
 use Rattle.trac_storage.proofs.Judged.{limits_kept}
-use Rattle.trac_step.specs.Layout.{IsMachine, Shown, rest_in, shown_by}
-use Rattle.trac_step.specs.Room.{HasRoom}
+use Rattle.trac_step.specs.Layout.{IsMachine, rest_in}
 
 -- one more mark than there may be
 pub beyond_limits_of_marks : (s : State) → MARK_LIMIT < marks s.frames → texts_fit s ≡ false
@@ -30,20 +28,7 @@ fits_deleted s proper =
     let kept = limits_kept s proper.texts in
     sym (within_limits (deleted 1 s) (omega (arith, kept.text, length-drop 1 s.active)) kept.marked kept.output)
 
--- what is seen of a machine
-module _ {texts : ShownTexts} {store : Stored} {meta : ℕ} {trace : Bool} {position : ℕ} {output : Window ℕ} {width : Width} {m : Shown} (view : shown_by texts store meta trace position output width ≡ m)
-    (machine : IsMachine store output) where
-  -- is a proper state
-  pub shows_proper : CanHold texts texts.texts → IsProper m.state
-  shows_proper can =
-      let proper : IsProper (state_of texts.texts (storage_in store) (rest_in meta trace position output)) =
-      record { texts = within_limits _ can.text_limit can.mark_limit machine.output_limit; storage = machine.storage_is } in
-      subst (λ (n : Shown). IsProper n.state) view proper
-
-  -- for which there is room
-  pub shows_room : CanHold texts texts.texts → HasRoom m m.state
-  shows_room can = subst (λ (n : Shown). HasRoom n n.state) view (record { text = can.text_room; marks = can.mark_room; output = machine.output_room; names = machine.known })
-
-  -- of whose forms the names are recent
-  pub shows_recent : KnowsAll m.recent m.state.forms
-  shows_recent = subst (λ (n : Shown). KnowsAll n.recent n.state.forms) view machine.recent
+-- the state that a machine shows is proper
+pub proper_state : (texts : ShownTexts) (store : Stored) (meta : ℕ) (trace : Bool) (position : ℕ) (output : Window ℕ) → CanHold texts texts.texts → IsMachine (storage_in store) output.items →
+    IsProper (state_of texts.texts (storage_in store) (rest_in meta trace position output))
+proper_state texts store meta trace position output can machine = record { texts = within_limits _ can.text_limit can.mark_limit machine.output_limit; storage = machine.storage_is }

@@ -1,22 +1,18 @@
 -- A step whose record is kept, from the rule that is carried out.
-use Rattle.std.proofs.Common.{◌≡◌, ℕ, suc, ◌<◌, ◌≤◌, Bool, List, [], ◌∷◌, length, refl, sym, ap, ◌∙◌, subst, arith, true, false}
+use Rattle.std.proofs.Common.{◌≡◌, ℕ, ◌<◌, ◌≤◌, List, [], ◌∷◌, length, refl, sym, ap, ◌∙◌, subst, arith, true, false}
 use Rattle.std.proofs.lemmas.Result.{err_from_is_err_and}
 use Rattle.std.specs.Result.{IsErrAnd}
-use Rattle.std.proofs.lemmas.Bool.{false_from_ne_true, le-leb, leb-true}
-use Rattle.std.specs.Prelude.{Result, Ok, Err, Option, None, Some, nat_lt}
+use Rattle.std.specs.Prelude.{Result, Ok, Err, Option, None, Some}
 use Rattle.trac_rules.specs.declared.limit.TheConstants.{MARK_LIMIT}
 use Rattle.trac_rules.specs.declared.refusal.Refusal.{Refusal}
-use Rattle.trac_rules.specs.declared.refusal.Refusal.TheVariants.{AtStart, Closed, Ended, JournalFull, Memory, NeedInput, NotMet, TooLong}
+use Rattle.trac_rules.specs.declared.refusal.Refusal.TheVariants.{Memory, TooLong}
 use Rattle.trac_rules.specs.Limits.{marks, texts_fit}
 use Rattle.trac_rules.specs.Records.{Record, record_of, recorded, texts_in}
 use Rattle.trac_rules.specs.Scanning.{Moves, deleted, scan}
 use Rattle.trac_rules.specs.State.{Environment, State}
-use Rattle.trac_text.specs.Holding.{MayRefuseMark, ShownTexts}
 use Rattle.trac_text.specs.Ruled.{makes_mark, rule_of}
 use Rattle.trac_text.specs.declared.scanning.Rule.{Rule}
-use Rattle.trac_text.specs.declared.scanning.Rule.TheVariants.{Perform}
-use Rattle.trac_text.proofs.Ruled.{destroyed_by, recorded_rule, scan_rule, scanned_by}
-use Rattle.trac_rules.specs.Proper.{IsProper}
+use Rattle.trac_storage.proofs.Judged.{limits_kept}
 use Rattle.trac_storage.proofs.Outcomes.{refuses_memory}
 use Rattle.trac_step.specs.Calling.{IfMoves, IsMove, with_mark}
 use Rattle.trac_step.specs.Kept.{IsAdded, IsCarriedOut, IsStepped}
@@ -24,15 +20,33 @@ use Rattle.trac_step.specs.Layout.{Shown}
 use Rattle.trac_step.specs.Record.{IsTaken, recorded_by}
 use Rattle.trac_step.specs.declared.record.Record as alone
 use Rattle.trac_step.specs.Room.{IsNoLess, LacksRoomAhead}
-use Rattle.trac_step.proofs.Moving.{mark_of, move_with_mark, move_without_mark, one_mark_more}
+use Rattle.trac_step.proofs.Moving.{mark_of, of_moves, one_mark_more}
 use Rattle.trac_step.proofs.Outcomes.{move_beyond, move_lacks, move_taken}
 use Rattle.trac_step.proofs.Recorded.{lacks_a_mark, move_recorded}
 use Rattle.trac_step.proofs.Rooms.{no_less, no_less_state}
-use Rattle.trac_step.proofs.Scans.{is_move_by}
 
 -- ---- what carries out a rule
 
--- the state is that to which scanning moves on, and the record is added
+-- memory is refused
+pub not_carried_out : {R : Type 0} (r : Result R Refusal) (m n : Shown) (old new : List Record) (places : ℕ) → r ≡ Err Memory → n ≡ m → new ≡ old → (1 ≤ places → LacksRoomAhead m) →
+    IsCarriedOut r m n old new places
+not_carried_out r m n old new places is same records lacks = subst (λ r. IsCarriedOut r m n old new places) (sym is) (record {
+  ok = tt;
+  kept = tt;
+  unchanged = (same, records);
+  lacking = lacks;
+  err = refl;
+  room = subst (λ (k : Shown). IsNoLess m k) (sym same) (no_less m);
+})
+
+-- for the record, which has no place
+pub no_place : {R : Type 0} (r : Result R Refusal) (m : Shown) (old new : List Record) (places : ℕ) (e : Refusal) → IsErrAnd r (λ said. said ≡ e) → e ≡ Memory → new ≡ old → places ≡ 0 →
+    IsCarriedOut r m m old new places
+no_place r m old new places e is memory same full =
+    let why = err_from_is_err_and r is in
+    not_carried_out r m m old new places (why.1 ∙ ap Err (why.2 ∙ memory)) refl same (λ place. absurd (omega (arith, place, full)))
+
+-- or the state is that to which scanning moves on, and the record is added
 pub carried_out : {R : Type 0} (x : R) (m n : Shown) (old new : List Record) (places : ℕ) (t : State) → scan m.state ≡ Moves t → n.state ≡ t → new ≡ recorded m.state ∷ old → IsNoLess m n →
     IsCarriedOut (Ok x) m n old new places
 carried_out x m n old new places t moves same added room = record {
@@ -48,6 +62,23 @@ pub carried_so : {R : Type 0} (x : R) (m n : Shown) (old new : List Record) (pla
     IsCarriedOut (Ok x) m n old new places
 carried_so x m n old new places t moves shown added =
     carried_out x m n old new places t moves (ap (λ (k : Shown). k.state) shown) added (subst (λ (k : Shown). IsNoLess m k) (sym shown) (no_less_state m t))
+
+-- ---- marks
+
+module _ (m : Shown) (rule : Rule) (next : rule ≡ rule_of (texts_in m.state)) (makes : makes_mark rule ≡ true) where
+  -- where the state after a mark is within the limits, there was room for it
+  pub room_for_mark : IfMoves (scan m.state) (λ t. texts_fit t ≡ true) → marks m.state.frames < MARK_LIMIT
+  room_for_mark fits =
+      let mark = mark_of m.state rule next makes in
+      let after : State = with_mark mark.frame (deleted mark.bytes m.state) in
+      let kept = limits_kept after (of_moves m.state after (λ t. texts_fit t ≡ true) mark.moves fits) in
+      omega (arith, kept.marked, one_mark_more mark.frame mark.bytes m.state mark.inside)
+
+  -- and where all places are taken, there is none
+  pub lacks_mark : m.mark_room ≤ marks m.state.frames → LacksRoomAhead m
+  lacks_mark full =
+      let mark = mark_of m.state rule next makes in
+      lacks_a_mark m (with_mark mark.frame (deleted mark.bytes m.state)) full (one_mark_more mark.frame mark.bytes m.state mark.inside) mark.moves
 
 -- ---- what that says of the step
 
@@ -82,72 +113,6 @@ not_stepped e m records places moves beyond = record {
   lacking = λ is. absurd (cc);
   room = no_less m;
 }
-
--- ---- by the rule that comes next
-
-module _ (e : Environment) (m : Shown) (old : List Record) (places : ℕ) (rule : Rule) (next : rule ≡ rule_of (texts_in m.state)) (other : rule ≡ Perform → ⊥) where
-  moves : IsMove (scan m.state)
-  moves = is_move_by m.state rule next other
-
-  -- memory is refused, and nothing has changed
-  pub refused_memory : {R : Type 0} (r : Result R Refusal) (n : Shown) (new : List Record) → r ≡ Err Memory → n ≡ m → new ≡ old → (1 ≤ places → LacksRoomAhead m) → IsStepped e r m n old new places
-  refused_memory {R} r n new is same records lacks = subst (λ r. IsStepped {R = R} e r m n old new places) (sym is) (subst (λ (k : Shown). IsStepped {R = R} e (Err Memory) m k old new places) (sym same) (record {
-    taken = tt;
-    kept = tt;
-    refused = refuses_memory _ Memory refl (move_lacks e m.state moves);
-    unchanged = (refl, records);
-    lacking = λ said. lacks;
-    room = no_less m;
-  }))
-
-  -- for the record, which has no place
-  pub refused_place : {R : Type 0} (r : Result R Refusal) (new : List Record) (said : Refusal) → IsErrAnd r (λ it. it ≡ said) → said ≡ Memory → new ≡ old → places ≡ 0 → IsStepped e r m m old new places
-  refused_place r new said is memory same full =
-      let why = err_from_is_err_and r is in
-      refused_memory r m new (why.1 ∙ ap Err (why.2 ∙ memory)) refl same (λ place. absurd (omega (arith, place, full)))
-
-  module _ (proper : IsProper m.state) where
-    -- a rule that makes no mark is carried out
-    pub moved_so : {R : Type 0} (x : R) (n : Shown) (new : List Record) (t : State) (r : Record) → makes_mark rule ≡ false → scanned_by rule m.state ≡ Moves t → n ≡ record m { state = t } → new ≡ r ∷ old →
-        r ≡ destroyed_by rule m.state → IsStepped e (Ok x) m n old new places
-    moved_so x n new t r none moved shown added is =
-        stepped e (Ok x) m n old new places moves (move_without_mark m.state proper rule next none)
-        (carried_so x m n old new places t (scan_rule m.state rule next ∙ moved) shown (added ∙ ap (λ (r : Record). r ∷ old) (is ∙ sym (recorded_rule m.state rule next))))
-
-    module _ (makes : makes_mark rule ≡ true) where
-      -- one that makes a mark is, if there are fewer than there may be
-      pub marked_so : {R : Type 0} (x : R) (n : Shown) (new : List Record) (t : State) (r : Record) → marks m.state.frames < MARK_LIMIT → scanned_by rule m.state ≡ Moves t → n.state ≡ t → IsNoLess m n → new ≡ r ∷ old →
-          r ≡ destroyed_by rule m.state → IsStepped e (Ok x) m n old new places
-      marked_so x n new t r limit moved shown room added is =
-          let fewer : nat_lt (marks m.state.frames) MARK_LIMIT ≡ true = le-leb (suc (marks m.state.frames)) MARK_LIMIT (omega (arith, limit)) in
-          let fits = subst (λ (b : Bool). IfMoves (scan m.state) (λ t. b ≡ texts_fit t)) fewer (move_with_mark m.state proper rule next makes) in
-          stepped e (Ok x) m n old new places moves fits
-          (carried_out x m n old new places t (scan_rule m.state rule next ∙ moved) shown (added ∙ ap (λ (r : Record). r ∷ old) (is ∙ sym (recorded_rule m.state rule next))) room)
-
-      -- or there are too many, or memory is refused, as it can be only if there is no room for one more
-      pub refused_mark : {R : Type 0} (r : Result R Refusal) (n : Shown) (new : List Record) (said : Refusal) (texts : ShownTexts) → IsErrAnd r (λ it. it ≡ said) → MayRefuseMark texts said →
-          marks texts.texts.frames ≡ marks m.state.frames → texts.mark_room ≡ m.mark_room → n ≡ m → new ≡ old → IsStepped e r m n old new places
-      refused_mark {R} r n new said texts is may count room same records =
-          let why = err_from_is_err_and r is in
-          subst (λ r. IsStepped {R = R} e r m n old new places) (sym (why.1 ∙ ap Err why.2)) (by_refusal said may)
-        where
-          by_refusal : (said : Refusal) → MayRefuseMark texts said → IsStepped {R = R} e (Err said) m n old new places
-          by_refusal TooLong full =
-              let most : nat_lt (marks m.state.frames) MARK_LIMIT ≡ false = false_from_ne_true (nat_lt (marks m.state.frames) MARK_LIMIT)
-              (λ fewer. absurd (omega (arith, leb-true (suc (marks m.state.frames)) MARK_LIMIT fewer, full, count))) in
-              let beyond = subst (λ (b : Bool). IfMoves (scan m.state) (λ t. b ≡ texts_fit t)) most (move_with_mark m.state proper rule next makes) in
-              subst (λ (k : Shown). IsStepped {R = R} e (Err TooLong) m k old new places) (sym same)
-              (subst (λ (records : List Record). IsStepped {R = R} e (Err TooLong) m m old records places) (sym records) (not_stepped e m old places moves beyond))
-          by_refusal Memory full =
-              let mark = mark_of m.state rule next makes in
-              refused_memory (Err Memory) n new refl same records
-              (λ place. lacks_a_mark m (with_mark mark.frame (deleted mark.bytes m.state)) (omega (arith, full.1, count, room)) (one_mark_more mark.frame mark.bytes m.state mark.inside) mark.moves)
-          by_refusal NeedInput none = absurd none
-          by_refusal Ended none = absurd none
-          by_refusal JournalFull none = absurd none
-          by_refusal AtStart none = absurd none
-          by_refusal Closed none = absurd none
-          by_refusal NotMet none = absurd none
 
 -- ---- a step whose record is kept by itself
 

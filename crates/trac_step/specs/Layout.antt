@@ -1,15 +1,15 @@
 -- How the parts of a machine are read as a state.
-use Rattle.std.specs.Prelude.{ℕ, ◌≤◌, length, Bool, refl}
+use Rattle.std.specs.Prelude.{ℕ, ◌≤◌, List, length, Bool, refl}
 use Rattle.std.specs.Coded.{Coded, code_by, coded×, coded_ℕ}
 use Rattle.std.specs.FinSet as set
 use Rattle.trac_rules.specs.declared.width.Width.{Width}
 use Rattle.trac_gap.specs.Window.{Window}
 use Rattle.trac_rules.specs.declared.limit.TheConstants.{OUTPUT_LIMIT}
 use Rattle.trac_rules.specs.Records.{Rest, state_of}
-use Rattle.trac_rules.specs.State.{State}
+use Rattle.trac_rules.specs.State.{State, Storage}
 use Rattle.trac_rules.specs.Proper.{IsProperStorage}
 use Rattle.trac_rules.specs.Codes.{state_code, text_code, width_code}
-use Rattle.trac_forms.specs.Stored.{KnowsAll, Names, Stored, storage_in}
+use Rattle.trac_forms.specs.Stored.{Names, Stored, storage_in}
 use Rattle.trac_text.specs.Holding.{ShownTexts}
 
 -- ---- what a contract sees of a machine
@@ -44,14 +44,10 @@ shown_by texts store meta trace position output width = record {
   spare = store.spare;
 }
 
--- what is true of every machine, beside what is true of its texts: storage and output are within the limits, there is
--- room for the output, and the names of all forms are known, and recent
-pub record IsMachine (store : Stored) (output : Window ℕ) : Type 0 where
-  pub storage_is : IsProperStorage (storage_in store)
-  pub output_limit : length output.items ≤ OUTPUT_LIMIT
-  pub output_room : length output.items ≤ output.capacity
-  pub known : KnowsAll store.known store.forms
-  pub recent : KnowsAll store.recent store.forms
+-- what is true of every machine, beside what is true of its texts: storage and output are within the limits
+pub record IsMachine (storage : Storage) (output : List ℕ) : Type 0 where
+  pub storage_is : IsProperStorage storage
+  pub output_limit : length output ≤ OUTPUT_LIMIT
 
 abbrev pub shown_code : Coded Shown
 shown_code = code_by (State × (Width × (ℕ × (ℕ × (ℕ × (Names × (Names × ℕ))))))) (coded× state_code

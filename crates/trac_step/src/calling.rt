@@ -1,24 +1,65 @@
 //! The steps that perform a function.
-ghost use Rattle.std.specs.Prelude.{◌≡◌, ◌<◌, ◌≤◌, length, IfErr, IfOk, IsOkUnless, OnOk};
+ghost use Rattle.std.specs.Prelude.{◌≡◌, ◌<◌, ◌≤◌, ◌+◌, ◌++◌, length, option_map, IfErr};
+ghost use Rattle.std.specs.Prelude.{IfOk, IsOkUnless, OnErr, OnOk};
 ghost use Rattle.trac_rules.specs.Outcomes.{MayRefuse};
+ghost use Rattle.trac_rules.specs.Records.{is_scanned};
 ghost use Rattle.trac_rules.specs.Scanning.{front_of, scan};
 ghost use Rattle.trac_rules.specs.Stepping.{step};
 ghost use Rattle.trac_rules.specs.Proper.{IsProper};
 ghost use Rattle.trac_change.specs.declared.change.UnnamedChange.TheVariants.{Keep};
 ghost use Rattle.trac_prims.specs.Tape.{environment_of};
-ghost use Rattle.trac_step.specs.Calling.{HasRoomFor, arguments_in, state_ended, with_change};
+ghost use Rattle.trac_step.specs.Calling.{HasRoomFor, arguments_in, called_with, state_after, state_ended, with_change};
 ghost use Rattle.trac_step.specs.Kept.{CanStep, FitsJournal, IsKeptAs, IsStepped};
-ghost use Rattle.trac_step.specs.Ready.{CanChange, CanEnd, IsPlanned, recorded_after, undone_after};
+ghost use Rattle.trac_step.specs.Ready.{CanChange, CanEnd, IsPlanned, IsReady, recorded_after, undone_after};
 ghost use Rattle.trac_step.specs.Room.{IsNoLess};
 
 use crate::engine::Core;
 use std::alloc::Allocator;
-use trac_gap::TwoEnds;
+use trac_gap::{SlidingBuf, TwoEnds};
 use trac_journal::{Called, Keeper, Undone};
 use trac_prims::{Deed, Made, Now, Tape, UnnamedChange, plan_into};
 use trac_rules::scan::Front;
 use trac_storage::change_forms;
 use trac_text::{Beginning, Kind, Mark, Refusal};
+
+// What the record of a call says beside its arguments, and what was destroyed of forms and blocks, if these are meta
+// character and trace before it.
+fn called_by<A: Allocator + Copy>(
+    kind: Kind,
+    meta: u8,
+    trace: bool,
+    deed: Deed,
+    made: &Made<A>,
+) -> Called
+    ensures kind { result.kind ≡ kind }
+    ensures value { result.value ≡ length made.now.value.items }
+    ensures scanned { result.scanned ≡ is_scanned kind deed.forced }
+    ensures printed { result.printed ≡ length made.now.print.items }
+    ensures read { result.read ≡ deed.read }
+    ensures meta { result.meta ≡ option_map (λ _. meta) deed.meta }
+    ensures trace { result.trace ≡ trace }
+{
+    Called {
+        kind,
+        value: made.value.len(),
+        scanned: deed.forced | (kind == Kind::Active),
+        printed: made.print.len(),
+        read: deed.read,
+        meta: deed.meta.and(Some(meta)),
+        trace,
+    }
+}
+
+// Puts what a call prints at the end of the output, which has to have room for it. Most calls print nothing.
+fn put_printed<A: Allocator>(output: &mut SlidingBuf<u8, A>, printed: &[u8])
+    requires { length output.old.items + length printed.now ≤ output.old.capacity }
+    ensures items { output.new.items ≡ output.old.items ++ printed.now }
+    ensures grows { output.old.capacity ≤ output.new.capacity }
+{
+    if !printed.is_empty() {
+        output.put(printed);
+    }
+}
 
 impl<E: TwoEnds<u8, A>, M: TwoEnds<Mark, A>, A: Allocator + Copy> Core<E, M, A> {
     // Plans the call of the innermost function: its texts are made, and what becomes of forms and blocks is put in
@@ -106,7 +147,6 @@ impl<E: TwoEnds<u8, A>, M: TwoEnds<Mark, A>, A: Allocator + Copy> Core<E, M, A> 
         }
         let alloc = *self.output.allocator();
         let mut undone = change_forms(&mut self.store, alloc, &arguments, change)?;
-        self.store.knows_its_forms();
         keeper.push_call(called, &arguments, &mut undone);
         Ok(())
     }
@@ -121,17 +161,12 @@ impl<E: TwoEnds<u8, A>, M: TwoEnds<Mark, A>, A: Allocator + Copy> Core<E, M, A> 
         self.texts.end_function(beginning);
         self.texts
             .put_value(beginning.kind, deed.forced, made.value.as_slice());
+        put_printed(&mut self.output, made.print.as_slice());
         let meta = deed.meta.unwrap_or(self.meta);
         let trace = deed.trace.unwrap_or(self.trace);
         self.meta = meta;
         self.trace = trace;
         self.position += deed.read;
-        // Most calls print nothing.
-        let printed = made.print.as_slice();
-        if printed.is_empty() {
-            return;
-        }
-        self.output.put(printed);
     }
 
     // A `)` in a function, which is performed: it is judged, then its memory is taken, then forms and blocks change and
@@ -152,17 +187,31 @@ impl<E: TwoEnds<u8, A>, M: TwoEnds<Mark, A>, A: Allocator + Copy> Core<E, M, A> 
     {
         let mut change = UnnamedChange::Keep;
         let (beginning, deed) = self.planned(tape, made, &mut change)?;
-        let called = Called {
-            kind: beginning.kind,
-            value: made.value.len(),
-            scanned: deed.forced | matches!(beginning.kind, Kind::Active),
-            printed: made.print.len(),
-            read: deed.read,
-            meta: deed.meta.and(Some(self.meta)),
-            trace: self.trace,
-        };
+        self.perform(keeper, beginning, deed, made, &mut change)
+    }
+
+    // Performs the call that is planned, and keeps its record. It is refused memory alone, and then
+    // the state and the records stay.
+    fn perform<K: Keeper<A>>(
+        &mut self,
+        keeper: &mut K,
+        beginning: Beginning,
+        deed: Deed,
+        made: &Made<A>,
+        change: &mut UnnamedChange<A>,
+    ) -> Result<(), Refusal>
+        requires proper { IsProper self.old.state }
+        requires ready { IsReady self.old.state made.now beginning deed change.old }
+        requires not_full { length (K.records keeper.old) < K.most }
+        requires fits { FitsJournal (called_with self.old.state beginning.kind deed made.now)
+            (arguments_in (scan self.old.state)) (undone_after change.old self.old.state) }
+        ensures { IsKeptAs (recorded_after (called_with self.old.state beginning.kind deed made.now) change.old
+            self.old.state) (state_after deed made.now change.old (scan self.old.state)) result self.old self.new
+            (K.records keeper.old) (K.records keeper.new) }
+    {
+        let called = called_by(beginning.kind, self.meta, self.trace, deed, made);
         self.make_room(made)?;
-        self.change_into(keeper, beginning, called, &mut change)?;
+        self.change_into(keeper, beginning, called, change)?;
         self.end_call(beginning, deed, made);
         Ok(())
     }

@@ -34,6 +34,7 @@ pub struct Core<E: TwoEnds<u8, A>, M: TwoEnds<Mark, A>, A: Allocator + Copy> {
 pub type Machine<A = Global> = Core<GapBuf<u8, A>, GapBuf<Mark, A>, A>;
 
 impl<E: TwoEnds<u8, A>, M: TwoEnds<Mark, A>, A: Allocator + Copy> Model for Core<E, M, A> {
+    ghost use Rattle.trac_forms.specs.Stored.{storage_in};
     ghost use Rattle.trac_step.specs.Layout.{Shown, shown_by, shown_code, IsMachine};
 
     ghost Value = { Shown };
@@ -42,7 +43,7 @@ impl<E: TwoEnds<u8, A>, M: TwoEnds<Mark, A>, A: Allocator + Copy> Model for Core
 
     ghost view = { λ m. shown_by m.texts m.store m.meta m.trace m.position m.output m.width };
 
-    ghost invariant = { λ m. IsMachine m.store m.output };
+    ghost invariant = { λ m. IsMachine (storage_in m.store) m.output.items };
 }
 
 impl<E: TwoEnds<u8, A>, M: TwoEnds<Mark, A>, A: Allocator + Copy> Core<E, M, A> {
@@ -78,7 +79,6 @@ impl<E: TwoEnds<u8, A>, M: TwoEnds<Mark, A>, A: Allocator + Copy> Core<E, M, A> 
         let read = self.position;
         self.release(printed, read);
         self.store.sweep();
-        self.store.knows_its_forms();
     }
 
     /// Forgets the names that are not recent, none of which has a form. Of the others those of forms alone are recent
@@ -89,7 +89,6 @@ impl<E: TwoEnds<u8, A>, M: TwoEnds<Mark, A>, A: Allocator + Copy> Core<E, M, A> 
             ≡ record self.old { known = self.old.recent; recent = set.from_list (names_of self.old.state.forms) } }
     {
         self.store.sweep_aged();
-        self.store.knows_its_forms();
     }
 
     /// Releases so many bytes of the front of the output, which has to be that long, and takes so many bytes of the

@@ -7,6 +7,7 @@ mod back;
 mod calling;
 pub mod engine;
 pub mod loading;
+mod moves;
 mod one;
 mod readers;
 pub mod record;

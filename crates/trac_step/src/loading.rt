@@ -59,7 +59,6 @@ impl<E: TwoEnds<u8, A>, M: TwoEnds<Mark, A>, A: Allocator + Copy> Core<E, M, A> 
         )?;
         let output = output_of(alloc, parts)?;
         texts.recall_room();
-        store.knows_its_forms();
         Ok(Core {
             texts,
             store,

@@ -25,6 +25,7 @@ impl<E: TwoEnds<u8, A>, M: TwoEnds<Mark, A>, A: Allocator + Copy> Core<E, M, A> 
         ensures end { result < most → result < length self.old.state.active →
             is_plain (get_or self.old.state.active result 0) ≡ false }
     {
+        self.recall_room();
         self.texts.gather_plain(most)
     }
 }

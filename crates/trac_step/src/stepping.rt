@@ -11,9 +11,7 @@ ghost use Rattle.trac_rules.specs.Stepping.{step};
 ghost use Rattle.trac_rules.specs.Undone.{storage_before};
 ghost use Rattle.trac_rules.specs.Weights.{loss, weight};
 ghost use Rattle.trac_prims.specs.Tape.{environment_of};
-ghost use Rattle.trac_rules.specs.Scanning.{front_of};
-ghost use Rattle.trac_text.specs.Ruled.{rule_of};
-ghost use Rattle.trac_step.specs.Kept.{CanStep, IsCarriedOut, IsKept, IsStepped};
+ghost use Rattle.trac_step.specs.Kept.{CanStep, IsKept, IsStepped};
 ghost use Rattle.trac_step.specs.Record.{IsTaken, before, recorded_by};
 ghost use Rattle.trac_step.specs.Room.{HasRoom, IsNoLess, LacksRoomAhead};
 
@@ -24,8 +22,7 @@ use std::alloc::Allocator;
 use trac_gap::TwoEnds;
 use trac_journal::{Journal, Keeper};
 use trac_prims::{Made, Tape};
-use trac_rules::scan::Front;
-use trac_text::{Mark, Refusal, Rule, Short};
+use trac_text::{Mark, Refusal, Rule};
 
 impl<E: TwoEnds<u8, A>, M: TwoEnds<Mark, A>, A: Allocator + Copy> Core<E, M, A> {
     /// Takes the next step of T-64's rules over this tape, and answers its record: what the step destroyed. By it
@@ -69,8 +66,8 @@ impl<E: TwoEnds<u8, A>, M: TwoEnds<Mark, A>, A: Allocator + Copy> Core<E, M, A> 
         ensures lacking { IfErr result (λ e. e ≡ Refusal.Memory → LacksRoomAhead self.old) }
         ensures room { IsNoLess self.old self.new }
     {
-        let rule = self.texts.rule();
-        self.step_alone(tape, rule)
+        self.recall_room();
+        self.step_alone(tape)
     }
 
     /// Takes the next step, as `step` does, and adds its record to this journal, so that `step_back` can go back over
@@ -109,13 +106,12 @@ impl<E: TwoEnds<u8, A>, M: TwoEnds<Mark, A>, A: Allocator + Copy> Core<E, M, A> 
         ensures lacking { IfErr result (λ e. e ≡ Refusal.Memory → 1 ≤ journal.old.places → LacksRoomAhead self.old) }
         ensures room { IsNoLess self.old self.new }
     {
-        let rule = self.texts.rule();
-        self.next_step(journal, tape, made, rule)
+        self.recall_room();
+        self.next_step(journal, tape, made)
     }
 
-    // The step by the rule that comes next, whose record is kept by itself.
-    fn step_alone(&mut self, tape: Tape<'_>, rule: Rule) -> Result<Record<A>, Refusal>
-        requires next { rule ≡ rule_of (texts_in self.old.state) }
+    // The step, whose record is kept by itself.
+    fn step_alone(&mut self, tape: Tape<'_>) -> Result<Record<A>, Refusal>
         requires proper { IsProper self.old.state }
         requires position { self.old.state.position ≤ length tape.bytes.now }
         ensures { IsTaken (environment_of self.old.width tape.entry) result self.old self.new }
@@ -127,83 +123,43 @@ impl<E: TwoEnds<u8, A>, M: TwoEnds<Mark, A>, A: Allocator + Copy> Core<E, M, A> 
             alloc,
         };
         let mut made = Made::new(alloc);
-        self.next_step(&mut one, tape, &mut made, rule)?;
+        self.next_step(&mut one, tape, &mut made)?;
         Ok(one.into_record())
     }
 
-    // The step by the rule that comes next. At a `)` in a function, `close` performs it; if the active text is empty,
-    // `empty_into` loads the idle program. Every other rule but the one that gathers a byte reserves a place for its
-    // record, changes the texts, and keeps it.
+    // The step itself. At a `)` in a function, `close` performs it. Else, and also if the active text is empty,
+    // `carry_out` carries out a rule of scanning. This can pass one limit alone, that on marks, which `move_fits`
+    // judges: each argument of a begun function has a mark.
     #[inline(always)]
     fn next_step<K: Keeper<A>>(
         &mut self,
         keeper: &mut K,
         tape: Tape<'_>,
         made: &mut Made<A>,
-        rule: Rule,
     ) -> Result<(), Refusal>
-        requires next { rule ≡ rule_of (texts_in self.old.state) }
-        requires can { CanStep (environment_of self.old.width tape) self.old (K.records keeper.old) K.most }
+        requires { CanStep (environment_of self.old.width tape) self.old (K.records keeper.old) K.most }
         ensures { IsStepped (environment_of self.old.width tape.entry) result self.old self.new (K.records keeper.old)
             (K.records keeper.new) (K.places keeper.old) }
     {
-        match rule {
-            Rule::Perform => self.close(keeper, tape, made),
-            Rule::Restart => self.empty_into(keeper),
-            Rule::Gather => {
-                self.texts.gather(1);
-                keeper.push_moved_byte();
-                Ok(())
-            }
-            Rule::Begin(kind) => {
-                keeper.reserve_short()?;
-                self.texts.begin(kind)?;
-                keeper.push_short(Short::Begun);
-                Ok(())
-            }
-            Rule::NextArgument => {
-                keeper.reserve_short()?;
-                self.texts.next_argument()?;
-                keeper.push_short(Short::Comma);
-                Ok(())
-            }
-            Rule::Delete => {
-                keeper.reserve_short()?;
-                let byte = self.texts.delete();
-                keeper.push_short(Short::Deleted(byte));
-                Ok(())
-            }
-            Rule::Protect => {
-                keeper.reserve_short()?;
-                let (inner, closed) = self.texts.protect();
-                keeper.push_short(Short::Quoted { inner, closed });
-                Ok(())
-            }
+        let rule = self.texts.rule();
+        if let Rule::Perform = rule {
+            return self.close(keeper, tape, made);
         }
+        if !self.move_fits(rule) {
+            return Err(Refusal::TooLong);
+        }
+        self.carry_out(keeper, rule)
     }
 
-    // The active text is empty: all other text is kept, and the idle program is loaded.
-    #[inline(never)]
-    fn empty_into<K: Keeper<A>>(&mut self, keeper: &mut K) -> Result<(), Refusal>
-        requires front { front_of self.old.state.active ≡ Front.Nothing }
-        requires proper { IsProper self.old.state }
-        requires not_full { length (K.records keeper.old) < K.most }
-        ensures { IsCarriedOut result self.old self.new (K.records keeper.old) (K.records keeper.new)
-            (K.places keeper.old) }
-    {
-        keeper.reserve_idle()?;
-        let (mut base, mut frames) = self.texts.reload()?;
-        keeper.push_idle(&mut base, &mut frames);
-        Ok(())
-    }
-
-    // Does nothing when it runs. It tells the prover what holds of every machine: its state is within all limits, and
-    // the machine has room for this state, of whose forms it has the names as recent ones.
+    // Does nothing when it runs. Its three calls tell the prover what holds of every machine: its state is within all
+    // limits, and the machine has room for this state, of whose forms it has the names as recent ones.
     pub(crate) fn recall_room(&self)
         ensures proper { IsProper self.now.state }
         ensures room { HasRoom self.now self.now.state }
         ensures recent { KnowsAll self.now.recent self.now.state.forms }
     {
         self.texts.recall_room();
+        let _room = self.output.capacity();
+        self.store.knows_its_forms();
     }
 }

@@ -51,6 +51,5 @@ impl<E: TwoEnds<u8, A>, M: TwoEnds<Mark, A>, A: Allocator + Copy> Core<E, M, A> 
             unreachable!()
         };
         put_storage(&mut self.store, &function.arguments, undone);
-        self.store.knows_its_forms();
     }
 }

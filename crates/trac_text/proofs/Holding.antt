@@ -1,6 +1,6 @@
 -- Lists with two ends that hold texts, and what each rule of scanning makes of them.
 use Rattle.std.proofs.Common.{◌≡◌, ℕ, ◌+◌, ◌-◌, ◌<◌, ◌≤◌, ◌^◌, List, [], ◌∷◌, ◌++◌, length, take, drop, refl, sym, ap, ◌∙◌, subst, arith, Bool, true, false}
-use Rattle.std.specs.Prelude.{Option, Some, None, Result, Ok, Err, IsOk}
+use Rattle.std.specs.Prelude.{Option, Some, None}
 use Rattle.std.proofs.lemmas.List.{length-append, length-drop, length-take}
 use Rattle.std.proofs.lemmas.Option.{none-some}
 use Rattle.trac_gap.specs.Ends.{Ends, item_count}
@@ -238,16 +238,6 @@ module _ {functions : ℕ} {text : Ends ℕ} {ms : Ends Mark} {m : ShownTexts} (
       same_depth (f ∷ fs) = refl
 
 -- memory is refused only if there is no room
-pub no_room : {T R X : Type 0} (e : Ends T) (r : Result R X) → ((x : R) → r ≡ Ok x → ⊥) → (item_count e + 1 ≤ e.capacity → IsOk r) → e.right ≡ [] → e.capacity ≤ length e.left
-no_room {T} {R} {X} e r other fits on_left = by_result r refl
-  where
-    by_result : (it : Result R X) → r ≡ it → e.capacity ≤ length e.left
-    by_result (Ok x) is = absurd (other x is)
-    by_result (Err x) is = omega (arith, none, ap (λ (xs : List T). length xs) on_left)
-      where
-        none : item_count e + 1 ≤ e.capacity → ⊥
-        none room = let unset : false ≡ true = subst IsOk is (fits room) in cc
-
 pub full_now : {functions : ℕ} {text : Ends ℕ} {ms : Ends Mark} {m : ShownTexts} → AreNow functions text ms m → ms.capacity ≤ length ms.left → m.mark_room ≤ marks m.texts.frames
 full_now now full = omega (arith, full, mark_count (held_now now), ap (λ (x : ShownTexts). x.mark_room) now.view)
 
@@ -268,18 +258,6 @@ arguments_here now b begins =
     sym inner.arguments_are ∙ ap innermost_arguments (sym inner.frames_are) ∙ ap (λ (n : ShownTexts). innermost_arguments n.texts.frames) now.view
 
 -- ---- a call ends
-
--- a list is cut to so many items, by how many fewer these are
-pub cut_to : {T : Type 0} {e next : Ends T} {seen : List T} (k : ℕ) → seen ≡ e.left → next ≡ record e { left = take (length e.left - (length seen - k)) e.left } → k ≤ length e.left → next ≡ record e { left = take k e.left }
-cut_to {T} {e} k seen_is is within =
-    let same : length e.left - (length e.left - k) ≡ k = omega (arith, within) in
-    is ∙ ap (λ (xs : List T). record e { left = take (length e.left - (length xs - k)) e.left }) seen_is ∙ ap (λ (n : ℕ). record e { left = take n e.left }) same
-
--- the same behind a list of which the first item is gone
-pub cut_with : {T : Type 0} (e : Ends T) {cut next : Ends T} {seen : List T} (k : ℕ) → cut ≡ record e { right = drop 1 e.right } → seen ≡ cut.left → next ≡ record cut { left = take (length cut.left - (length seen - k)) cut.left } → k ≤ length e.left →
-    next ≡ record e { left = take k e.left; right = drop 1 e.right }
-cut_with {T} e {cut} k cut_is seen_is is within =
-    cut_to k seen_is is (omega (arith, within, ap (λ (x : Ends T). length x.left) cut_is)) ∙ ap (λ (x : Ends T). record x { left = take k x.left }) cut_is
 
 module _ {functions : ℕ} {text : Ends ℕ} {ms : Ends Mark} {m : ShownTexts} (now : AreNow functions text ms m) where
   -- the innermost function goes with its `)`

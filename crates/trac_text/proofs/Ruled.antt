@@ -1,19 +1,24 @@
 -- The rule that comes next: what scanning makes of a state by it, what it destroys, and what it needs.
-use Rattle.std.proofs.Common.{◌≡◌, ℕ, ◌<◌, ◌≤◌, List, [], ◌∷◌, length, drop, refl, sym, ap, ◌∙◌, subst, arith}
-use Rattle.std.specs.Prelude.{is_some, nat_lt}
+use Rattle.std.proofs.Common.{◌≡◌, ℕ, ◌<◌, ◌≤◌, Bool, true, false, List, [], ◌∷◌, ◌++◌, length, take, drop, get_or, refl, sym, ap, ◌∙◌, subst, arith}
+use Rattle.std.specs.Prelude.{codes, is_some, nat_lt}
 use Rattle.std.proofs.lemmas.Bool.{le-leb}
+use Rattle.trac_rules.specs.declared.kind.Kind.{Kind}
+use Rattle.trac_rules.specs.declared.kind.Kind.TheVariants.{Active, Neutral}
 use Rattle.trac_rules.specs.declared.scan.Front.{Front}
 use Rattle.trac_rules.specs.declared.scan.Front.TheVariants as front
 use Rattle.trac_rules.specs.Bytes.{idle_program}
 use Rattle.trac_rules.specs.Matching.{match_of, protected}
 use Rattle.trac_rules.specs.Performing.{beginning_of}
 use Rattle.trac_rules.specs.Records.{Record, Moved, Comma, Begun, Quoted, Idle, Texts, comma_recorded, deletion, recorded, recorded_at, texts_in}
+use Rattle.trac_rules.specs.PlainRuns.{moved_on}
 use Rattle.trac_rules.specs.Scanning.{Scanned, Moves, begun, closing_in, comma_in, deleted, front_of, gather_first, protect, scan, scan_at}
 use Rattle.trac_rules.specs.State.{Frame, State}
 use Rattle.trac_rules.proofs.Restored.{BeginsSo, begins_so}
 use Rattle.trac_text.specs.declared.scanning.Rule.{Rule}
 use Rattle.trac_text.specs.declared.scanning.Rule.TheVariants.{Restart, Protect, Delete, Begin, NextArgument, Gather, Perform}
 use Rattle.trac_text.specs.Ruled.{is_inside, rule_at, rule_of}
+use Rattle.trac_text.specs.Holding.{alone, texts_by}
+use Rattle.trac_text.proofs.ScanningBack.{gathered_alone}
 
 -- what scanning makes of a state by a rule
 abbrev pub scanned_by : Rule → State → Scanned
@@ -100,3 +105,32 @@ begins_by t rule next = subst (λ (r : Rule). BeginsBy r t) (sym next) (by_front
 pub inside_counted : (fs : List Frame) → nat_lt 0 (length fs) ≡ is_inside fs
 inside_counted [] = refl
 inside_counted (f ∷ fs) = le-leb 1 (length (f ∷ fs)) (omega arith)
+
+-- ---- texts after a rule
+
+-- what a rule makes of texts alone is what scanning moves on to
+module _ (t : Texts) where
+  scans : (rule : Rule) → rule ≡ rule_of t → (made : State → State) → scanned_by rule (alone t) ≡ Moves (made (alone t)) → alone (texts_by made t) ≡ made (alone t) →
+      (u : Texts) → u ≡ texts_by made t → scan (alone t) ≡ Moves (alone u)
+  scans rule next made moves kept u is = scan_rule (alone t) rule next ∙ moves ∙ ap Moves (sym kept) ∙ ap (λ (v : Texts). Moves (alone v)) (sym is)
+
+  pub protect_scans : Protect ≡ rule_of t → (u : Texts) → u ≡ texts_by (protect (protected (drop 1 t.active))) t → scan (alone t) ≡ Moves (alone u)
+  protect_scans next u is =
+      let p = protected (drop 1 t.active) in
+      scans Protect next (protect p) refl (gathered_alone p.inner t.frames (record t { active = p.rest })) u is
+
+  pub delete_scans : Delete ≡ rule_of t → (u : Texts) → u ≡ texts_by (deleted 1) t → scan (alone t) ≡ Moves (alone u)
+  delete_scans next u is = scans Delete next (deleted 1) refl refl u is
+
+  pub begin_scans : (kind : Kind) → Begin kind ≡ rule_of t → (u : Texts) → u ≡ texts_by (λ s. begun kind (deleted (length (beginning_of kind)) s)) t → scan (alone t) ≡ Moves (alone u)
+  begin_scans kind next u is = scans (Begin kind) next (λ s. begun kind (deleted (length (beginning_of kind)) s)) refl refl u is
+
+  pub argument_scans : NextArgument ≡ rule_of t → (u : Texts) → u ≡ texts_by (λ s. comma_in s.frames (deleted 1 s)) t → scan (alone t) ≡ Moves (alone u)
+  argument_scans next u is = scans NextArgument next (λ s. comma_in s.frames (deleted 1 s)) refl (by_frames t.frames) u is
+    where
+      by_frames : (fs : List Frame) → alone (texts_in (comma_in fs (deleted 1 (alone t)))) ≡ comma_in fs (deleted 1 (alone t))
+      by_frames [] = refl
+      by_frames (f ∷ fs) = refl
+
+  pub gather_scans : Gather ≡ rule_of t → (u : Texts) → u ≡ texts_by (moved_on 1) t → scan (alone t) ≡ Moves (alone u)
+  gather_scans next u is = scans Gather next (moved_on 1) refl (gathered_alone (take 1 t.active) t.frames (record t { active = drop 1 t.active })) u is

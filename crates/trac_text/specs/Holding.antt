@@ -1,10 +1,8 @@
 -- Active text, base text and begun functions, as lists with two ends hold them, and what a contract sees of them.
-use Rattle.std.specs.Prelude.{◌≡◌, ℕ, ◌<◌, ◌≤◌, ◌+◌, List, [], ◌∷◌, drop, length, Option, IsSomeAnd, refl}
+use Rattle.std.specs.Prelude.{◌≡◌, ℕ, ◌≤◌, ◌+◌, List, [], ◌∷◌, drop, length, Option, IsSomeAnd, refl}
 use Rattle.std.specs.Coded.{Coded, code_by, coded×, coded_list, coded_ℕ}
 use Rattle.trac_gap.specs.Ends.{Ends, item_count}
 use Rattle.trac_rules.specs.declared.limit.TheConstants.{MARK_LIMIT, TEXT_LIMIT}
-use Rattle.trac_rules.specs.declared.refusal.Refusal.{Refusal}
-use Rattle.trac_rules.specs.declared.refusal.Refusal.TheVariants.{Memory, TooLong}
 use Rattle.trac_rules.specs.Codes.{frame_code, text_code}
 use Rattle.trac_rules.specs.Limits.{argument_bytes, marks}
 use Rattle.trac_rules.specs.Records.{Texts, texts_in}
@@ -45,13 +43,6 @@ pub record CanHold (m : ShownTexts) (t : Texts) : Type 0 where
   pub mark_room : marks t.frames ≤ m.mark_room
   pub text_limit : bytes_in t ≤ TEXT_LIMIT
   pub mark_limit : marks t.frames ≤ MARK_LIMIT
-
--- a further mark is refused so: there are as many as there may be, or memory is refused, as it can be only if there is no
--- room for one more
-abbrev pub MayRefuseMark : ShownTexts → Refusal → Type 0
-MayRefuseMark m TooLong = MARK_LIMIT ≤ marks m.texts.frames
-MayRefuseMark m Memory = (marks m.texts.frames < MARK_LIMIT) × (m.mark_room ≤ marks m.texts.frames)
-MayRefuseMark m refusal = ⊥
 
 -- ---- the rules, which speak of states
 

@@ -11,9 +11,9 @@ use trac_gap::SlidingBuf;
 /// Arguments that lie one after another in a text: seen as the list of these texts.
 #[derive(Drop)]
 pub struct Args<'a> {
-    pub(crate) from: usize,
-    pub(crate) text: &'a [u8],
-    pub(crate) marks: &'a [Mark],
+    from: usize,
+    text: &'a [u8],
+    marks: &'a [Mark],
 }
 
 impl<'a> Model for Args<'a> {
@@ -60,11 +60,7 @@ impl<'a> Args<'a> {
         } else {
             self.marks[i - 1].place
         };
-        let end = if i < self.marks.len() {
-            self.marks[i].place
-        } else {
-            self.text.len()
-        };
+        let end = end_at(self.text.len(), self.marks, i);
         self.text.split_at(end).0.split_at(start).1
     }
 

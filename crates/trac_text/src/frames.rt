@@ -14,10 +14,10 @@ use trac_rules::kind::Kind;
 /// how many functions are begun. Base text and begun functions are read from it.
 #[derive(Drop)]
 pub struct NeutralText<'a> {
-    pub(crate) text: &'a [u8],
-    pub(crate) marks: &'a [Mark],
+    text: &'a [u8],
+    marks: &'a [Mark],
     // how many of the marks begin functions
-    pub(crate) functions: usize,
+    functions: usize,
 }
 
 impl<'a> Model for NeutralText<'a> {
@@ -154,11 +154,7 @@ pub(crate) fn innermost_in<'a>(text: &'a [u8], marks: &'a [Mark]) -> Option<Inne
                 number,
                 place,
                 kind,
-                arguments: Args {
-                    text,
-                    marks: marks.split_at(number + 1).1,
-                    from: place,
-                },
+                arguments: Args::new(text, marks.split_at(number + 1).1, place),
             });
         }
     }

@@ -1,7 +1,11 @@
-//! The rules of scanning: which one comes next, and what it destroys.
-ghost use Rattle.std.specs.Prelude.{◌≡◌};
-ghost use Rattle.trac_text.specs.Holding.{CanHold};
-ghost use Rattle.trac_text.specs.Ruled.{rule_of};
+//! The rules of scanning: which one comes next, and what it makes of the texts.
+ghost use Rattle.std.specs.Prelude.{◌≡◌, ◌<◌, ◌≤◌, IfOk, IsOkUnless, OnErr, OnOk, true};
+ghost use Rattle.trac_rules.specs.declared.limit.TheConstants.{MARK_LIMIT};
+ghost use Rattle.trac_rules.specs.Limits.{marks as mark_count};
+ghost use Rattle.trac_rules.specs.Records.{recorded};
+ghost use Rattle.trac_rules.specs.Scanning.{Moves, scan};
+ghost use Rattle.trac_text.specs.Holding.{alone};
+ghost use Rattle.trac_text.specs.Ruled.{IsShort, makes_mark, rule_at, rule_of, said_by};
 
 use crate::front::front_at;
 use crate::mark::Mark;
@@ -9,6 +13,7 @@ use crate::texts::Texts;
 use std::alloc::Allocator;
 use trac_gap::TwoEnds;
 use trac_rules::kind::Kind;
+use trac_rules::refusal::Refusal;
 use trac_rules::scan::Front;
 
 /// A rule of scanning of T-64, chosen by what the active text begins with and, at a `,` or a `)`, by whether a function
@@ -52,25 +57,84 @@ pub enum Short {
     Deleted(u8),
 }
 
+// The rule for this front, in a function or outside any.
+fn rule_for(front: Front, is_inside: bool) -> Rule
+    ensures { result ≡ rule_at front is_inside }
+{
+    match front {
+        Front::Nothing => Rule::Restart,
+        Front::Opening => Rule::Protect,
+        Front::Comma if is_inside => Rule::NextArgument,
+        Front::Closing if is_inside => Rule::Perform,
+        Front::Layout | Front::Comma | Front::Closing => Rule::Delete,
+        Front::ActiveCall => Rule::Begin(Kind::Active),
+        Front::NeutralCall => Rule::Begin(Kind::Neutral),
+        Front::Sharp | Front::Plain => Rule::Gather,
+    }
+}
+
+impl Rule {
+    /// Whether the rule makes a mark: it begins a function, or a further argument of one.
+    pub fn makes_mark(self) -> bool
+        ensures { result ≡ makes_mark self }
+    {
+        match self {
+            Rule::Begin(_) | Rule::NextArgument => true,
+            Rule::Restart | Rule::Protect | Rule::Delete | Rule::Gather | Rule::Perform => false,
+        }
+    }
+}
+
 impl<E: TwoEnds<u8, A>, M: TwoEnds<Mark, A>, A: Allocator + Copy> Texts<E, M, A> {
     /// The rule that comes next. It takes the same time however long the texts are.
     #[inline(always)]
     pub fn rule(&self) -> Rule
-        ensures next { result ≡ rule_of self.now.texts }
-
-        // There is room for all texts, and they pass no limit.
-        ensures held { CanHold self.now self.now.texts }
+        ensures { result ≡ rule_of self.now.texts }
     {
-        let is_inside = self.functions > 0;
-        match front_at(self.text.right()) {
-            Front::Nothing => Rule::Restart,
-            Front::Opening => Rule::Protect,
-            Front::Comma if is_inside => Rule::NextArgument,
-            Front::Closing if is_inside => Rule::Perform,
-            Front::Layout | Front::Comma | Front::Closing => Rule::Delete,
-            Front::ActiveCall => Rule::Begin(Kind::Active),
-            Front::NeutralCall => Rule::Begin(Kind::Neutral),
-            Front::Sharp | Front::Plain => Rule::Gather,
+        rule_for(front_at(self.text.right()), self.functions > 0)
+    }
+
+    /// Carries out this rule, which has to come next, and returns what it destroyed. It may not be the one that empties
+    /// the texts, nor the one that performs a function. If it makes a mark, there have to be fewer than the limit.
+    /// Refused with `Memory` if there is no room for a mark and the allocator refuses; then nothing changed.
+    #[inline(always)]
+    pub fn carry_out(&mut self, rule: Rule) -> Result<Short, Refusal>
+        requires next { rule ≡ rule_of self.old.texts }
+        requires short { IsShort rule }
+        requires limit { makes_mark rule ≡ true → mark_count self.old.texts.frames < MARK_LIMIT }
+        ensures scanned { OnOk result (scan (alone self.old.texts) ≡ Moves (alone self.new.texts)) }
+        ensures told { IfOk result (λ short. said_by short ≡ recorded (alone self.old.texts)) }
+        ensures text_room { self.new.text_room ≡ self.old.text_room }
+        ensures mark_room { self.old.mark_room ≤ self.new.mark_room }
+        ensures unchanged { OnErr result (self.new ≡ self.old) }
+
+        // Memory is refused only if there is no room for a mark.
+        ensures mark { OnErr result (makes_mark rule ≡ true) }
+        ensures full { OnErr result (self.old.mark_room ≤ mark_count self.old.texts.frames) }
+        ensures err { IsOkUnless result Refusal.Memory }
+    {
+        match rule {
+            Rule::Protect => {
+                let (inner, closed) = self.protect();
+                Ok(Short::Quoted { inner, closed })
+            }
+            Rule::Delete => {
+                let byte = self.delete();
+                Ok(Short::Deleted(byte))
+            }
+            Rule::Begin(kind) => {
+                self.begin(kind)?;
+                Ok(Short::Begun)
+            }
+            Rule::NextArgument => {
+                self.next_argument()?;
+                Ok(Short::Comma)
+            }
+            Rule::Gather => {
+                self.gather(1);
+                Ok(Short::Moved)
+            }
+            Rule::Restart | Rule::Perform => unreachable!(),
         }
     }
 }

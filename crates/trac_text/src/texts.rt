@@ -1,6 +1,6 @@
 //! Active text, base text and begun functions in lists with two ends, and the rules of scanning on them.
 ghost use Rattle.std.specs.Prelude.{◌≡◌, ◌+◌, ◌-◌, ◌<◌, ◌≤◌, [], ◌∷◌, ◌++◌, false, get_or, is_some, length, take, drop};
-ghost use Rattle.std.specs.Prelude.{IfErr, IfOk, IsOkUnless, OnErr, OnOk, true, ℕ};
+ghost use Rattle.std.specs.Prelude.{IfOk, IsOkUnless, OnErr, OnOk, true, ℕ};
 ghost use Rattle.trac_gap.specs.Ends.{item_count};
 ghost use Rattle.trac_rules.specs.declared.limit.TheConstants.{MARK_LIMIT};
 ghost use Rattle.trac_rules.specs.Bytes.{idle_program};
@@ -9,7 +9,8 @@ ghost use Rattle.trac_rules.specs.Matching.{match_of, protected};
 ghost use Rattle.trac_rules.specs.Performing.{beginning_of};
 ghost use Rattle.trac_rules.specs.PlainRuns.{is_plain, moved_on};
 ghost use Rattle.trac_rules.specs.Scanning.{begun, comma_in, deleted, front_of, protect};
-ghost use Rattle.trac_text.specs.Holding.{BeginsInnermost, CanHold, MayRefuseMark, bytes_in, innermost_arguments, texts_by};
+ghost use Rattle.trac_text.specs.Holding.{BeginsInnermost, CanHold, bytes_in, innermost_arguments, texts_by};
+ghost use Rattle.trac_text.specs.Marks.{mark_at};
 ghost use Rattle.trac_text.specs.Moving.{with_protected};
 ghost use Rattle.trac_text.specs.Neutral.{neutral_of};
 
@@ -24,7 +25,6 @@ use std::alloc::Allocator;
 use std::marker::Model;
 use trac_gap::TwoEnds;
 use trac_rules::kind::Kind;
-use trac_rules::limit::MARK_LIMIT;
 use trac_rules::refusal::Refusal;
 use trac_rules::scan::Front;
 
@@ -94,11 +94,7 @@ impl<E: TwoEnds<u8, A>, M: TwoEnds<Mark, A>, A: Allocator + Copy> Texts<E, M, A>
     pub fn neutral(&self) -> NeutralText<'_>
         ensures { neutral_of result ≡ record { base = self.now.texts.base; frames = self.now.texts.frames } }
     {
-        NeutralText {
-            text: self.text.left(),
-            marks: self.marks.left(),
-            functions: self.functions,
-        }
+        NeutralText::new(self.text.left(), self.marks.left(), self.functions)
     }
 
     /// All arguments of the innermost function, which begins here. Nothing is copied.
@@ -107,11 +103,7 @@ impl<E: TwoEnds<u8, A>, M: TwoEnds<Mark, A>, A: Allocator + Copy> Texts<E, M, A>
         ensures { result ≡ innermost_arguments self.now.texts.frames }
     {
         let further = self.marks.left().split_at(beginning.number + 1).1;
-        Args {
-            text: self.text.left(),
-            marks: further,
-            from: beginning.place,
-        }
+        Args::new(self.text.left(), further, beginning.place)
     }
 
     /// How many bytes base text and the arguments of all begun functions hold together. It takes the
@@ -120,6 +112,13 @@ impl<E: TwoEnds<u8, A>, M: TwoEnds<Mark, A>, A: Allocator + Copy> Texts<E, M, A>
         ensures { result ≡ length self.now.texts.base + argument_bytes self.now.texts.frames }
     {
         self.text.left().len()
+    }
+
+    /// How many arguments the begun functions have together. It takes the same time however many these are.
+    pub fn mark_count(&self) -> usize
+        ensures { result ≡ mark_count self.now.texts.frames }
+    {
+        self.marks.left().len()
     }
 
     /// Does nothing when it runs. The call tells the prover what holds of all texts: there is room for them, and they
@@ -148,16 +147,9 @@ impl<E: TwoEnds<u8, A>, M: TwoEnds<Mark, A>, A: Allocator + Copy> Texts<E, M, A>
         ensures plain { (k : ℕ) → k < result → is_plain (get_or self.old.texts.active k 0) ≡ true }
         ensures end { result < most → result < length self.old.texts.active →
             is_plain (get_or self.old.texts.active result 0) ≡ false }
-
-        // There was room for all texts, and they passed no limit.
-        ensures held { CanHold self.old self.old.texts }
     {
         let count = plain_front(self.text.right(), most);
-        // After most steps there are none.
-        if count == 0 {
-            return 0;
-        }
-        self.text.shift_left(count);
+        gather_some(&mut self.text, count);
         count
     }
 
@@ -184,63 +176,49 @@ impl<E: TwoEnds<u8, A>, M: TwoEnds<Mark, A>, A: Allocator + Copy> Texts<E, M, A>
     }
 
     /// Deletes the beginning of a function of this kind, with which the active text has to begin, and begins the
-    /// function. Refused with `TooLong` if there are as many marks as there may be, and with `Memory` if there is no
-    /// room for one more and the allocator refuses; then nothing changed.
+    /// function. Refused with `Memory` if there is no room for a mark and the allocator refuses; then nothing changed.
     #[inline(always)]
     pub fn begin(&mut self, kind: Kind) -> Result<(), Refusal>
-        requires { length (beginning_of kind) ≤ length self.old.texts.active }
+        requires front { length (beginning_of kind) ≤ length self.old.texts.active }
+        requires limit { mark_count self.old.texts.frames < MARK_LIMIT }
         ensures begun { OnOk result
             (self.new.texts ≡ texts_by (λ s. begun kind (deleted (length (beginning_of kind)) s)) self.old.texts) }
-        ensures within { OnOk result (mark_count self.old.texts.frames < MARK_LIMIT) }
         ensures text_room { self.new.text_room ≡ self.old.text_room }
         ensures mark_room { self.old.mark_room ≤ self.new.mark_room }
-        ensures refused { IfErr result (MayRefuseMark self.old) }
         ensures unchanged { OnErr result (self.new ≡ self.old) }
+
+        // Memory is refused only if there is no room.
+        ensures full { OnErr result (self.old.mark_room ≤ mark_count self.old.texts.frames) }
+        ensures err { IsOkUnless result Refusal.Memory }
     {
-        if self.marks.left().len() >= MARK_LIMIT {
-            return Err(Refusal::TooLong);
-        }
-        let Ok(()) = self.marks.reserve(1) else {
-            return Err(Refusal::Memory);
-        };
         let n = match kind {
             Kind::Active => 2,
             Kind::Neutral => 3,
         };
-        self.text.cut_right(n);
-        self.marks.push_left(Mark {
-            place: self.text.left().len(),
-            frame: Some(kind),
-        });
+        push_mark(&mut self.text, &mut self.marks, n, Some(kind))?;
         self.functions += 1;
         Ok(())
     }
 
     /// Deletes a `,`, the first byte of the active text, and begins a further argument of the innermost function, which
-    /// has to be there. Refused as `begin` is.
+    /// has to be there. Refused with `Memory` if there is no room for a mark and the allocator refuses; then nothing
+    /// changed.
     #[inline(always)]
     pub fn next_argument(&mut self) -> Result<(), Refusal>
         requires front { 0 < length self.old.texts.active }
         requires inside { 0 < length self.old.texts.frames }
+        requires limit { mark_count self.old.texts.frames < MARK_LIMIT }
         ensures begun { OnOk result
             (self.new.texts ≡ texts_by (λ s. comma_in s.frames (deleted 1 s)) self.old.texts) }
-        ensures within { OnOk result (mark_count self.old.texts.frames < MARK_LIMIT) }
         ensures text_room { self.new.text_room ≡ self.old.text_room }
         ensures mark_room { self.old.mark_room ≤ self.new.mark_room }
-        ensures refused { IfErr result (MayRefuseMark self.old) }
         ensures unchanged { OnErr result (self.new ≡ self.old) }
+
+        // Memory is refused only if there is no room.
+        ensures full { OnErr result (self.old.mark_room ≤ mark_count self.old.texts.frames) }
+        ensures err { IsOkUnless result Refusal.Memory }
     {
-        if self.marks.left().len() >= MARK_LIMIT {
-            return Err(Refusal::TooLong);
-        }
-        let Ok(()) = self.marks.reserve(1) else {
-            return Err(Refusal::Memory);
-        };
-        self.text.cut_right(1);
-        self.marks.push_left(Mark {
-            place: self.text.left().len(),
-            frame: None,
-        });
+        push_mark(&mut self.text, &mut self.marks, 1, None)?;
         Ok(())
     }
 
@@ -254,10 +232,21 @@ impl<E: TwoEnds<u8, A>, M: TwoEnds<Mark, A>, A: Allocator + Copy> Texts<E, M, A>
         ensures unchanged { OnErr result (self.new ≡ self.old) }
         ensures err { IsOkUnless result Refusal.Memory }
     {
-        let Ok(()) = self.text.reserve(n) else {
-            return Err(Refusal::Memory);
-        };
-        Ok(())
+        ends::reserve(&mut self.text, n)
+    }
+}
+
+// Moves so many bytes of the active text, which has to have them, to the current text. After most steps there are none.
+#[inline(always)]
+fn gather_some<E: TwoEnds<u8, A>, A: Allocator + Copy>(text: &mut E, count: usize)
+    requires { count ≤ length (E.ends text.old).right }
+    ensures { E.ends text.new ≡ record (E.ends text.old) {
+      left = (E.ends text.old).left ++ take count (E.ends text.old).right;
+      right = drop count (E.ends text.old).right;
+    } }
+{
+    if count > 0 {
+        text.shift_left(count);
     }
 }
 
@@ -289,6 +278,41 @@ fn take_first<A: Allocator + Copy, E: TwoEnds<u8, A>>(text: &mut E) -> u8
     let first = text.right()[0];
     text.cut_right(1);
     first
+}
+
+// Takes the first n bytes on the right away, and puts a mark after all others, at the end of the text on the left. It
+// is the mark of a function of this kind, or, if none is named, of a further argument. Refused with `Memory` if the
+// marks have no room and the allocator refuses; then nothing changed.
+#[inline(always)]
+fn push_mark<A: Allocator + Copy, E: TwoEnds<u8, A>, M: TwoEnds<Mark, A>>(
+    text: &mut E,
+    marks: &mut M,
+    n: usize,
+    frame: Option<Kind>,
+) -> Result<(), Refusal>
+    requires front { n ≤ length (E.ends text.old).right }
+    requires on_left { (M.ends marks.old).right ≡ [] }
+    ensures text { OnOk result (E.ends text.new ≡ record (E.ends text.old) { right = drop n (E.ends text.old).right }) }
+    ensures marks { OnOk result (M.ends marks.new ≡ record (M.ends marks.old) {
+      left = (M.ends marks.old).left ++ mark_at (length (E.ends text.old).left) frame ∷ [];
+      capacity = (M.ends marks.new).capacity;
+    }) }
+    ensures holds { OnOk result (length (M.ends marks.old).left + 1 ≤ (M.ends marks.new).capacity) }
+    ensures room { (M.ends marks.old).capacity ≤ (M.ends marks.new).capacity }
+    ensures unchanged_text { OnErr result (E.ends text.new ≡ E.ends text.old) }
+    ensures unchanged_marks { OnErr result (M.ends marks.new ≡ M.ends marks.old) }
+
+    // Memory is refused only if there is no room.
+    ensures full { OnErr result ((M.ends marks.old).capacity ≤ length (M.ends marks.old).left) }
+    ensures err { IsOkUnless result Refusal.Memory }
+{
+    ends::reserve(marks, 1)?;
+    text.cut_right(n);
+    marks.push_left(Mark {
+        place: text.left().len(),
+        frame,
+    });
+    Ok(())
 }
 
 // Empties both lists, and puts the idle program on the right, as T-64 does when the active text is empty. Refused with

@@ -236,7 +236,8 @@ fn last_manner<A: Allocator + Copy>(
         Some(_) => Err(AllocError),
         None => followed_manner(walker, giver, from),
     };
-    let _ = walker.go_to(end);
+    let here = walker.step();
+    let _ = walker.back(here.saturating_sub(end));
     manner
 }
 

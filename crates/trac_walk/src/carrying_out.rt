@@ -20,9 +20,9 @@ pub(crate) fn carry_out<A: Allocator + Copy>(
 ) -> Option<Stop> {
     match way {
         Move::Forward(steps) => stop_ahead(walker.forward(steps)),
-        Move::Back(steps) => back(walker, steps),
+        Move::Back(steps) => stop_back(walker.back(steps)),
         Move::ToEnd => to_end(walker),
-        Move::ToStart => stop_back(walker.go_to(0)),
+        Move::ToStart => to_start(walker),
         Move::ToEndOr(calls) => to_end_or(walker, Sought::Calls(calls.wanted)),
         Move::ToStartOr(calls) => to_start_or(walker, Sought::Calls(calls.wanted)),
         Move::To(step) => stop_back(walker.go_to(step)),
@@ -34,11 +34,13 @@ pub(crate) fn carry_out<A: Allocator + Copy>(
         Move::Until(calls) => seek(walker, Sought::Calls(calls.wanted), searched),
         Move::UntilSet(name) => seek(walker, Sought::Change(name), searched),
         Move::Return(calls) if calls.is_plain() => {
-            stop_back(walker.return_far(call_aim(calls.texts)))
+            stop_back(walker.return_to(call_aim(calls.texts)))
         }
         Move::Return(calls) => seek_return(walker, Sought::Calls(calls.wanted)),
         Move::Changed(name) => to_change(walker, name),
-        Move::Printed(number) => to_printed(walker, number),
+        Move::Printed(number) => {
+            to_unprinted(printed(walker.released(), walker.pending(), number), walker)
+        }
         Move::PrintedText(text) => {
             to_unprinted(
                 printed_text(walker.released(), walker.pending(), text),
@@ -46,7 +48,7 @@ pub(crate) fn carry_out<A: Allocator + Copy>(
             )
         }
         Move::ToDoubt => until(walker, Aim::Doubtful(walker.width()), searched),
-        Move::BackToDoubt => stop_back(walker.return_far(Aim::Doubtful(walker.width()))),
+        Move::BackToDoubt => stop_back(walker.return_to(Aim::Doubtful(walker.width()))),
     }
 }
 
@@ -80,13 +82,13 @@ fn to_end<A: Allocator + Copy>(walker: &mut Walker<A>) -> Option<Stop> {
     }
 }
 
-// Back over so many steps. If there are not so many, it goes to the start of the program, and says so.
-fn back<A: Allocator + Copy>(walker: &mut Walker<A>, steps: u64) -> Option<Stop> {
-    let here = walker.step();
-    match stop_back(walker.go_to(here.saturating_sub(steps))) {
-        None if steps > here => Some(Stop::AtFirst),
-        stopped => stopped,
+// Back to the first step that is kept. If that is not the start of the program, it says so.
+fn to_start<A: Allocator + Copy>(walker: &mut Walker<A>) -> Option<Stop> {
+    let stopped = stop_back(walker.back(u64::MAX));
+    if walker.first_step() == 0 {
+        return None;
     }
+    stopped
 }
 
 // Forward to a goal, after so many steps on which it was not met. If it is not met before a step is refused, or by the
@@ -113,7 +115,7 @@ fn until<A: Allocator + Copy>(walker: &mut Walker<A>, aim: Aim<'_>, searched: u6
 }
 
 // Forward to what is sought, after so many steps on which it was not met. If it is not met before a step is refused, or
-// by the steps of a search, the walker goes back to where it was.
+// by the steps of a search, the walker goes back to where it was, or as far as steps are kept.
 fn seek<A: Allocator + Copy>(
     walker: &mut Walker<A>,
     sought: Sought<'_>,
@@ -126,9 +128,7 @@ fn seek<A: Allocator + Copy>(
     };
     let why = found?;
     let reached = walker.step();
-    if let Some(refusal) = walker.go_to(start) {
-        return Some(Stop::Refused(refusal));
-    }
+    let _ = walker.back(reached.saturating_sub(start));
     Some(match why {
         Refusal::NotMet => Stop::SpentUpTo(reached),
         refusal if reached == start => Stop::Unmet(refusal),
@@ -156,11 +156,11 @@ fn to_end_or<A: Allocator + Copy>(walker: &mut Walker<A>, sought: Sought<'_>) ->
     }
 }
 
-// Back to what is sought, or to the start of the program.
+// Back to what is sought, or to the first step that is kept.
 fn to_start_or<A: Allocator + Copy>(walker: &mut Walker<A>, sought: Sought<'_>) -> Option<Stop> {
     match seek_back(walker, sought) {
         None => None,
-        Some(_) => stop_back(walker.go_to(0)),
+        Some(_) => to_start(walker),
     }
 }
 
@@ -175,7 +175,7 @@ fn call_aim<'a>(call: &'a [&'a [u8]]) -> Aim<'a> {
 
 // Back to the call that changed the form of this name last.
 fn to_change<A: Allocator + Copy>(walker: &mut Walker<A>, name: &[u8]) -> Option<Stop> {
-    let stopped = stop_back(walker.return_far_to_change(name));
+    let stopped = stop_back(walker.return_to_change(name));
     if matches!(stopped, Some(Stop::NotMet)) && walker.sight().store.get(name).is_none() {
         return Some(Stop::NoForm);
     }
@@ -234,28 +234,33 @@ fn over_back<A: Allocator + Copy>(walker: &mut Walker<A>) -> Option<Stop> {
 }
 
 // Back to the beginning of a function whose value ends at this step, that of the earliest if there are several. What is
-// left to scan here was left after the `)` that ended it, and until here no less was left.
+// left to scan here was left after the `)` that ended it, and until here no less was left. If none is met, that holds
+// only since the first step that is kept.
 fn to_beginning<A: Allocator + Copy>(walker: &mut Walker<A>, here: u64) -> Option<Stop> {
     let rest = walker.glance().rest;
-    let started = match walker.return_far(Aim::Rest(rest)) {
-        Some(Refusal::NotMet) => walker.go_to(0),
-        found => found,
+    let unmet = match walker.return_to(Aim::Rest(rest)) {
+        None => Stop::NoValue,
+        Some(Refusal::NotMet) => {
+            let _ = walker.back(u64::MAX);
+            match walker.first_step() {
+                0 => Stop::NoValue,
+                _ => Stop::NoValueSince,
+            }
+        }
+        Some(refusal) => return Some(Stop::Refused(refusal)),
     };
-    if let Some(refusal) = started {
-        return Some(Stop::Refused(refusal));
-    }
     for _ in walker.step()..here {
         let now = walker.glance();
         // A call takes its `)`, so after it one byte less is left.
         if now.performs && now.rest.saturating_sub(1) == rest {
-            return stop_back(walker.return_far(Aim::Shallower(now.depth)));
+            return stop_back(walker.return_to(Aim::Shallower(now.depth)));
         }
         let stopped = stop_ahead(walker.forward(1));
         if stopped.is_some() {
             return stopped;
         }
     }
-    Some(Stop::NoValue)
+    Some(unmet)
 }
 
 // To the end of the innermost begun function; from there to that of the one around it.
@@ -277,17 +282,7 @@ fn out_back<A: Allocator + Copy>(walker: &mut Walker<A>) -> Option<Stop> {
     if inside == 0 {
         return Some(Stop::Outside);
     }
-    stop_back(walker.return_far(Aim::Shallower(inside)))
-}
-
-// Back to where the byte of this number of the output was not printed yet.
-fn to_printed<A: Allocator + Copy>(walker: &mut Walker<A>, number: u64) -> Option<Stop> {
-    match printed(walker.released(), walker.pending(), number) {
-        Err(Stop::PrintedEarlier) => {
-            stop_back(walker.return_far_to_printed(number.saturating_sub(1)))
-        }
-        place => to_unprinted(place, walker),
-    }
+    stop_back(walker.return_to(Aim::Shallower(inside)))
 }
 
 // Back to where the byte at this place of the output was not printed yet.

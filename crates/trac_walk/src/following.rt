@@ -1,6 +1,5 @@
 //! Ways of bytes back, as the replies ask for them.
 
-use crate::afar::follow_on;
 use crate::tracing::traced;
 use std::alloc::{AllocError, Allocator};
 use trac_follow::{Place, Traced, Witness};
@@ -37,19 +36,17 @@ impl<A: Allocator + Copy> Witness<A> for InForms<A> {
     }
 }
 
-/// Goes back to where the byte at a place comes from, or the item of a form, also over steps that are kept no more.
+/// Goes back to where the byte at a place comes from, or the item of a form.
 pub(crate) fn follow<A: Allocator + Copy>(
     alloc: A,
     walker: &mut Walker<A>,
     place: Place<'_>,
 ) -> End {
-    let start = walker.step();
     let found = traced(alloc, walker, place, &mut Unsaid);
-    let found = follow_on(alloc, walker, start, place, &mut Unsaid, found);
     end_of(walker, found)
 }
 
-/// The same over the steps that are kept, with where it stood in forms that calls gave it from.
+/// The same, with where it stood in forms that calls gave it from.
 pub(crate) fn follow_in_forms<A: Allocator + Copy>(
     alloc: A,
     walker: &mut Walker<A>,

@@ -2,7 +2,6 @@
 //! it comes from.
 #![tactic(auto)]
 
-mod afar;
 mod calls_told;
 mod carrying_out;
 mod following;

@@ -45,8 +45,8 @@ pub(crate) fn seek_back<A: Allocator + Copy>(
     walker: &mut Walker<A>,
     sought: Sought<'_>,
 ) -> Option<Refusal> {
-    for _ in 0..walker.step() {
-        if let Some(refusal) = walker.return_far(Aim::Call(&[])) {
+    for _ in 0..walker.steps_back() {
+        if let Some(refusal) = walker.return_to(Aim::Call(&[])) {
             return Some(refusal);
         }
         if stands_at(walker, sought) {

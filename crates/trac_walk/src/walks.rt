@@ -1,6 +1,5 @@
 //! A walker, as the replies ask it.
 
-use crate::afar::follow_on;
 use crate::calls_told::{Way, end_way, told_way};
 use crate::carrying_out::carry_out;
 use crate::following::{end_of, follow, follow_in_forms};
@@ -38,6 +37,20 @@ impl<A: Allocator + Copy> Walked<A> {
             has_ended: false,
             kept,
         }
+    }
+
+    // Runs the program anew up to this step, which is kept no more, and stands there. Returns what was refused on the
+    // way, and then nothing is changed.
+    fn come_back(&mut self, program: &[u8], step: u64) -> Option<Stop> {
+        let typed = self.typed.as_slice();
+        let Ok(mut walker) = begun(self.alloc, program, typed, self.has_ended, self.kept) else {
+            return Some(Stop::Refused(Refusal::Memory));
+        };
+        if let Some(refusal) = walker.forward(step) {
+            return Some(Stop::Refused(refusal));
+        }
+        self.walker = walker;
+        None
     }
 }
 
@@ -134,8 +147,14 @@ impl<A: Allocator + Copy> Walks<A> for Walked<A> {
         self.walker.end_input();
     }
 
-    fn carry_out(&mut self, _program: &[u8], way: Move<'_>, searched: u64) -> Option<Stop> {
-        carry_out(&mut self.walker, way, searched)
+    fn carry_out(&mut self, program: &[u8], way: Move<'_>, searched: u64) -> Option<Stop> {
+        let start = self.walker.step();
+        let stop = carry_out(&mut self.walker, way, searched);
+        match stop {
+            Some(Stop::Unmet(_) | Stop::UnmetUpTo(_, _) | Stop::SpentUpTo(_))
+                if self.walker.step() != start => { self.come_back(program, start).or(stop) }
+            stop => stop,
+        }
     }
 
     fn forward(&mut self, most: u64) -> Option<Refusal> {
@@ -155,7 +174,7 @@ impl<A: Allocator + Copy> Walks<A> for Walked<A> {
     }
 
     fn return_to_call(&mut self) -> Option<Refusal> {
-        self.walker.return_far(Aim::OwnCall)
+        self.walker.return_to(Aim::OwnCall)
     }
 
     fn return_to_unprinted(&mut self, most: usize) -> Option<Refusal> {
@@ -175,9 +194,7 @@ impl<A: Allocator + Copy> Walks<A> for Walked<A> {
     }
 
     fn tell_way(&mut self, alloc: A, place: Place<'_>) -> (Way<A>, End) {
-        let start = self.walker.step();
         let (mut way, found) = told_way(alloc, &mut self.walker, place);
-        let found = follow_on(alloc, &mut self.walker, start, place, &mut way, found);
         match end_way(&mut self.walker, &mut way, found.end) {
             Ok(()) => (way, end_of(&self.walker, found)),
             Err(AllocError) => (way, End::Untold),

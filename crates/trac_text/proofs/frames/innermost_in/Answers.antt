@@ -1,4 +1,4 @@
-use Rattle.std.proofs.Common.{◌≡◌, ◌+◌, ◌-◌, ◌<◌, ◌≤◌, ℕ, length, drop, get_or, refl, sym, ap, subst, List, arith}
+use Rattle.std.proofs.Common.{◌≡◌, ◌+◌, ◌-◌, ◌<◌, ◌≤◌, ℕ, length, drop, get_or, refl, sym, ap, ◌∙◌, subst, List, arith}
 use Rattle.std.specs.Prelude.{Some}
 use Rattle.trac_rules.specs.declared.kind.Kind.{Kind}
 use Rattle.trac_text.specs.declared.mark.Mark.{Mark}
@@ -14,8 +14,8 @@ last_begins marks number kind some within is after =
     let same : number ≡ number - 1 + 1 = omega arith in
     record { within = omega arith; begins = is; after = subst (λ (n : ℕ). AreArguments (drop n marks)) same after }
 
-pub invariant_of-result : goal.invariant_of-result
-invariant_of-result c =
+pub new-requires : goal.new-requires
+new-requires c =
     let m : MarkedText = record { text = c.args.text.now; marks = c.args.marks.now } in
     let begins = last_begins m.marks c.loop-number.number c.in-Some.kind c.loop-number-test.true c.loop-number.invariant.within c.in-Some.is c.loop-number.invariant.after in
     let place : ℕ = (get_or m.marks (c.loop-number.number - 1) no_mark).place in
@@ -26,7 +26,7 @@ returns-in-Some c =
     let m : MarkedText = record { text = c.args.text.now; marks = c.args.marks.now } in
     let begins = last_begins m.marks c.loop-number.number c.in-Some.kind c.loop-number-test.true c.loop-number.invariant.within c.in-Some.is c.loop-number.invariant.after in
     let place : ℕ = (get_or m.marks (c.loop-number.number - 1) no_mark).place in
-    is_innermost m (c.loop-number.number - 1) c.in-Some.kind c.requires begins place _ refl (ap (λ (ms : List Mark). cut place ms m.text) c.split_at.ensures.back)
+    is_innermost m (c.loop-number.number - 1) c.in-Some.kind c.requires begins place c.new.result refl (c.new.ensures ∙ ap (λ (ms : List Mark). cut place ms m.text) c.split_at.ensures.back)
 
 pub returns : goal.returns
 returns c =

@@ -15,9 +15,9 @@ returns-then-weight-most g c =
 
 pub loop-done-preserved : goal.loop-done-preserved
 loop-done-preserved g c = (
-  omega (arith, c.pass-done.ensures.most),
-  light_further c.args.most c.loop-done.done c.pass-done.result c.args.self.now c.loop-done.self c.step.new.self c.pass-done.new.self
-      c.loop-done.invariant.1 c.in_default.ensures (omega (arith, c.weight.ensures.together)) c.pass-done.ensures.passed (c.pass-done.ensures.weight tt),
+  omega (arith, c.pass_plain-done.ensures.most),
+  light_further c.args.most c.loop-done.done c.pass_plain-done.result c.args.self.now c.loop-done.self c.step.new.self c.pass_plain-done.new.self
+      c.loop-done.invariant.1 c.in_default.ensures (omega (arith, c.weight.ensures.together)) c.pass_plain-done.ensures.passed c.pass_plain-done.ensures.weight,
 )
 
 pub returns : goal.returns

@@ -7,22 +7,12 @@ use Rattle.trac_session.proofs.Aged.{recent_after_step, recent_stays}
 use Rattle.trac_session.proofs.Journaled.{Step_full_of_fields, Step_of_fields, IsSound-step}
 use Rattle.trac_session.proofs.Known.{answered_forgotten, at_start, own_after_step, plain_forgotten}
 use Rattle.trac_session.proofs.Trailed.{answered}
-use Rattle.trac_session.proofs.Walked.{Back_answered, forward_steps}
-use Rattle.trac_session.specs.Replies.{reply_of}
 use Rattle.trac_session.proofs.session.Session.step.Goals as goal
-
--- ---- back
-
-pub returns-in-Backward : goal.returns-in-Backward
-returns-in-Backward g c = rw c.in-Backward.is (Back_answered c.args.self.now c.step_back.new.self (reply_of c.step_back.result) c.step_back.ensures)
-
--- ---- forward, with a full journal
 
 pub returns-then-len-self : goal.returns-then-len-self
 returns-then-len-self g c =
     let count : c.len.result ≡ length c.self.inside.journal.records = c.len.ensures in
-    rw (forward_steps c.args.direction c.in_default.not-Backward)
-    (Step_full_of_fields _ _ _ _ c.self.inside.journal.records _ _ c.self.view_is c.self.invariant.sound.records (omega arith))
+    Step_full_of_fields _ _ _ _ c.self.inside.journal.records _ _ c.self.view_is c.self.invariant.sound.records (omega arith)
 
 -- ---- refused
 
@@ -52,27 +42,26 @@ pub returns-in-Err : goal.returns-in-Err
 returns-in-Err g c =
     let count : c.len.result ≡ length c.self.inside.journal.records = c.len.ensures in
     let room : length c.self.inside.journal.records < c.self.inside.limit = omega arith in
-    rw (forward_steps c.args.direction c.in_default.not-Backward)
-    (subst (λ (q : PlainSession). Answers Step c.args.self.now (Refused c.in-Err.refusal) q)
+    subst (λ (q : PlainSession). Answers Step c.args.self.now (Refused c.in-Err.refusal) q)
     (sym (plain_forgotten c.step_into.new.journal.records c.step_into.new.self c.forget_names.new.machine c.forget_names.ensures.forgotten))
     (rw (← c.self.view_is) (Step_of_fields _ _ _ c.self.inside.ended c.self.inside.journal.records c.step_into.new.journal.records _ _ (Err c.in-Err.refusal) room c.self.invariant.sound.records
-    tt tt (rw (← c.as_slice.ensures.items) c.in-Err.ensures.refused) c.in-Err.ensures.unchanged c.step_into.ensures.room.width)))
+    tt tt (rw (← c.as_slice.ensures.items) c.in-Err.ensures.refused) c.in-Err.ensures.unchanged c.step_into.ensures.room.width))
 
 -- ---- taken
 
-pub invariant_of-self-in_default-step_into : goal.invariant_of-self-in_default-step_into
-invariant_of-self-in_default-step_into g c =
+pub invariant_of-self-in_default : goal.invariant_of-self-in_default
+invariant_of-self-in_default g c =
     let count : c.len.result ≡ length c.self.inside.journal.records = c.len.ensures in
     let room : length c.self.inside.journal.records < c.self.inside.limit = omega arith in
     let inside = c.self.inside in
     let taken = Step_of_fields _ _ _ inside.ended inside.journal.records c.step_into.new.journal.records _ _ (Ok (record {})) room c.self.invariant.sound.records
-    (rw (← c.as_slice.ensures.items) c.in_default-step_into.ensures.taken) (rw (← c.as_slice.ensures.items) c.in_default-step_into.ensures.kept)
+    (rw (← c.as_slice.ensures.items) c.in_default.ensures.taken) (rw (← c.as_slice.ensures.items) c.in_default.ensures.kept)
     tt tt c.step_into.ensures.room.width in
     answered Step Done c.self.invariant c.step_into.ensures.room.width
     (IsSound-step _ _ inside.ended inside.journal.records c.step_into.new.journal.records _ _ (Ok (record {})) room c.self.invariant.sound
-    c.step_into.ensures.room c.in_default-step_into.ensures.held (rw (← c.as_slice.ensures.items) c.in_default-step_into.ensures.taken) (rw (← c.as_slice.ensures.items) c.in_default-step_into.ensures.kept) tt)
+    c.step_into.ensures.room c.in_default.ensures.held (rw (← c.as_slice.ensures.items) c.in_default.ensures.taken) (rw (← c.as_slice.ensures.items) c.in_default.ensures.kept) tt)
     taken
-    (own_after_step inside.journal.records c.step_into.new.journal.records c.in_default-step_into.ensures.kept.newest c.step_into.new.self c.in_default-step_into.ensures.kept.added)
+    (own_after_step inside.journal.records c.step_into.new.journal.records c.in_default.ensures.kept.newest c.step_into.new.self c.in_default.ensures.kept.added)
     (recent_after_step inside.mark inside.machine.recent c.step_into.new.self.recent (plain_of inside.limit inside.machine.width inside.tape.items inside.ended inside.journal.records inside.machine.state)
     (plain_of inside.limit c.step_into.new.self.width inside.tape.items inside.ended c.step_into.new.journal.records c.step_into.new.self.state) taken c.step_into.ensures.room.recent c.step_into.ensures.recent
     c.self.invariant.recent)
@@ -81,7 +70,6 @@ pub returns : goal.returns
 returns g c =
     let count : c.len.result ≡ length c.self.inside.journal.records = c.len.ensures in
     let room : length c.self.inside.journal.records < c.self.inside.limit = omega arith in
-    rw (forward_steps c.args.direction c.in_default.not-Backward)
-    (rw (← c.self.view_is) (Step_of_fields _ _ _ c.self.inside.ended c.self.inside.journal.records c.step_into.new.journal.records _ _ (Ok (record {})) room c.self.invariant.sound.records
-    (rw (← c.as_slice.ensures.items) c.in_default-step_into.ensures.taken) (rw (← c.as_slice.ensures.items) c.in_default-step_into.ensures.kept)
-    tt tt c.step_into.ensures.room.width))
+    rw (← c.self.view_is) (Step_of_fields _ _ _ c.self.inside.ended c.self.inside.journal.records c.step_into.new.journal.records _ _ (Ok (record {})) room c.self.invariant.sound.records
+    (rw (← c.as_slice.ensures.items) c.in_default.ensures.taken) (rw (← c.as_slice.ensures.items) c.in_default.ensures.kept)
+    tt tt c.step_into.ensures.room.width)

@@ -1,5 +1,4 @@
-use Rattle.std.proofs.Common.{ℕ, ap, arith}
-use Rattle.trac_gap.specs.Window.{Window}
+use Rattle.std.proofs.Common.{arith}
 use Rattle.trac_step.proofs.CallsUndone.{can_begin_texts, printed_within, read_within, shorter, stands_again}
 use Rattle.trac_step.proofs.engine.Core.begin_again.Goals as goal
 
@@ -16,14 +15,6 @@ pub invariant_of-self : goal.invariant_of-self
 invariant_of-self g c = record {
   storage_is = c.self.invariant.storage_is;
   output_limit = omega (arith, c.self.invariant.output_limit, shorter c.self.view_is c.args.called c.args.arguments.now c.requires c.begin_again.ensures.back c.begin_again.ensures.rooms c.unwrap_or-meta.ensures c.len.result c.len.ensures.len c.truncate.ensures);
-  output_room = omega (
-    arith,
-    c.self.invariant.output_room,
-    shorter c.self.view_is c.args.called c.args.arguments.now c.requires c.begin_again.ensures.back c.begin_again.ensures.rooms c.unwrap_or-meta.ensures c.len.result c.len.ensures.len c.truncate.ensures,
-    ap (λ (w : Window ℕ). w.capacity) c.truncate.ensures,
-  );
-  known = c.self.invariant.known;
-  recent = c.self.invariant.recent;
 }
 
 pub returns : goal.returns

@@ -90,13 +90,7 @@ pub invariant_of-self-2 : goal.invariant_of-self-2
 invariant_of-self-2 g c =
     let given = c.arguments_at-arguments.ensures ∙ given_here c.self.view_is c.requires.can.front in
     let is = c.in_ok-undone.ensures.storage ∙ (λ j. changed (given j) c.args.change.now (storage_of (c.self.view_is j).state)) in
-    record {
-      storage_is = subst IsProperStorage (sym is) c.requires.can.proper;
-      output_limit = c.self.invariant.output_limit;
-      output_room = c.self.invariant.output_room;
-      known = c.knows_its_forms.ensures.known;
-      recent = c.knows_its_forms.ensures.recent;
-    }
+    record { storage_is = subst IsProperStorage (sym is) c.requires.can.proper; output_limit = c.self.invariant.output_limit }
 
 pub returns : goal.returns
 returns g c =

@@ -1,8 +1,6 @@
-use Rattle.std.proofs.Common.{ℕ, List, ◌<◌, length, sym, ap, ◌∙◌, subst, arith}
-use Rattle.std.proofs.lemmas.Bool.{eqb-true}
-use Rattle.std.proofs.lemmas.List.{length-append}
+use Rattle.std.proofs.Common.{◌<◌, length, sym, subst}
 use Rattle.trac_step.specs.Layout.{Shown}
-use Rattle.trac_step.proofs.Ended.{ended, no_less_ended, none_printed, printed_within, some_active, value_limit, value_room}
+use Rattle.trac_step.proofs.Ended.{ended, no_less_ended, printed_within, some_active, value_limit, value_room}
 use Rattle.trac_step.proofs.Finishing.{begins_here}
 use Rattle.trac_step.proofs.engine.Core.end_call.Goals as goal
 
@@ -18,35 +16,20 @@ put_value-requires g c = record {
   limit = value_limit c.args.beginning c.args.deed c.args.made.now c.self.view_is c.requires c.end_function.ensures c.as_slice.result.now c.as_slice.ensures.value;
 }
 
-pub put-requires : goal.put-requires
-put-requires g c = omega (arith, c.requires.output_room, ap (λ (m : Shown). length m.state.output) c.self.view_is, ap (λ (m : Shown). m.output_room) c.self.view_is, ap (λ (xs : List ℕ). length xs) c.as_slice-printed.ensures.value)
-
 pub invariant_of-self : goal.invariant_of-self
 invariant_of-self g c = record {
   storage_is = c.self.invariant.storage_is;
-  output_limit = printed_within c.args.beginning c.args.deed c.args.made.now c.self.view_is c.requires c.end_function.ensures c.self.inside.output c.put_value.ensures c.unwrap_or-meta.ensures c.unwrap_or-trace.ensures (none_printed c.self.inside.output.items c.as_slice-printed.result.now (eqb-true (length c.as_slice-printed.result.now) 0 (sym c.is_empty.ensures ∙ c.if-is_empty.true))) c.as_slice.ensures.value c.as_slice-printed.ensures.value;
-  output_room = c.self.invariant.output_room;
-  known = c.self.invariant.known;
-  recent = c.self.invariant.recent;
-}
-
-pub returns-then-is_empty : goal.returns-then-is_empty
-returns-then-is_empty g c = record {
-  state = ended c.args.beginning c.args.deed c.args.made.now c.self.view_is c.requires c.end_function.ensures c.self.inside.output c.put_value.ensures c.unwrap_or-meta.ensures c.unwrap_or-trace.ensures (none_printed c.self.inside.output.items c.as_slice-printed.result.now (eqb-true (length c.as_slice-printed.result.now) 0 (sym c.is_empty.ensures ∙ c.if-is_empty.true))) c.as_slice.ensures.value c.as_slice-printed.ensures.value;
-  room = no_less_ended c.args.beginning c.args.deed c.args.made.now c.self.view_is c.requires c.end_function.ensures c.self.inside.output c.put_value.ensures c.unwrap_or-meta.ensures c.unwrap_or-trace.ensures (none_printed c.self.inside.output.items c.as_slice-printed.result.now (eqb-true (length c.as_slice-printed.result.now) 0 (sym c.is_empty.ensures ∙ c.if-is_empty.true))) c.as_slice.ensures.value c.as_slice-printed.ensures.value (omega arith);
-}
-
-pub invariant_of-self-2 : goal.invariant_of-self-2
-invariant_of-self-2 g c = record {
-  storage_is = c.self.invariant.storage_is;
-  output_limit = printed_within c.args.beginning c.args.deed c.args.made.now c.self.view_is c.requires c.end_function.ensures c.put.new.self c.put_value.ensures c.unwrap_or-meta.ensures c.unwrap_or-trace.ensures c.put.ensures.items c.as_slice.ensures.value c.as_slice-printed.ensures.value;
-  output_room = omega (arith, c.put.ensures.grows, ap (λ (xs : List ℕ). length xs) c.put.ensures.items, length-append c.self.inside.output.items c.as_slice-printed.result.now, c.requires.output_room, ap (λ (m : Shown). length m.state.output) c.self.view_is, ap (λ (m : Shown). m.output_room) c.self.view_is, ap (λ (xs : List ℕ). length xs) c.as_slice-printed.ensures.value);
-  known = c.self.invariant.known;
-  recent = c.self.invariant.recent;
+  output_limit =
+      printed_within c.args.beginning c.args.deed c.args.made.now c.self.view_is c.requires c.end_function.ensures c.put_printed.new.output c.put_value.ensures c.unwrap_or-meta.ensures c.unwrap_or-trace.ensures c.put_printed.ensures.items
+      c.as_slice.ensures.value c.as_slice-2.ensures.value;
 }
 
 pub returns : goal.returns
 returns g c = record {
-  state = ended c.args.beginning c.args.deed c.args.made.now c.self.view_is c.requires c.end_function.ensures c.put.new.self c.put_value.ensures c.unwrap_or-meta.ensures c.unwrap_or-trace.ensures c.put.ensures.items c.as_slice.ensures.value c.as_slice-printed.ensures.value;
-  room = no_less_ended c.args.beginning c.args.deed c.args.made.now c.self.view_is c.requires c.end_function.ensures c.put.new.self c.put_value.ensures c.unwrap_or-meta.ensures c.unwrap_or-trace.ensures c.put.ensures.items c.as_slice.ensures.value c.as_slice-printed.ensures.value (c.put.ensures.grows);
+  state =
+      ended c.args.beginning c.args.deed c.args.made.now c.self.view_is c.requires c.end_function.ensures c.put_printed.new.output c.put_value.ensures c.unwrap_or-meta.ensures c.unwrap_or-trace.ensures c.put_printed.ensures.items
+      c.as_slice.ensures.value c.as_slice-2.ensures.value;
+  room =
+      no_less_ended c.args.beginning c.args.deed c.args.made.now c.self.view_is c.requires c.end_function.ensures c.put_printed.new.output c.put_value.ensures c.unwrap_or-meta.ensures c.unwrap_or-trace.ensures c.put_printed.ensures.items
+      c.as_slice.ensures.value c.as_slice-2.ensures.value c.put_printed.ensures.grows;
 }

@@ -74,9 +74,6 @@ invariant_of-result g c =
     record {
       storage_is = subst IsProperStorage (sym made.0) (proper_storage parts within (kept.forms refl) (kept.blocks refl) made.1);
       output_limit = omega (arith, (limits_kept (state_in parts) (judged_apart parts within).texts).output, ap (λ (xs : List ℕ). length xs) c.in_ok-output.ensures.items);
-      output_room = c.in_ok-output.ensures.holds;
-      known = c.knows_its_forms.ensures.known;
-      recent = c.knows_its_forms.ensures.recent;
     }
 
 pub returns-clause-answer : goal.returns-clause-answer

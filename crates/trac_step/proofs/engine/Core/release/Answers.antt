@@ -9,15 +9,6 @@ pub invariant_of-self : goal.invariant_of-self
 invariant_of-self g c = record {
   storage_is = c.self.invariant.storage_is;
   output_limit = omega (arith, c.self.invariant.output_limit, ap (λ (w : Window ℕ). length w.items) c.drop_front.ensures, length-drop c.args.output c.self.inside.output.items);
-  output_room = omega (
-    arith,
-    c.self.invariant.output_room,
-    ap (λ (w : Window ℕ). length w.items) c.drop_front.ensures,
-    ap (λ (w : Window ℕ). w.capacity) c.drop_front.ensures,
-    length-drop c.args.output c.self.inside.output.items,
-  );
-  known = c.self.invariant.known;
-  recent = c.self.invariant.recent;
 }
 
 pub returns : goal.returns

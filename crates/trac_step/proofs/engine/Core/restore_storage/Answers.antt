@@ -34,9 +34,6 @@ invariant_of-self g c =
     record {
       storage_is = proper_before c.args.self.now.known _ (storage_in c.put_storage.new.store) (sym same ∙ c.put_storage.ensures.storage) c.requires.there;
       output_limit = c.self.invariant.output_limit;
-      output_room = c.self.invariant.output_room;
-      known = c.knows_its_forms.ensures.known;
-      recent = c.knows_its_forms.ensures.recent;
     }
 
 pub returns : goal.returns

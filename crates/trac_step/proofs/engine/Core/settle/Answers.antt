@@ -1,22 +1,10 @@
-use Rattle.std.proofs.Common.{ℕ, ap, sym, subst, ◌∙◌, length}
+use Rattle.std.proofs.Common.{ℕ, ap, ◌∙◌, length}
 use Rattle.std.specs.FinSet as set
-use Rattle.trac_forms.specs.Stored.{Stored, storage_in}
-use Rattle.trac_rules.specs.Proper.{IsProperStorage}
+use Rattle.trac_forms.specs.Stored.{Stored}
 use Rattle.trac_rules.specs.Listing.{names_of}
 use Rattle.trac_rules.specs.Session.{released}
 use Rattle.trac_step.specs.Layout.{shown_by, Shown}
 use Rattle.trac_step.proofs.engine.Core.settle.Goals as goal
-
-pub invariant_of-self : goal.invariant_of-self
-invariant_of-self g c =
-    let inner = c.self-2.invariant in
-    record {
-      storage_is = subst IsProperStorage (ap storage_in (sym c.sweep.ensures)) inner.storage_is;
-      output_limit = inner.output_limit;
-      output_room = inner.output_room;
-      known = c.knows_its_forms.ensures.known;
-      recent = c.knows_its_forms.ensures.recent;
-    }
 
 pub returns : goal.returns
 returns g c =

@@ -1,18 +1,13 @@
-use Rattle.std.proofs.Common.{ap, ◌∙◌}
-use Rattle.trac_rules.specs.Records.{texts_in}
-use Rattle.trac_text.specs.Ruled.{rule_of}
-use Rattle.trac_step.specs.Layout.{Shown}
 use Rattle.trac_prims.specs.Tape.{environment_of}
 use Rattle.trac_step.specs.Record.{recorded_by}
 use Rattle.trac_step.proofs.Recorded.{proper_after, rest_is_back, storage_is_back, taken_and_before, texts_are_back, weighs_within}
 use Rattle.trac_step.proofs.Rooms.{held_after}
-use Rattle.trac_step.proofs.Limited.{shows_proper, shows_room}
 use Rattle.trac_step.proofs.engine.Core.step.Goals as goal
 
 pub returns-clause-taken : goal.returns-clause-taken
 returns-clause-taken g c =
     taken_and_before c.step_alone.result (λ r. recorded_by r) (environment_of c.args.self.now.width c.args.tape) c.args.self.now.state c.step_alone.new.self.state
-    (shows_proper c.self.view_is c.self.invariant c.rule-rule.ensures.held) c.step_alone.ensures.taken c.step_alone.ensures.recorded
+    c.recall_room.ensures.proper c.step_alone.ensures.taken c.step_alone.ensures.recorded
 
 pub returns-clause-weighs : goal.returns-clause-weighs
 returns-clause-weighs g c = weighs_within c.step_alone.result recorded_by (environment_of c.args.self.now.width c.args.tape) c.args.self.now.state c.step_alone.ensures.recorded
@@ -30,13 +25,7 @@ returns-clause-rest g c =
     rest_is_back recorded_by (environment_of c.args.self.now.width c.args.tape) c.args.self.now.state c.step_alone.new.self.state c.step_alone.result c.step_alone.ensures.taken c.step_alone.ensures.recorded
 
 pub returns-clause-proper : goal.returns-clause-proper
-returns-clause-proper g c = proper_after c.step_alone.result (environment_of c.args.self.now.width c.args.tape) c.args.self.now.state c.step_alone.new.self.state (shows_proper c.self.view_is c.self.invariant c.rule-rule.ensures.held) c.step_alone.ensures.taken
+returns-clause-proper g c = proper_after c.step_alone.result (environment_of c.args.self.now.width c.args.tape) c.args.self.now.state c.step_alone.new.self.state c.recall_room.ensures.proper c.step_alone.ensures.taken
 
 pub returns-clause-held : goal.returns-clause-held
-returns-clause-held g c = held_after c.step_alone.result _ c.args.self.now c.step_alone.new.self c.args.self.now.state c.step_alone.ensures.room (shows_room c.self.view_is c.self.invariant c.rule-rule.ensures.held) c.step_alone.ensures.taken
-
-pub step_alone-requires-clause-next : goal.step_alone-requires-clause-next
-step_alone-requires-clause-next g c = c.rule-rule.ensures.next ∙ ap (λ (m : Shown). rule_of (texts_in m.state)) c.self.view_is
-
-pub step_alone-requires-clause-proper : goal.step_alone-requires-clause-proper
-step_alone-requires-clause-proper g c = shows_proper c.self.view_is c.self.invariant c.rule-rule.ensures.held
+returns-clause-held g c = held_after c.step_alone.result _ c.args.self.now c.step_alone.new.self c.args.self.now.state c.step_alone.ensures.room c.recall_room.ensures.room c.step_alone.ensures.taken

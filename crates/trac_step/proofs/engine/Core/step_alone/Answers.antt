@@ -5,8 +5,8 @@ use Rattle.trac_step.specs.Record.{kept_in}
 use Rattle.trac_step.proofs.Stepped.{not_taken, one_at_least, taken_alone}
 use Rattle.trac_step.proofs.engine.Core.step_alone.Goals as goal
 
-pub next_step-requires-clause-can : goal.next_step-requires-clause-can
-next_step-requires-clause-can g c = record { proper = c.requires.proper; position = c.requires.position; not_full = omega arith }
+pub next_step-requires : goal.next_step-requires
+next_step-requires g c = record { proper = c.requires.proper; position = c.requires.position; not_full = omega arith }
 
 pub into_record-requires : goal.into_record-requires
 into_record-requires g c =

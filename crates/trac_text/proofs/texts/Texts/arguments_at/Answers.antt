@@ -8,12 +8,12 @@ overflow_add-beginning g c = omega (arith, (begun_here (record { sound = c.self.
 pub split_at-requires : goal.split_at-requires
 split_at-requires g c = omega (arith, (begun_here (record { sound = c.self.invariant; view = c.self.view_is }) c.args.beginning c.requires).innermost.within, ap length c.left.ensures.left)
 
-pub invariant_of-result : goal.invariant_of-result
-invariant_of-result g c =
+pub new-requires : goal.new-requires
+new-requires g c =
     let b = c.args.beginning in
     rw (c.split_at.ensures.back, c.left.ensures.left, c.left-2.ensures.left) (begun_here (record { sound = c.self.invariant; view = c.self.view_is }) b c.requires).cuts
 
 pub returns : goal.returns
 returns g c =
     let b = c.args.beginning in
-    rw (c.split_at.ensures.back, c.left.ensures.left, c.left-2.ensures.left) (arguments_here (record { sound = c.self.invariant; view = c.self.view_is }) b c.requires)
+    rw (c.new.ensures, c.split_at.ensures.back, c.left.ensures.left, c.left-2.ensures.left) (arguments_here (record { sound = c.self.invariant; view = c.self.view_is }) b c.requires)

@@ -1,15 +1,13 @@
-use Rattle.std.proofs.Common.{ap, length, arith}
-use Rattle.trac_text.proofs.Holding.{full_now, held_now, mark_count, no_room}
+use Rattle.std.proofs.Common.{refl}
+use Rattle.std.proofs.lemmas.Result.{err_from_is_err_and}
+use Rattle.trac_text.proofs.Holding.{argument_now, full_now}
 use Rattle.trac_text.proofs.texts.Texts.next_argument.Goals as goal
 
-pub returns-then-left-ge-MARK_LIMIT-clause-refused : goal.returns-then-left-ge-MARK_LIMIT-clause-refused
-returns-then-left-ge-MARK_LIMIT-clause-refused g c = omega (arith, c.if-left-ge-MARK_LIMIT.true, ap length c.left.ensures.left, mark_count (held_now (record { sound = c.self.invariant; view = c.self.view_is })))
+pub returns-in_err-push_mark-clause-full : goal.returns-in_err-push_mark-clause-full
+returns-in_err-push_mark-clause-full g c =
+    let err = err_from_is_err_and c.from_residual.result c.from_residual.ensures.1 in
+    rw err.1 (full_now (record { sound = c.self.invariant; view = c.self.view_is }) c.in_err-push_mark.ensures.full)
 
-pub returns-in_default-clause-refused : goal.returns-in_default-clause-refused
-returns-in_default-clause-refused g c = (
-  omega (arith, c.if-left-ge-MARK_LIMIT.false, ap length c.left.ensures.left, mark_count (held_now (record { sound = c.self.invariant; view = c.self.view_is }))),
-  full_now (record { sound = c.self.invariant; view = c.self.view_is }) (no_room (g.M.TwoEnds.ends c.self.inside.marks) c.reserve.result c.in_default.not-Ok c.reserve.ensures.succeeds c.self.invariant.on_left),
-)
-
-pub returns-clause-within : goal.returns-clause-within
-returns-clause-within g c = omega (arith, c.if-left-ge-MARK_LIMIT.false, ap length c.left.ensures.left, mark_count (held_now (record { sound = c.self.invariant; view = c.self.view_is })))
+pub invariant_of-self-2 : goal.invariant_of-self-2
+invariant_of-self-2 g c =
+    argument_now (record { sound = c.self.invariant; view = c.self.view_is }) 1 c.in_ok-push_mark.ensures.text c.in_ok-push_mark.ensures.holds c.requires.limit c.in_ok-push_mark.ensures.marks c.requires.inside refl

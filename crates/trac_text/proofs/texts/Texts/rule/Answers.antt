@@ -1,32 +1,15 @@
-use Rattle.trac_text.proofs.Holding.{can_hold_now}
+use Rattle.std.proofs.Common.{ap, sym, ◌∙◌}
+use Rattle.std.specs.Prelude.{nat_lt}
+use Rattle.trac_rules.specs.Scanning.{front_of}
+use Rattle.trac_text.specs.Holding.{ShownTexts}
+use Rattle.trac_text.specs.Ruled.{rule_at}
+use Rattle.trac_text.proofs.Holding.{depth_now}
+use Rattle.trac_text.proofs.Ruled.{inside_counted}
 use Rattle.trac_text.proofs.texts.Texts.rule.Goals as goal
 
-pub returns-in-Nothing-clause-held : goal.returns-in-Nothing-clause-held
-returns-in-Nothing-clause-held g c = can_hold_now (record { sound = c.self.invariant; view = c.self.view_is })
-
-pub returns-in-Opening-clause-held : goal.returns-in-Opening-clause-held
-returns-in-Opening-clause-held g c = can_hold_now (record { sound = c.self.invariant; view = c.self.view_is })
-
-pub returns-in-Comma-clause-held : goal.returns-in-Comma-clause-held
-returns-in-Comma-clause-held g c = can_hold_now (record { sound = c.self.invariant; view = c.self.view_is })
-
-pub returns-in-Closing-clause-held : goal.returns-in-Closing-clause-held
-returns-in-Closing-clause-held g c = can_hold_now (record { sound = c.self.invariant; view = c.self.view_is })
-
-pub returns-in-ActiveCall-clause-held : goal.returns-in-ActiveCall-clause-held
-returns-in-ActiveCall-clause-held g c = can_hold_now (record { sound = c.self.invariant; view = c.self.view_is })
-
-pub returns-in-NeutralCall-clause-held : goal.returns-in-NeutralCall-clause-held
-returns-in-NeutralCall-clause-held g c = can_hold_now (record { sound = c.self.invariant; view = c.self.view_is })
-
-pub returns-in-Sharp-clause-held : goal.returns-in-Sharp-clause-held
-returns-in-Sharp-clause-held g c = can_hold_now (record { sound = c.self.invariant; view = c.self.view_is })
-
-pub returns-in-Layout-clause-held : goal.returns-in-Layout-clause-held
-returns-in-Layout-clause-held g c = can_hold_now (record { sound = c.self.invariant; view = c.self.view_is })
-
-pub returns-in-Layout-2-clause-held : goal.returns-in-Layout-2-clause-held
-returns-in-Layout-2-clause-held g c = can_hold_now (record { sound = c.self.invariant; view = c.self.view_is })
-
-pub returns-in-Layout-3-clause-held : goal.returns-in-Layout-3-clause-held
-returns-in-Layout-3-clause-held g c = can_hold_now (record { sound = c.self.invariant; view = c.self.view_is })
+pub returns : goal.returns
+returns g c =
+    let t = c.args.self.now.texts in
+    let front = c.front_at.ensures ∙ ap front_of c.right.ensures.right ∙ ap (λ (m : ShownTexts). front_of m.texts.active) c.self.view_is in
+    let inside = ap (nat_lt 0) (depth_now (record { sound = c.self.invariant; view = c.self.view_is })) ∙ inside_counted t.frames in
+    c.rule_for.ensures ∙ (λ i. rule_at (front i) (inside i))
